@@ -1,10 +1,10 @@
 -- What the steps of a call in flight do to the maps.
 use Rattle.std.specs.Prelude.{MatchOption}
-use Rattle.std.proofs.Common.{◌≡◌, ◌≢◌, ℕ, zero, suc, ◌+◌, Bool, true, false, cond, nat_eq, List, [], ◌∷◌, Option, Some, None, option_map, map, Result, Ok, Err, IfOk, sym, refl, ap, ◌∙◌, subst, inl, inr, ◌⊎◌, arith}
+use Rattle.std.proofs.Common.{◌≡◌, ◌≢◌, ℕ, zero, suc, ◌+◌, Bool, true, false, cond, List, [], ◌∷◌, Option, Some, None, option_map, map, Result, Ok, Err, IfOk, sym, refl, ap, ◌∙◌, subst, inl, inr, arith}
 use Rattle.std.proofs.Math.Path.{fun_ext}
-use Rattle.std.proofs.lemmas.Bool.{eq-eqb, eqb-true}
 use Rattle.std.specs.Str.{bytes_eq}
 use Rattle.std.specs.declared.ops.Bound.TheVariants.{Included}
+use Rattle.sled_nodes.proofs.Basics.{none_some, some_is, same_or_not}
 use Rattle.sled_nodes.specs.Order.{Key}
 use Rattle.sled_store.specs.Update.{put_at, put_name}
 use Rattle.sled_store.specs.theory.Facts.{same_name, put_here, put_elsewhere, put_name_here, put_name_elsewhere}
@@ -37,18 +37,6 @@ use Rattle.sled_nodes.specs.declared.error.Error.{Error}
 use Rattle.sled_calls.proofs.Runs.{model_run}
 use Rattle.examples.specs.Reads.{ReadsAs, HasTurns, PutsOne, found_in, maps_now, later}
 use Rattle.examples.proofs.Keys.{insert_here, insert_there}
-
-none_some : {P A : Type 0} {a : A} → None ≡ Some a → P
-none_some e = cc
-
-some_is : {A : Type 0} {a b : A} → Some a ≡ Some b → a ≡ b
-some_is e = cc
-
-false_true : {P : Type 0} → false ≡ true → P
-false_true e = cc
-
-same_or_not : (a b : ℕ) → (a ≡ b) ⊎ (a ≢ b)
-same_or_not a b = elim (nat_eq a b) as (λ t. nat_eq a b ≡ t → (a ≡ b) ⊎ (a ≢ b)) [ true ↦ λ e. inl (eqb-true a b e) | false ↦ λ e. inr (λ h. false_true (sym e ∙ eq-eqb a b h)) ] refl
 
 -- whatever is in the slot is this call
 pub record Means (slots : ℕ → Option CallInFlight) (slot : ℕ) (tree : Tree) (call : Call) : Type 0 where

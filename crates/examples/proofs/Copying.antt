@@ -1,11 +1,11 @@
 -- An import of an export gives a database that holds nothing the maps of the other.
-use Rattle.std.proofs.Common.{◌≡◌, ◌⊎◌, ℕ, Bool, true, false, cond, ◌&&◌, List, [], ◌∷◌, ◌++◌, append-nil, append_assoc, unwrap_or, Option, Some, None, option_map, Less, Equal, Greater, is_eq, Result, Ok, Err, OnOk, sym, refl, ap, ◌∙◌, subst, inl, inr}
+use Rattle.std.proofs.Common.{◌≡◌, ◌⊎◌, ℕ, Bool, true, false, cond, List, [], ◌∷◌, ◌++◌, append-nil, append_assoc, unwrap_or, Option, Some, None, option_map, Less, Equal, is_eq, Result, Ok, Err, OnOk, sym, refl, ap, ◌∙◌, subst, inl, inr}
 use Rattle.std.specs.FinMap.Entries.{find, is_sorted, below_all}
 use Rattle.std.specs.List.{AllByRecursion}
-use Rattle.std.specs.Ordering.{is_lt, eq_by_cmp, nat_cmp}
+use Rattle.std.specs.Ordering.{eq_by_cmp, nat_cmp}
 use Rattle.std.specs.Str.{bytes_eq}
-use Rattle.std.specs.declared.cmp.Ordering.{Ordering}
 use Rattle.std.proofs.lemmas.Cmp.{tied_itself}
+use Rattle.sled_nodes.proofs.Basics.{none_some, some_is, both_true, is_less, key_total, tied}
 use Rattle.sled_nodes.specs.Order.{Key, key_cmp, Below}
 use Rattle.sled_store.specs.Update.{put_name}
 use Rattle.sled_store.specs.theory.Facts.{put_name_here, same_name, name_itself, other_name}
@@ -18,7 +18,6 @@ use Rattle.sled_model.specs.Imports.{Part, OpensName, Puts, puts_of, parts_of, D
 use Rattle.sled_model.specs.State.{State, NamedTree, maps_of}
 use Rattle.sled_model.specs.Whole.{new_tree, state_opened}
 use Rattle.sled_model.specs.declared.call.Call.TheVariants.{Insert}
-use Rattle.tree_laws.proofs.Order.{key_total, key_same}
 use Rattle.tree_laws.specs.Contents.{trees_of}
 use Rattle.sled.specs.Values.{DbValue, db_state, numbers_of, named}
 use Rattle.sled.specs.Sound.{IsDb, MapsAscend}
@@ -27,31 +26,16 @@ use Rattle.sled.specs.Imports.{ImportDecided}
 use Rattle.examples.specs.Copies.{HoldsNothing, HasAllOf}
 use Rattle.examples.proofs.Queueing.{inserted}
 
-none_some : {P X : Type 0} {x : X} → None ≡ Some x → P
-none_some e = cc
-
-some_is : {X : Type 0} {x y : X} → Some x ≡ Some y → x ≡ y
-some_is e = cc
-
-both : (a b : Bool) → a && b ≡ true → (a ≡ true) × (b ≡ true)
-both true b e = (refl, e)
-both false b e = cc
-
-less : (o : Ordering) → is_lt o ≡ true → o ≡ Less
-less Less t = refl
-less Equal t = cc
-less Greater t = cc
-
 -- ---- maps that rise
 
 -- the keys before a pair are below its key
 at_end : (k : Key) (xs : Map) (p : Key × Key) (ys : Map) → below_all key_cmp k (xs ++ p ∷ ys) ≡ true → Below k p.0
-at_end k [] p ys t = less (key_cmp k p.0) (both _ _ t).0
-at_end k (x ∷ xs) p ys t = at_end k xs p ys (both _ _ t).1
+at_end k [] p ys t = is_less (key_cmp k p.0) (both_true _ _ t).0
+at_end k (x ∷ xs) p ys t = at_end k xs p ys (both_true _ _ t).1
 
 before : (xs : Map) (p : Key × Key) (ys : Map) → is_sorted key_cmp (xs ++ p ∷ ys) ≡ true → AllByRecursion (λ e. Below e.0 p.0) xs
 before [] p ys t = tt
-before (x ∷ xs) p ys t = let s = both _ _ t in (at_end x.0 xs p ys s.0, before xs p ys s.1)
+before (x ∷ xs) p ys t = let s = both_true _ _ t in (at_end x.0 xs p ys s.0, before xs p ys s.1)
 
 -- ---- what parts make of the tree of a name
 
@@ -171,16 +155,7 @@ below_other k n below = other_name k n (λ e. apart (sym below ∙ ap (λ z. key
 
 none_later : (maps : Maps) (k : Key) (ts : List (Key × ℕ)) → below_all key_cmp k ts ≡ true → puts_at k (parts_of (collections maps ts)) ≡ []
 none_later maps k [] t = refl
-none_later maps k (r ∷ rs) t = let s = both _ _ t in puts_other k r.0 (unwrap_or (maps r.0) []) (parts_of (collections maps rs)) (below_other k r.0 (less (key_cmp k r.0) s.0)) ∙ none_later maps k rs s.1
-
--- two names that are one by their order are one by the test
-tied : (a b : Key) → eq_by_cmp key_cmp a b ≡ true → a ≡ b
-tied a b e = key_same a b (order (key_cmp a b) e)
-  where
-    order : (o : Ordering) → is_eq o ≡ true → o ≡ Equal
-    order Less e = cc
-    order Equal e = refl
-    order Greater e = cc
+none_later maps k (r ∷ rs) t = let s = both_true _ _ t in puts_other k r.0 (unwrap_or (maps r.0) []) (parts_of (collections maps rs)) (below_other k r.0 (is_less (key_cmp k r.0) s.0)) ∙ none_later maps k rs s.1
 
 apart_by_order : (a b : Key) → eq_by_cmp key_cmp a b ≡ false → bytes_eq a b ≡ false
 apart_by_order a b off = other_name a b (λ e. differ (sym off ∙ ap (λ z. eq_by_cmp key_cmp z b) e ∙ ap is_eq (tied_itself key_total b)))
@@ -190,10 +165,10 @@ apart_by_order a b off = other_name a b (λ e. differ (sym off ∙ ap (λ z. eq_
 
 exported : (maps : Maps) (name : Key) (n : ℕ) (ts : List (Key × ℕ)) → is_sorted key_cmp ts ≡ true → find key_cmp name ts ≡ Some n → (puts_at name (parts_of (collections maps ts)) ≡ unwrap_or (maps name) []) × AreOpening name (parts_of (collections maps ts))
 exported maps name n [] t e = none_some e
-exported maps name n (r ∷ rs) t e = go (exported maps name n rs (both _ _ t).1) (eq_by_cmp key_cmp name r.0) refl e
+exported maps name n (r ∷ rs) t e = go (exported maps name n rs (both_true _ _ t).1) (eq_by_cmp key_cmp name r.0) refl e
   where
     here : puts_at r.0 (puts_of r.0 (unwrap_or (maps r.0) []) (parts_of (collections maps rs))) ≡ (unwrap_or (maps r.0) [])
-    here = puts_same r.0 (unwrap_or (maps r.0) []) (parts_of (collections maps rs)) ∙ ap (λ l. (unwrap_or (maps r.0) []) ++ l) (none_later maps r.0 rs (both _ _ t).0) ∙ append-nil (unwrap_or (maps r.0) [])
+    here = puts_same r.0 (unwrap_or (maps r.0) []) (parts_of (collections maps rs)) ∙ ap (λ l. (unwrap_or (maps r.0) []) ++ l) (none_later maps r.0 rs (both_true _ _ t).0) ∙ append-nil (unwrap_or (maps r.0) [])
 
     go : (find key_cmp name rs ≡ Some n → (puts_at name (parts_of (collections maps rs)) ≡ unwrap_or (maps name) []) × AreOpening name (parts_of (collections maps rs))) → (b : Bool) → eq_by_cmp key_cmp name r.0 ≡ b → cond b (Some r.1) (find key_cmp name rs) ≡ Some n
         → (puts_at name (puts_of r.0 (unwrap_or (maps r.0) []) (parts_of (collections maps rs))) ≡ unwrap_or (maps name) []) × ((r.0 ≡ name) ⊎ AreOpening name (puts_of r.0 (unwrap_or (maps r.0) []) (parts_of (collections maps rs))))

@@ -8,6 +8,7 @@ use Rattle.std.specs.declared.vec.Vec.{Vec}
 use Rattle.std.specs.declared.alloc.Global.{Global}
 use denote.Ref.{Bor}
 use Rattle.std.specs.Int.{w64, to_be_bytes}
+use Rattle.sled_nodes.proofs.Basics.{none_some, some_is}
 use Rattle.sled_nodes.specs.Order.{Key, key_cmp}
 use Rattle.sled_store.specs.theory.Facts.{put_name_here, put_name_elsewhere}
 use Rattle.sled_store.specs.Store.{Store}
@@ -31,12 +32,6 @@ use Rattle.sled.specs.Fetch.{Closure, FetchDecided, FetchRefused}
 use Rattle.examples.specs.Reads.{found_in, maps_now}
 use Rattle.examples.specs.Counters.{number_in, sum_of, bytes_of_sum, adding, counter_in, SetsCounter}
 use Rattle.examples.proofs.Keys.{put_here, put_there}
-
-none_some : {P X : Type 0} {x : X} → None ≡ Some x → P
-none_some e = cc
-
-some_is : {X : Type 0} {x y : X} → Some x ≡ Some y → x ≡ y
-some_is e = cc
 
 -- the bytes of a sum are its number
 pub sum_read : (stood : Option Key) (n : ℕ) → number_in (Some (bytes_of_sum stood n)) ≡ sum_of (number_in stood) n

@@ -1,8 +1,9 @@
 -- What a change of a stock writes, and that the index agrees with the table after it.
-use Rattle.std.proofs.Common.{◌≡◌, ◌≢◌, ◌⊎◌, inl, inr, false, true, cond, List, [], ◌∷◌, ◌++◌, T, Option, Some, None, unwrap_or, Less, Equal, Greater, is_eq, sym, refl, ap, ◌∙◌, subst}
+use Rattle.std.proofs.Common.{◌≡◌, ◌≢◌, ◌⊎◌, inl, inr, false, cond, List, [], ◌∷◌, ◌++◌, T, Option, Some, None, unwrap_or, Less, Equal, Greater, is_eq, sym, refl, ap, ◌∙◌, subst}
 use Rattle.std.specs.FinMap.Entries.{find, put, is_sorted, find-put, is_sorted-put}
 use Rattle.std.specs.declared.cmp.Ordering.{Ordering}
 use Rattle.std.proofs.lemmas.Cmp.{tied_itself}
+use Rattle.sled_nodes.proofs.Basics.{none_some, some_is, false_true, key_total, key_same}
 use Rattle.ordered_keys.specs.Keys.{IsOneToOne}
 use Rattle.ordered_keys.specs.declared.part.Kind.TheVariants as kind
 use Rattle.ordered_keys.specs.declared.part.Part.{Part}
@@ -10,16 +11,6 @@ use Rattle.ordered_keys.specs.declared.part.Part.TheVariants.{Text}
 use Rattle.sled_nodes.specs.Order.{Key, key_cmp}
 use Rattle.sled_batch.specs.Batch.{Writes}
 use Rattle.examples.specs.Stock.{entry_key, Agree, item_taken, entry_taken, item_put, entry_put}
-use Rattle.examples.proofs.Keys.{key_total, key_same}
-
-none_some : {P X : Type 0} {x : X} → None ≡ Some x → P
-none_some e = cc
-
-some_is : {X : Type 0} {x y : X} → Some x ≡ Some y → x ≡ y
-some_is e = cc
-
-false_true : {P : Type 0} → false ≡ true → P
-false_true e = cc
 
 -- ---- keys
 

@@ -4,6 +4,7 @@ use Rattle.std.proofs.lemmas.Bool.{eq-eqb, eqb-true}
 use Rattle.std.specs.FinMap.Entries.{find}
 use Rattle.std.specs.List.{starts_with, AllByRecursion}
 use Rattle.std.specs.Option.{option_to_list}
+use Rattle.sled_nodes.proofs.Basics.{none_some, first_false, or_true}
 use Rattle.sled_nodes.specs.Order.{Key, key_cmp}
 use Rattle.sled_store.specs.theory.Facts.{put_here, put_elsewhere, put_name_here}
 use Rattle.sled_store.specs.Store.{Store}
@@ -39,19 +40,9 @@ use Rattle.examples.specs.declared.endings.Progress.{Progress}
 use Rattle.examples.specs.declared.endings.Progress.TheVariants.{UpToDate, Partly, Lost}
 use Rattle.examples.specs.Endings.{HasSame, EndingsValue, to_come, has_missed, IsIndex, IsUpToDate, BeginsIndex, TakesEvents, takes_as, TakesOldest, CatchesUp, caught_as, CatchesUpBy, BeginsAnew, StillFollowsLaw, KeepsFollowing, FindsInTree}
 
-false_true : {A : Type 0} → false ≡ true → A
-false_true e = cc
-
-none_some : {A X : Type 0} {x : X} → None ≡ Some x → A
-none_some e = cc
-
 or_false : (b : Bool) → (b || false) ≡ b
 or_false true = refl
 or_false false = refl
-
-or_true : (b : Bool) → (b || true) ≡ true
-or_true true = refl
-or_true false = refl
 
 -- ---- events
 
@@ -401,10 +392,6 @@ none_late : (o : Option Event) (es : List Event) → option_to_list o ++ es ≡ 
 none_late None es e = refl
 none_late (Some x) es e = absurd cc
 
-not_lost : (b c : Bool) → (b || c) ≡ false → b ≡ false
-not_lost true c e = e
-not_lost false c e = refl
-
 module _ (old : State) (i : EndingsValue) (mid new : State) (j : EndingsValue) (b : BeginsIndex mid i.tree i.prefix j) (w : Watches old i.tree i.prefix j.subscriber mid) (g : GivesUpQueue mid i.subscriber new) where
   trees_kept : new.trees ≡ mid.trees
   trees_kept = ap (λ (s : State). s.trees) g.is
@@ -421,7 +408,7 @@ module _ (old : State) (i : EndingsValue) (mid new : State) (j : EndingsValue) (
     same = ap (λ t. record j { tree = t }) b.of_tree
         ∙ ap (λ p. record j { tree = i.tree; prefix = p }) b.under
         ∙ ap (λ o. record j { tree = i.tree; prefix = i.prefix; late = o }) (none_late j.late (waiting_in (mid.queues j.subscriber)) b.none)
-        ∙ ap (λ z. record j { tree = i.tree; prefix = i.prefix; late = None; is_lost = z }) (not_lost j.is_lost _ b.follows.all);
+        ∙ ap (λ z. record j { tree = i.tree; prefix = i.prefix; late = None; is_lost = z }) (first_false j.is_lost _ b.follows.all);
     begins = λ f. kept_begun mid new i.tree i.prefix j trees_kept (queue_kept j.subscriber (another f)) b;
     gone = ap (λ (s : State). s.queues i.subscriber) g.is ∙ put_here mid.queues i.subscriber None;
     others = λ n off other. queue_kept n off ∙ ap (λ (s : State). s.queues n) w.is ∙ put_elsewhere old.queues j.subscriber n _ other;
@@ -453,7 +440,7 @@ still_follows old new i turns f qs trees stays takes =
         under = r.prefix ∙ f.under;
         is = λ none.
             let counted : (backlog_in (after_turns turns old.queues i.subscriber)).missed ≡ 0 = ap (λ q. (backlog_in q).missed) (sym queue) ∙ is_zero i.is_lost (backlog_in (new.queues i.subscriber)).missed none in
-            let before : has_missed i old ≡ false = missed_none i.is_lost _ (not_lost i.is_lost _ none) (ap (λ q. (backlog_in q).missed) f.watches ∙ some_missed turns i.subscriber old.queues f.queue f.watches stays takes counted) in
+            let before : has_missed i old ≡ false = missed_none i.is_lost _ (first_false i.is_lost _ none) (ap (λ q. (backlog_in q).missed) f.watches ∙ some_missed turns i.subscriber old.queues f.queue f.watches stays takes counted) in
             let law = follows_law turns i.subscriber old.queues f.queue f.watches stays (subst TellsEvents (sym takes) tt) counted copy f.named.map
             (subst (λ p. IsCopy p (after_events f.queue.backlog.events copy) f.named.map) (sym f.under)
             (subst (λ m. IsCopy i.prefix m f.named.map) (ap (λ o. after_events (option_to_list i.late ++ waiting_in o) i.entries) f.watches ∙ after_both (option_to_list i.late) f.queue.backlog.events i.entries) (f.is before))) in record {

@@ -2,6 +2,7 @@
 use Rattle.std.proofs.Common.{◌≡◌, Bool, true, false, cond, List, Option, Some, None, Result, Ok, Err, OnOk, IfErr, sym, refl, ap, ◌∙◌, subst, inl, inr}
 use Rattle.std.specs.FinMap.Entries.{find}
 use Rattle.std.specs.Str.{bytes_eq}
+use Rattle.sled_nodes.proofs.Basics.{none_some, some_is}
 use Rattle.sled_nodes.specs.Order.{Key, key_cmp}
 use Rattle.sled_store.specs.theory.Facts.{same_name}
 use Rattle.sled_store.specs.Store.{Store}
@@ -17,12 +18,6 @@ use Rattle.sled.specs.Values.{DbValue, db_state}
 use Rattle.sled.specs.Imports.{ImportDecided, ImportRefused}
 use Rattle.examples.specs.Copies.{KeepsTree, LosesNothing}
 use Rattle.examples.proofs.Keys.{insert_there}
-
-none_some : {P X : Type 0} {x : X} → None ≡ Some x → P
-none_some e = cc
-
-some_is : {X : Type 0} {x y : X} → Some x ≡ Some y → x ≡ y
-some_is e = cc
 
 as_it_is : (s : State) (name : Key) (tree : NamedTree) → s.trees name ≡ Some tree → KeepsTree s name tree
 as_it_is s name tree there = record { named = tree; there = there; number = refl; merge = refl; pairs = λ key value is. is }

@@ -1,25 +1,16 @@
 -- An insert in a map.
 use Rattle.std.proofs.Common.{◌≡◌, ◌≢◌, Bool, true, false, cond, Option, Some, None, Less, Equal, Greater, is_eq, refl, ap, ◌∙◌}
-use Rattle.std.specs.Cmp.{IsTotalOrder}
-use Rattle.std.specs.FinMap.{slice_cmp-IsAntisymmetric, nat_cmp-IsAntisymmetric}
 use Rattle.std.specs.FinMap.Entries.{put, find, find-put}
 use Rattle.std.specs.Str.{bytes_eq}
 use Rattle.std.specs.declared.cmp.Ordering.{Ordering}
-use Rattle.std.proofs.lemmas.Cmp.{nat_list_cmp_total, tied_itself}
+use Rattle.std.proofs.lemmas.Cmp.{tied_itself}
+use Rattle.sled_nodes.proofs.Basics.{key_total, key_same}
 use Rattle.sled_nodes.specs.Order.{Key, key_cmp}
 use Rattle.sled_store.specs.theory.Facts.{same_name}
 use Rattle.sled_model.specs.Maps.{Map, Merge}
 use Rattle.sled_model.specs.Answer.{answer_of, decision_of, map_after}
 use Rattle.sled_model.specs.declared.call.Call.TheVariants.{Insert}
 use Rattle.sled_model.specs.declared.decision.Effect.TheVariants.{Nothing, Set}
-
-pub key_total : IsTotalOrder key_cmp
-unfolding key_cmp
-key_total = nat_list_cmp_total
-
-pub key_same : (a b : Key) → key_cmp a b ≡ Equal → a ≡ b
-unfolding key_cmp
-key_same a b e = slice_cmp-IsAntisymmetric nat_cmp-IsAntisymmetric a b e
 
 pub put_here : (k v : Key) (m : Map) → find key_cmp k (put key_cmp k v m) ≡ Some v
 put_here k v m = find-put key_cmp key_total k k v m ∙ ap (λ o. cond (is_eq o) (Some v) (find key_cmp k m)) (tied_itself key_total k)

@@ -6,6 +6,7 @@ use Rattle.std.proofs.lemmas.Bool.Decides.{nat_tests}
 use Rattle.std.proofs.lemmas.List.{drop-drop, drop_all, take_min}
 use Rattle.std.specs.FinMap.Entries.{find, put, is_sorted, find-put, is_sorted-put, same_entries}
 use Rattle.std.specs.Str.{bytes_eq}
+use Rattle.sled_nodes.proofs.Basics.{key_total, key_same}
 use Rattle.sled_nodes.specs.Order.{Key, key_cmp}
 use Rattle.sled_batch.specs.Batch.{Writes}
 use Rattle.sled_store.specs.theory.Facts.{same_name, name_itself}
@@ -14,7 +15,6 @@ use Rattle.sled_model.specs.Groups.{writes_on, after_writes}
 use Rattle.sled_model.specs.State.{State, NamedTree, maps_of}
 use Rattle.sled_model.specs.declared.tree.Tree.{Tree}
 use Rattle.examples.specs.Batches.{put_all, with_pairs, written}
-use Rattle.examples.proofs.Keys.{key_total, key_same}
 use Rattle.examples.proofs.Written.{Holds, batch_there, batch_elsewhere}
 
 -- ---- maps

@@ -2,6 +2,7 @@
 use Rattle.std.proofs.Common.{◌≡◌, ℕ, Bool, true, false, cond, Option, Some, None, is_some, option_map, Result, IfOk, sym, refl, ap, ◌∙◌, subst, inl, inr}
 use Rattle.std.proofs.Math.Path.{fun_ext}
 use Rattle.std.specs.Str.{bytes_eq}
+use Rattle.sled_nodes.proofs.Basics.{none_some, false_true}
 use Rattle.sled_nodes.specs.Order.{Key}
 use Rattle.sled_store.specs.theory.Facts.{same_name}
 use Rattle.sled_store.specs.State.{nodes_of}
@@ -19,12 +20,6 @@ use Rattle.examples.specs.Reads.{ReadsAs, found_in, maps_now}
 -- the two databases have the same maps, whatever their merge operators mean
 pub record HasMapsOf {P M N : Type 0} (store : P → Store) (old : DbValue P M) (new : DbValue P N) : Type 0 where
   pub same : (meant : M → Merge) (other : N → Merge) → maps_now store other new ≡ maps_now store meant old
-
-none_some : {P X : Type 0} {x : X} → None ≡ Some x → P
-none_some e = cc
-
-false_true : {P : Type 0} → false ≡ true → P
-false_true e = cc
 
 -- where there is a default tree no other comes
 with_present : (maps : Maps) (m : Map) → maps default_name ≡ Some m → with_default maps ≡ maps

@@ -1,10 +1,11 @@
 -- What adding a job and taking one out do to the jobs that wait.
-use Rattle.std.proofs.Common.{◌≡◌, Bool, true, false, not, cond, ◌&&◌, T, [], ◌∷◌, ◌++◌, Option, Some, None, option_map, is_some, Less, Equal, Greater, is_eq, sym, refl, ap, ◌∙◌, subst}
+use Rattle.std.proofs.Common.{◌≡◌, Bool, true, not, cond, ◌&&◌, T, [], ◌∷◌, ◌++◌, Option, Some, None, option_map, is_some, Less, Equal, Greater, is_eq, sym, refl, ap, ◌∙◌, subst}
 use Rattle.std.specs.FinMap.Entries.{find, put, by_order, is_sorted, below_all}
 use Rattle.std.specs.List.{AllByRecursion}
 use Rattle.std.specs.Ordering.{is_lt, eq_by_cmp}
 use Rattle.std.specs.declared.cmp.Ordering.{Ordering}
 use Rattle.std.proofs.lemmas.Cmp.{tied_itself}
+use Rattle.sled_nodes.proofs.Basics.{left_of, key_total}
 use Rattle.sled_nodes.specs.Order.{Key, key_cmp, Below}
 use Rattle.sled_nodes.specs.Node.{without}
 use Rattle.sled_store.specs.theory.Facts.{put_name_here}
@@ -21,18 +22,11 @@ use Rattle.sled_model.specs.declared.decision.Effect.TheVariants as effect
 use Rattle.sled_model.specs.declared.reply.Reply.{Reply}
 use Rattle.sled_model.specs.declared.reply.Reply.TheVariants.{Pair}
 use Rattle.sled_model.specs.declared.tree.Tree.{Tree}
-use Rattle.tree_laws.proofs.Order.{key_total}
 use Rattle.tree_laws.proofs.Pairs.{above, without_above}
 use Rattle.sled.specs.Values.{DbValue, db_state}
 use Rattle.sled.specs.Sound.{MapsAscend}
 use Rattle.sled.specs.Direct.{PointDecided, PointRefused, WholeDecided, WholeRefused}
 use Rattle.examples.specs.Queue.{jobs_of, waiting, Adds, Takes, takes_as}
-
-none_some : {P X : Type 0} {x : X} → None ≡ Some x → P
-none_some e = cc
-
-some_is : {X : Type 0} {x y : X} → Some x ≡ Some y → x ≡ y
-some_is e = cc
 
 -- ---- maps
 
@@ -58,15 +52,11 @@ lowest k (x ∷ xs) t = let s = split (key_cmp k x.0) (below_all key_cmp k xs) t
     split Equal b t = absurd t
     split Greater b t = absurd t
 
-first : (a b : Bool) → T (a && b) → T a
-first true b t = tt
-first false b t = absurd t
-
 removed : (merge : Option Merge) (pair : Key × Key) (rest : Map) → T (is_sorted key_cmp (pair ∷ rest)) → (answer_of merge (Remove pair.0) (pair ∷ rest)).map ≡ rest
 removed merge pair rest sorted =
     ap (λ b. map_after (cond (is_some (cond b (Some pair.1) (find key_cmp pair.0 rest))) effect.Remove effect.Nothing) pair.0 (pair ∷ rest)) tied
     ∙ ap (λ b. cond (not b) (pair ∷ without pair.0 rest) (without pair.0 rest)) tied
-    ∙ without_above pair.0 rest (lowest pair.0 rest (first (below_all key_cmp pair.0 rest) (is_sorted key_cmp rest) sorted))
+    ∙ without_above pair.0 rest (lowest pair.0 rest (left_of (below_all key_cmp pair.0 rest) (is_sorted key_cmp rest) sorted))
   where
     tied : eq_by_cmp key_cmp pair.0 pair.0 ≡ true
     tied = ap is_eq (tied_itself key_total pair.0)

@@ -1,8 +1,9 @@
 -- What the calls on a stock make of its two trees, now and after a crash.
-use Rattle.std.proofs.Common.{◌≡◌, ◌≢◌, ℕ, Bool, true, false, not, cond, List, [], ◌∷◌, ◌++◌, Option, Some, None, option_map, unwrap_or, Result, Ok, Err, IfOk, sym, refl, ap, ◌∙◌, subst, inl, inr}
+use Rattle.std.proofs.Common.{◌≡◌, ◌≢◌, ℕ, Bool, true, false, not, cond, List, [], ◌∷◌, ◌++◌, Option, Some, None, option_map, unwrap_or, sym, refl, ap, ◌∙◌, subst, inl, inr}
 use Rattle.std.proofs.Math.Path.{fun_ext}
 use Rattle.std.specs.FinMap.Entries.{find}
 use Rattle.std.specs.Str.{bytes_eq}
+use Rattle.sled_nodes.proofs.Basics.{none_some, not_true}
 use Rattle.ordered_keys.specs.Keys.{IsOneToOne}
 use Rattle.sled_nodes.specs.Order.{Key, key_cmp}
 use Rattle.sled_nodes.specs.declared.error.Error.{Error}
@@ -36,9 +37,6 @@ use Rattle.examples.proofs.Leaving.{left_by, kept_all}
 use Rattle.examples.proofs.Opened.{map_of_named, numbered}
 use Rattle.examples.proofs.Streams.{opens}
 use Rattle.examples.proofs.Written.{Holds, batch_there, batch_elsewhere, writes_then}
-
-none_some : {P X : Type 0} {x : X} → None ≡ Some x → P
-none_some e = cc
 
 -- ---- two trees in maps
 
@@ -102,10 +100,6 @@ pub second_there : (s : State) (t u : Tree) (more : List Tree) → must_refuse_o
 second_there s t u more e = (numbered_tree u.number (s.trees u.name) u.name (dropped_test s more) (numbered_tree t.number (s.trees t.name) t.name (dropped_test s (u ∷ more)) (not_dropped s (t ∷ u ∷ more) e)).1).0
 
 -- ---- databases
-
-not_true : (b : Bool) → not b ≡ true → b ≡ false
-not_true false e = refl
-not_true true e = cc
 
 not_not : (a b : Bool) → not a ≡ not b → a ≡ false → b ≡ false
 not_not true b e f = cc
@@ -283,7 +277,3 @@ pub left_agrees : (keep : ℕ) (old left : Store) (table index : Key) → Crashe
 left_agrees keep old left table index c agrees =
     let base : now left ≡ left.base = ap now c.is ∙ sym (ap (λ (s : Store). s.base) c.is) in
     subst (λ (x : PageState). AgreeIn (trees_of x) table index) (sym base) (agrees.left left.base (may_leave_crashed keep old left c))
-
-pub ok_then : {A E : Type 0} (p q : A → Type 0) → ((a : A) → p a → q a) → (r : Result A E) → IfOk r p → IfOk r q
-ok_then p q h (Ok a) k = h a k
-ok_then p q h (Err e) k = tt

@@ -16,8 +16,8 @@ use Rattle.std.specs.Map.{lookup, keys_of}
 use Rattle.std.specs.Ordering.{eq_by_cmp, nat_cmp, is_le, is_lt, ordering_then, ordering_reverse}
 use Rattle.std.specs.declared.cmp.Ordering.{Ordering}
 use Rattle.std.specs.declared.ops.Bound.TheVariants.{Included, Unbounded}
+use Rattle.sled_nodes.proofs.Basics.{true_false, not_cond, true_of, both_of, key_total, key_same, tied}
 use Rattle.sled_nodes.specs.Order.{Key, key_cmp}
-use Rattle.examples.proofs.Keys.{key_total, key_same}
 use Rattle.sled_model.specs.Maps.{Map}
 use Rattle.sled_model.specs.declared.event.Event.TheVariants.{Insert, Remove}
 use Rattle.sled_queues.specs.Copies.{IsCopy, after_event}
@@ -25,23 +25,12 @@ use Rattle.examples.specs.Endings.{turned, entries_ending, while_beginning, HasS
 
 -- ---- keys, and keys read from their end
 
-differ : {P : Type 0} → true ≡ false → P
-differ e = cc
-
-tied : (a b : Key) → eq_by_cmp key_cmp a b ≡ true → a ≡ b
-tied a b e = go (key_cmp a b) refl e
-  where
-    go : (o : Ordering) → key_cmp a b ≡ o → is_eq o ≡ true → a ≡ b
-    go Less e t = differ (sym t)
-    go Equal e t = key_same a b e
-    go Greater e t = differ (sym t)
-
 itself : (a b : Key) → a ≡ b → eq_by_cmp key_cmp a b ≡ true
 itself a b e = ap (eq_by_cmp key_cmp a) (sym e) ∙ ap is_eq (tied_itself key_total a)
 
 both_ways : (a b : Bool) → (a ≡ true → b ≡ true) → (b ≡ true → a ≡ true) → a ≡ b
 both_ways true b f g = sym (f refl)
-both_ways false true f g = differ (sym (g refl))
+both_ways false true f g = true_false (sym (g refl))
 both_ways false false f g = refl
 
 turn_back : (a b : Key) → reverse a ≡ b → a ≡ reverse b
@@ -84,10 +73,6 @@ puts_turned es fs k v p q =
 
 pub put_turned : (es fs : Map) (k v key : Key) → key ≡ reverse k → Puts es key (Some v) fs → HasSame (turned fs) (after_event (Insert k v) (turned es))
 put_turned es fs k v key e p = record { has = λ q. puts_turned es fs k (Some v) (subst (λ key. Puts es key (Some v) fs) e p) q ∙ sym (find-put key_cmp key_total q k v (turned es)) }
-
-not_cond : {X : Type 0} (b : Bool) (x y : X) → cond (not b) x y ≡ cond b y x
-not_cond true x y = refl
-not_cond false x y = refl
 
 pub taken_turned : (es fs : Map) (k key : Key) → key ≡ reverse k → Puts es key None fs → HasSame (turned fs) (after_event (Remove k) (turned es))
 taken_turned es fs k key e p = record {
@@ -137,7 +122,7 @@ not_below (b ∷ p) rest = ap (λ o. is_le (ordering_then o (slice_cmp nat_cmp p
 -- what stands between, begins so too
 between : (p x y rest : Key) → is_le (slice_cmp nat_cmp p x) ≡ true → slice_cmp nat_cmp x y ≡ Less → y ≡ p ++ rest → starts_with nat_eq x p ≡ true
 between [] x y rest le lt e = begins_is x [] x refl
-between (b ∷ p) [] y rest le lt e = differ (sym le)
+between (b ∷ p) [] y rest le lt e = true_false (sym le)
 between (b ∷ p) (a ∷ x) y rest le lt e = go (λ l m. between p x (p ++ rest) rest l m refl) (nat_cmp b a) refl le (subst (λ z. slice_cmp nat_cmp (a ∷ x) z ≡ Less) e lt)
   where
     go : (is_le (slice_cmp nat_cmp p x) ≡ true → slice_cmp nat_cmp x (p ++ rest) ≡ Less → starts_with nat_eq x p ≡ true) → (o : Ordering) → nat_cmp b a ≡ o → is_le (ordering_then o (slice_cmp nat_cmp p x)) ≡ true → ordering_then (nat_cmp a b) (slice_cmp nat_cmp x (p ++ rest)) ≡ Less → starts_with nat_eq (a ∷ x) (b ∷ p) ≡ true
@@ -149,7 +134,7 @@ between (b ∷ p) (a ∷ x) y rest le lt e = go (λ l m. between p x (p ++ rest)
         let same : b ≡ a = nat_cmp-IsAntisymmetric b a c in
         let lt : slice_cmp nat_cmp x (p ++ rest) ≡ Less = subst (λ o. ordering_then o (slice_cmp nat_cmp x (p ++ rest)) ≡ Less) (nat_cmp_total.antisymm a b ∙ ap ordering_reverse c) m in
         begins_is (a ∷ x) (b ∷ p) (drop (length p) x) (ap (λ z. z ∷ x) (sym same) ∙ ap (λ l. b ∷ l) (goes_on x p (more l lt)))
-    go more Greater c l m = differ (sym l)
+    go more Greater c l m = true_false (sym l)
 
 -- the entries that begin so, of entries that rise
 abbrev pub rises : Map → Type 0
@@ -160,7 +145,7 @@ none_after p x [] le off all = refl
 none_after p x (e ∷ es) le off all = ap (λ b. cond b (e ∷ filter (λ e. starts_with nat_eq e.0 p) es) (filter (λ e. starts_with nat_eq e.0 p) es)) (no (starts_with nat_eq e.0 p) refl) ∙ none_after p x es le off all.1
   where
     no : (b : Bool) → starts_with nat_eq e.0 p ≡ b → b ≡ false
-    no true e1 = differ (sym (between p x.0 e.0 (drop (length p) e.0) le all.0 (goes_on e.0 p e1)) ∙ off)
+    no true e1 = true_false (sym (between p x.0 e.0 (drop (length p) e.0) le all.0 (goes_on e.0 p e1)) ∙ off)
     no false e1 = refl
 
 abbrev pub from : Key → Map → Map
@@ -175,7 +160,7 @@ all_beginning p (e ∷ es) r = go (all_beginning p es r.1) (is_le (slice_cmp nat
     kept = filter (λ e. starts_with nat_eq e.0 p) es
 
     go : while_beginning p (from p es) ≡ kept → (b : Bool) → is_le (slice_cmp nat_cmp p e.0) ≡ b → (c : Bool) → starts_with nat_eq e.0 p ≡ c → while_beginning p (cond (b && true) (e ∷ from p es) (from p es)) ≡ cond c (e ∷ kept) kept
-    go more false below true on = differ (sym (ap (λ k. is_le (slice_cmp nat_cmp p k)) (goes_on e.0 p on) ∙ not_below p (drop (length p) e.0)) ∙ below)
+    go more false below true on = true_false (sym (ap (λ k. is_le (slice_cmp nat_cmp p k)) (goes_on e.0 p on) ∙ not_below p (drop (length p) e.0)) ∙ below)
     go more false below false off = more
     go more true le true on = ap (λ b. cond b (e ∷ while_beginning p (from p es)) []) on ∙ ap (λ l. e ∷ l) more
     go more true le false off = ap (λ b. cond b (e ∷ while_beginning p (from p es)) []) off ∙ sym (none_after p e es le off r.0)
@@ -222,18 +207,10 @@ unfolding key_cmp
 below_sorted k [] all = tt
 below_sorted k (e ∷ es) all = subst (λ o. T (is_lt o && below_all (slice_cmp nat_cmp) k es)) (sym all.0) (below_sorted k es all.1)
 
-both_true : (a b : Bool) → T a → T b → T (a && b)
-both_true true b p q = q
-both_true false b p q = p
-
 sorted_rises : (es : Map) → rises es → T (is_sorted key_cmp es)
 unfolding IsStrictlySortedBy
 sorted_rises [] r = tt
-sorted_rises (e ∷ es) r = both_true (below_all key_cmp e.0 es) (is_sorted key_cmp es) (below_sorted e.0 es r.0) (sorted_rises es r.1)
-
-true_of : (b : Bool) → T b → b ≡ true
-true_of true p = refl
-true_of false p = absurd p
+sorted_rises (e ∷ es) r = both_of (below_all key_cmp e.0 es) (is_sorted key_cmp es) (below_sorted e.0 es r.0) (sorted_rises es r.1)
 
 within_both : {X : Type 0} (a b : Bool) (o : Option X) → cond b (cond a o None) None ≡ cond (a && b) o None
 within_both true b o = refl

@@ -7,11 +7,10 @@ use Rattle.std.specs.Str.{bytes_eq}
 use Rattle.std.specs.declared.cmp.Ordering.{Ordering}
 use Rattle.std.specs.declared.ops.Bound.{Bound}
 use Rattle.std.specs.declared.ops.Bound.TheVariants.{Included, Excluded, Unbounded}
-use Rattle.std.proofs.lemmas.Map.Lookups.{exact_bytes}
+use Rattle.sled_nodes.proofs.Basics.{key_total, key_same}
 use Rattle.sled_nodes.specs.Among.{is_up_to, is_from}
 use Rattle.sled_nodes.specs.Order.{Key, key_cmp}
 use Rattle.sled_store.specs.theory.Facts.{same_name}
-use Rattle.tree_laws.proofs.Order.{key_total}
 use Rattle.tree_reads.specs.Ranges.{pairs_within}
 use Rattle.sled_model.specs.Maps.{Map, Merge}
 use Rattle.sled_model.specs.Answer.{answer_of, decision_of, map_after}
@@ -21,21 +20,17 @@ use Rattle.examples.specs.Typed.{Spelling, is_above, is_below, pair_bytes, bound
 
 -- ---- an insert puts its pair in its place, also where an equal value stands and nothing is written
 
-exact : (a b : Key) → key_cmp a b ≡ Equal → a ≡ b
-unfolding key_cmp
-exact a b e = exact_bytes a b e
-
 find_stays : (k v : Key) (m : Map) → find key_cmp k m ≡ Some v → (q : Key) → find key_cmp q (put key_cmp k v m) ≡ find key_cmp q m
 find_stays k v m there q = find-put key_cmp key_total q k v m ∙ go (key_cmp q k) refl
   where
     go : (o : Ordering) → key_cmp q k ≡ o → cond (is_eq o) (Some v) (find key_cmp q m) ≡ find key_cmp q m
     go Less e = refl
-    go Equal e = sym there ∙ ap (λ x. find key_cmp x m) (sym (exact q k e))
+    go Equal e = sym there ∙ ap (λ x. find key_cmp x m) (sym (key_same q k e))
     go Greater e = refl
 
 put_stays : (k v : Key) (m : Map) → T (is_sorted key_cmp m) → find key_cmp k m ≡ Some v → m ≡ put key_cmp k v m
 put_stays k v m sorted there =
-    sym (same_entries key_cmp key_total exact (put key_cmp k v m) m (is_sorted-put key_cmp key_total k v m sorted) sorted (find_stays k v m there))
+    sym (same_entries key_cmp key_total key_same (put key_cmp k v m) m (is_sorted-put key_cmp key_total k v m sorted) sorted (find_stays k v m there))
 
 pub insert_puts : (merge : Option Merge) (k v : Key) (m : Map) → T (is_sorted key_cmp m) → (answer_of merge (Insert k v) m).map ≡ put key_cmp k v m
 insert_puts merge k v m sorted = go (find key_cmp k m) refl

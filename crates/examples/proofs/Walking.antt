@@ -1,10 +1,11 @@
 -- What typed calls find in a tree, and what they make of it.
-use Rattle.std.proofs.Common.{◌≡◌, ◌≢◌, ◌&&◌, ℕ, zero, suc, ◌+◌, ◌<◌, Bool, true, false, T, map, filter, take, length, get_or, List, [], ◌∷◌, ◌++◌, Option, Some, None, option_map, sym, refl, ap, ◌∙◌, subst, add-one, arith}
+use Rattle.std.proofs.Common.{◌≡◌, ◌≢◌, ◌&&◌, ℕ, zero, suc, ◌+◌, ◌<◌, true, T, map, filter, take, length, get_or, List, [], ◌∷◌, ◌++◌, Option, Some, None, option_map, sym, refl, ap, ◌∙◌, subst, add-one, arith}
 use Rattle.std.proofs.Math.Seq.{take-suc}
 use Rattle.std.proofs.lemmas.List.{map-append}
 use Rattle.std.specs.FinMap.Entries.{find, put, is_sorted, is_sorted-where_key}
 use Rattle.std.specs.List.{AllByRecursion}
 use Rattle.std.specs.declared.ops.Bound.{Bound}
+use Rattle.sled_nodes.proofs.Basics.{true_of, of_true}
 use Rattle.sled_nodes.specs.Among.{is_up_to, is_from}
 use Rattle.sled_nodes.specs.Order.{Key, key_cmp}
 use Rattle.sled_store.specs.Store.{Store}
@@ -33,13 +34,6 @@ some_of : {A B : Type 0} (f : A → B) (o : Option A) (b : B) → Some b ≡ opt
 some_of f None b e = absurd cc
 some_of f (Some x) b e = (x, refl, cc)
 
-is_true : (b : Bool) → T b → b ≡ true
-is_true true t = refl
-is_true false t = absurd t
-
-holds : (b : Bool) → b ≡ true → T b
-holds b e = subst T (sym e) tt
-
 module _ {P M : Type 0} (store : P → Store) (meant : M → Merge) (d : DbValue P M) (tree : Tree) {K V : Type 0} (keys : Spelling K) (values : Spelling V) (order : KeepsOrder keys) where
   -- the tree's pairs are its map
   pairs_are : (named : NamedTree) → (db_state store meant d).trees tree.name ≡ Some named → pairs_in (maps_now store meant d tree.name) ≡ named.map
@@ -47,7 +41,7 @@ module _ {P M : Type 0} (store : P → Store) (meant : M → Merge) (d : DbValue
 
   -- its keys rise
   sorted : MapsAscend (maps_of (db_state store meant d)) → (named : NamedTree) → (db_state store meant d).trees tree.name ≡ Some named → T (is_sorted key_cmp named.map)
-  sorted ascend named there = holds (is_sorted key_cmp named.map) (ascend.is tree.name named.map (ap (option_map (λ (t : NamedTree). t.map)) there))
+  sorted ascend named there = of_true (is_sorted key_cmp named.map) (ascend.is tree.name named.map (ap (option_map (λ (t : NamedTree). t.map)) there))
 
   decided : (s : State) (named : NamedTree) (k v : Key) → pairs_in (maps_of (after_decision_on s tree.name named (answer_of named.merge (Insert k v) named.map)) tree.name) ≡ (answer_of named.merge (Insert k v) named.map).map
   decided s named k v = ap (λ o. pairs_in (option_map (λ (t : NamedTree). t.map) o)) (put_name_here s.trees tree.name (Some (record named { map = (answer_of named.merge (Insert k v) named.map).map })))
@@ -130,7 +124,7 @@ module _ {P M : Type 0} (store : P → Store) (meant : M → Merge) (d : DbValue
       rises =
           sym (sorted_bytes keys values order found is.are_values)
           ∙ ap (is_sorted key_cmp) (sym is.is ∙ pairs_walked)
-          ∙ is_true _ (is_sorted-where_key key_cmp (λ k. is_from (bound_bytes keys lo) k && is_up_to (bound_bytes keys hi) k) b.all.named.map (sorted db b.all.named b.all.there));
+          ∙ true_of _ (is_sorted-where_key key_cmp (λ k. is_from (bound_bytes keys lo) k && is_up_to (bound_bytes keys hi) k) b.all.named.map (sorted db b.all.named b.all.there));
     }
 
     pub walks_foreign : ((entries : List (K × V)) → IsTyped keys values pairs entries → ⊥) → IsForeign keys values (maps_now store meant d) tree.name

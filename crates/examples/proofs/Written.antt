@@ -4,6 +4,7 @@ use Rattle.std.specs.FinMap.Entries.{find, is_sorted, below_all, find-where_key}
 use Rattle.std.specs.Ordering.{is_lt, ordering_reverse, eq_by_cmp}
 use Rattle.std.specs.declared.cmp.Ordering.{Ordering}
 use Rattle.std.proofs.lemmas.Cmp.{tied_itself}
+use Rattle.sled_nodes.proofs.Basics.{false_true, key_total, key_same}
 use Rattle.sled_nodes.specs.Order.{Key, key_cmp}
 use Rattle.sled_nodes.specs.Node.{without}
 use Rattle.sled_batch.specs.Batch.{Writes}
@@ -14,10 +15,7 @@ use Rattle.sled_model.specs.Groups.{Write, writes_on, call_with, answer_of_write
 use Rattle.sled_model.specs.State.{State, NamedTree}
 use Rattle.sled_model.specs.declared.decision.Effect.TheVariants as effect
 use Rattle.sled_model.specs.declared.tree.Tree.{Tree}
-use Rattle.examples.proofs.Keys.{key_total, key_same, insert_here, insert_there}
-
-false_true : {P : Type 0} → false ≡ true → P
-false_true e = cc
+use Rattle.examples.proofs.Keys.{insert_here, insert_there}
 
 -- ---- one write
 

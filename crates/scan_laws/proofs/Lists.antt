@@ -1,10 +1,8 @@
 -- Lists of pairs in the order of a scan.
-use Rattle.std.proofs.Common.{◌≡◌, ◌∙◌, ◌⊎◌, inl, inr, Bool, true, false, cond, not, ◌&&◌, filter, List, [], ◌∷◌, ◌++◌, sym, refl, ap, subst, Less, Equal, Greater, is_gt}
+use Rattle.std.proofs.Common.{◌≡◌, ◌∙◌, ◌⊎◌, inl, inr, Bool, true, false, cond, not, filter, List, [], ◌∷◌, ◌++◌, sym, refl, ap, subst, Less, Equal, Greater, is_gt}
 use Rattle.std.specs.Prelude.{reverse}
 use Rattle.std.specs.Ordering.{is_lt}
-use Rattle.std.specs.Cmp.{IsTotalOrder}
 use Rattle.std.specs.FinMap.Entries.{is_sorted, below_all}
-use Rattle.std.proofs.lemmas.Cmp.{nat_list_cmp_total}
 use Rattle.std.proofs.lemmas.List.{reverse-append}
 use Rattle.std.specs.declared.cmp.Ordering.{Ordering}
 use Rattle.std.specs.Ordering.{ordering_reverse}
@@ -12,6 +10,7 @@ use Rattle.std.specs.Prelude.{Option, Some, None}
 use Rattle.std.proofs.lemmas.Cmp.{upto}
 use Rattle.std.specs.declared.ops.Bound.{Bound}
 use Rattle.std.specs.declared.ops.Bound.TheVariants.{Included, Excluded, Unbounded}
+use Rattle.sled_nodes.proofs.Basics.{false_true, not_true, first_true, second_true, is_less, key_total}
 use Rattle.sled_nodes.specs.Among.{is_up_to, is_from}
 use Rattle.sled_nodes.specs.Order.{Key, key_cmp, Below, UpTo}
 use Rattle.sled_nodes.specs.Ranges.{Range, is_reversed}
@@ -92,9 +91,6 @@ in_kept p e xs i = (kept_in p e xs i).0
 pub passes : (p : Pair → Bool) (e : Pair) (xs : List Pair) → In e (filter p xs) → p e ≡ true
 passes p e xs i = (kept_in p e xs i).1
 
-false_true : {P : Type 0} → false ≡ true → P
-false_true c = cc
-
 pub keeps_in : (p : Pair → Bool) (e : Pair) (xs : List Pair) → In e xs → p e ≡ true → In e (filter p xs)
 keeps_in p e [] i h = absurd i
 keeps_in p e (x ∷ xs) i h = go (p x) refl (λ j. keeps_in p e xs j h) i
@@ -112,37 +108,14 @@ ordered_kept back p (x ∷ xs) h = elim (p x) as (λ b. InOrder back (cond b (x 
   | false ↦ ordered_kept back p xs h.1
 ]
 
--- a map that rises is in the order of a scan from its least key up
-and_first : (a b : Bool) → a && b ≡ true → a ≡ true
-and_first true b h = refl
-and_first false b h = h
-
-and_second : (a b : Bool) → a && b ≡ true → b ≡ true
-and_second true b h = h
-and_second false b h = false_true h
-
-less : (o : Ordering) → is_lt o ≡ true → o ≡ Less
-less Less e = refl
-less Equal e = cc
-less Greater e = cc
-
 below_each : (x : Key) (es : List Pair) → below_all key_cmp x es ≡ true → (f : Pair) → In f es → Below x f.0
 below_each x [] h f i = absurd i
-below_each x (e ∷ es) h f (inl i) = subst (λ (z : Pair). Below x z.0) (sym i) (less (key_cmp x e.0) (and_first _ _ h))
-below_each x (e ∷ es) h f (inr i) = below_each x es (and_second _ _ h) f i
+below_each x (e ∷ es) h f (inl i) = subst (λ (z : Pair). Below x z.0) (sym i) (is_less (key_cmp x e.0) (first_true _ _ h))
+below_each x (e ∷ es) h f (inr i) = below_each x es (second_true _ _ h) f i
 
 pub ordered_map : (es : List Pair) → is_sorted key_cmp es ≡ true → InOrder false es
 ordered_map [] h = tt
-ordered_map (e ∷ es) h = (below_each e.0 es (and_first _ _ h), ordered_map es (and_second _ _ h))
-
-pub key_total : IsTotalOrder key_cmp
-unfolding key_cmp
-key_total = nat_list_cmp_total
-
--- bounds that give nothing have no key between them
-not_true : (b : Bool) → not b ≡ true → b ≡ false
-not_true true e = cc
-not_true false e = refl
+ordered_map (e ∷ es) h = (below_each e.0 es (first_true _ _ h), ordered_map es (second_true _ _ h))
 
 up_to : (k b : Key) → not (is_gt (key_cmp k b)) ≡ true → UpTo k b
 up_to k b e = not_true _ e
@@ -198,10 +171,10 @@ least (x ∷ k) = refl
 
 between : (lo hi : Bound Key) (k : Key) → is_reversed lo hi ≡ true → is_from lo k ≡ true → is_up_to hi k ≡ true → ⊥
 between (Included a) (Included b) k e p q = not_upto a b e (upto key_total a k b (from_key a k p) (up_to k b q))
-between (Included a) (Excluded b) k e p q = not_below a b e (upto_below a k b (from_key a k p) (less _ q))
+between (Included a) (Excluded b) k e p q = not_below a b e (upto_below a k b (from_key a k p) (is_less _ q))
 between (Excluded a) (Included b) k e p q = not_below a b e (below_upto a k b (above_key a k p) (up_to k b q))
-between (Excluded a) (Excluded b) k e p q = not_below a b e (key_total.trans a k b (above_key a k p) (less _ q))
-between Unbounded (Excluded b) k e p q = not_below [] b e (upto_below [] k b (least k) (less _ q))
+between (Excluded a) (Excluded b) k e p q = not_below a b e (key_total.trans a k b (above_key a k p) (is_less _ q))
+between Unbounded (Excluded b) k e p q = not_below [] b e (upto_below [] k b (least k) (is_less _ q))
 between Unbounded (Included b) k e p q = false_true e
 between Unbounded Unbounded k e p q = false_true e
 between (Included a) Unbounded k e p q = false_true e
@@ -209,4 +182,4 @@ between (Excluded a) Unbounded k e p q = false_true e
 
 pub in_range_reversed : (rest : Option Range) (k : Key) → is_read rest ≡ true → is_in_rest rest k ≡ true → ⊥
 in_range_reversed None k e h = false_true h
-in_range_reversed (Some r) k e h = between r.lo r.hi k e (and_first _ _ h) (and_second _ _ h)
+in_range_reversed (Some r) k e h = between r.lo r.hi k e (first_true _ _ h) (second_true _ _ h)

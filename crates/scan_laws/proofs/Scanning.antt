@@ -3,6 +3,7 @@ use Rattle.std.proofs.Common.{◌≡◌, ◌≤◌, ◌+◌, ◌∙◌, ◌⊎�
 use Rattle.std.specs.Prelude.{reverse}
 use Rattle.std.proofs.lemmas.Bool.{eqb-true}
 use Rattle.std.specs.declared.ops.Bound.{Bound}
+use Rattle.sled_nodes.proofs.Basics.{none_some, some_none, some_is, true_false}
 use Rattle.sled_nodes.specs.Order.{Key}
 use Rattle.sled_nodes.specs.Ranges.{Range, is_in_range, pairs_in}
 use Rattle.sled_store.specs.In.{In}
@@ -25,15 +26,6 @@ use Rattle.scan_laws.proofs.Staying.{AscendOpen, Leaves, leaves}
 
 abbrev Pair : Type 0
 Pair = Key × Key
-
-no_some : {X : Type 0} {x : X} {P : Type 0} → None ≡ Some x → P
-no_some e = cc
-
-some_is : {X : Type 0} (x y : X) → Some x ≡ Some y → x ≡ y
-some_is x y e = cc
-
-some_none : {X : Type 0} {x : X} {P : Type 0} → Some x ≡ None → P
-some_none e = cc
 
 -- where no test refuses a step of a call, the database is open, and the tree of its name has its number
 both_none : (a b : Option MustRefuse) → first_of a b ≡ None → (a ≡ None) × (b ≡ None)
@@ -102,7 +94,7 @@ other {slot = slot} {tree = tree} {bounds = bounds} {given = given} {was = was} 
   where
     go : (f : CallInFlight) → b.slots slot ≡ Some f → (b.slots slot ≡ a.slots slot) ⊎ (b.slots slot ≡ None) → Known tree bounds given was kept f
     go f e (inl same) = h.known f (sym same ∙ e)
-    go f e (inr none) = no_some (sym none ∙ e)
+    go f e (inr none) = none_some (sym none ∙ e)
 
 -- a change beside
 beside : {slot : ℕ} {tree : Tree} {bounds : Range} {given : List Pair} {was : Pair → Type 0} {kept : Key → Type 0} {a b : Configuration}
@@ -198,11 +190,11 @@ module _ {slot : ℕ} {tree : Tree} {bounds : Range} {given : List Pair} {was : 
       }
 
       had : (e : Pair) → HasPair tree e a → In e t.map
-      had e p = subst (λ (z : NamedTree). In e z.map) (some_is p.named t (sym p.there ∙ ap (λ (z : Tree). a.trees z.name) (sym k.its) ∙ there)) p.pair
+      had e p = subst (λ (z : NamedTree). In e z.map) (some_is (sym p.there ∙ ap (λ (z : Tree). a.trees z.name) (sym k.its) ∙ there)) p.pair
 
   -- the call in the slot is another, or gone
   gone : {b : State} → AscendOpen b → a.slots_given ≤ b.slots_given → b.slots slot ≡ None → Holds slot tree bounds given Was Kept b
-  gone l n e = record { ascend = l; numbered = le_trans h.numbered n; ordered = h.ordered; inside = h.inside; known = λ f g. no_some (sym e ∙ g) }
+  gone l n e = record { ascend = l; numbered = le_trans h.numbered n; ordered = h.ordered; inside = h.inside; known = λ f g. none_some (sym e ∙ g) }
 
   goes_on : {b : State} (more : List Pair) (f : CallInFlight) → AscendOpen b → a.slots_given ≤ b.slots_given → b.slots slot ≡ Some f → Known tree bounds (given ++ more) Was Kept f → Holds slot tree bounds (given ++ more) Was Kept b
   goes_on more f l n e k = record {
@@ -210,7 +202,7 @@ module _ {slot : ℕ} {tree : Tree} {bounds : Range} {given : List Pair} {was : 
     numbered = le_trans h.numbered n;
     ordered = ordered_left bounds.back (given ++ more) f.waiting k.ordered;
     inside = λ x i. k.inside x (in_left x (given ++ more) f.waiting i);
-    known = λ g i. subst (λ z. Known tree bounds (given ++ more) Was Kept z) (some_is f g (sym e ∙ i)) k;
+    known = λ g i. subst (λ z. Known tree bounds (given ++ more) Was Kept z) (some_is (sym e ∙ i)) k;
   }
 
   with_none : {s : State} → Holds slot tree bounds given Was Kept s → Holds slot tree bounds (given ++ []) Was Kept s
@@ -266,9 +258,6 @@ own slot tree bounds given was kept a (outcome.Refused e) b maps t h =
 own slot tree bounds given was kept a (outcome.Begun i) b maps t h = absurd t
 own slot tree bounds given was kept a outcome.Abandoned b maps t h = absurd t
 
-true_false : {P : Type 0} → true ≡ false → P
-true_false e = cc
-
 of_step : (slot : ℕ) (s : Step) → is_own slot s ≡ true → s ≡ step.Step slot
 of_step slot (step.Step i) e = ap (λ n. step.Step n) (eqb-true i slot e)
 of_step slot (step.Begin tree call) e = true_false (sym e)
@@ -310,7 +299,7 @@ begins a b tree lo hi back slot none l t = record {
   numbered = le_of_eq (sym (ap (λ (z : State). z.slots_given) t.is.0.is));
   ordered = tt;
   inside = λ e i. absurd i;
-  known = λ f e. subst (λ z. Known tree bounds [] (λ x. ⊥) (λ k. Unit {0}) z) (some_is _ f (sym (ap (λ (z : State). z.slots slot) t.is.0.is ∙ put_here a.state.slots slot _) ∙ e)) first;
+  known = λ f e. subst (λ z. Known tree bounds [] (λ x. ⊥) (λ k. Unit {0}) z) (some_is (sym (ap (λ (z : State). z.slots slot) t.is.0.is ∙ put_here a.state.slots slot _) ∙ e)) first;
 }
   where
     bounds : Range
@@ -322,7 +311,7 @@ begins a b tree lo hi back slot none l t = record {
       ordered = tt;
       inside = λ e i. absurd i;
       rest = λ k e. e;
-      way = λ r e. ap (λ (z : Range). z.back) (sym (some_is _ r e));
+      way = λ r e. ap (λ (z : Range). z.back) (sym (some_is e));
       ahead = λ e k i. absurd i;
       seen = λ e i. absurd i;
       whole = λ k b g. inl b;

@@ -3,6 +3,7 @@ use Rattle.std.proofs.Common.{◌≡◌, ◌≤◌, ◌+◌, ◌∙◌, ◌⊎�
 use Rattle.std.specs.FinMap.Entries.{is_sorted, is_sorted-put, is_sorted-where_key}
 use Rattle.std.specs.Str.{bytes_eq}
 use Rattle.std.proofs.lemmas.Bool.{eq-eqb}
+use Rattle.sled_nodes.proofs.Basics.{none_some, some_is, true_false, true_of, of_true, key_total}
 use Rattle.sled_nodes.specs.Order.{Key, key_cmp}
 use Rattle.sled_store.specs.Update.{put_at, put_name}
 use Rattle.sled_store.specs.Store.{Store}
@@ -29,7 +30,6 @@ use Rattle.sled_model.specs.declared.outcome.Step.TheVariants as step
 use Rattle.sled_model.specs.declared.outcome.Outcome.{Outcome}
 use Rattle.sled_model.specs.declared.outcome.Outcome.TheVariants as outcome
 use Rattle.scan_laws.specs.Scanned.{Ascend, is_own}
-use Rattle.scan_laws.proofs.Lists.{key_total}
 
 abbrev Trees : Type 0
 Trees = Key → Option NamedTree
@@ -37,28 +37,12 @@ Trees = Key → Option NamedTree
 abbrev Rising : Trees → Type 0
 Rising trees = (name : Key) (t : NamedTree) → trees name ≡ Some t → T (is_sorted key_cmp t.map)
 
-is_true : (b : Bool) → T b → b ≡ true
-is_true true h = refl
-is_true false h = absurd h
-
-of_true : (b : Bool) → b ≡ true → T b
-of_true b e = subst T (sym e) tt
-
-no_some : {X : Type 0} {x : X} {P : Type 0} → None ≡ Some x → P
-no_some e = cc
-
-true_false : {P : Type 0} → true ≡ false → P
-true_false e = cc
-
-some_is : {X : Type 0} (x y : X) → Some x ≡ Some y → x ≡ y
-some_is x y e = cc
-
 ascending : (s : State) → Rising s.trees → Ascend s
 ascending s r name map h = go (s.trees name) refl h
   where
     go : (o : Option NamedTree) → s.trees name ≡ o → option_map (λ (t : NamedTree). t.map) o ≡ Some map → is_sorted key_cmp map ≡ true
-    go None e g = no_some g
-    go (Some t) e g = ap (λ m. is_sorted key_cmp m) (sym (some_is t.map map g)) ∙ is_true _ (r name t e)
+    go None e g = none_some g
+    go (Some t) e g = ap (λ m. is_sorted key_cmp m) (sym (some_is g)) ∙ true_of _ (r name t e)
 
 rising : (s : State) → Ascend s → Rising s.trees
 rising s a name t h = of_true _ (a name t.map (ap (λ o. option_map (λ (t : NamedTree). t.map) o) h))
@@ -67,14 +51,14 @@ rises_put : (trees : Trees) (name : Key) (t : NamedTree) → Rising trees → T 
 rises_put trees name t r h q u = go (bytes_eq q name)
   where
     go : (b : Bool) → cond b (Some t) (trees q) ≡ Some u → T (is_sorted key_cmp u.map)
-    go true e = subst (λ (z : NamedTree). T (is_sorted key_cmp z.map)) (some_is t u e) h
+    go true e = subst (λ (z : NamedTree). T (is_sorted key_cmp z.map)) (some_is e) h
     go false e = r q u e
 
 rises_none : (trees : Trees) (name : Key) → Rising trees → Rising (put_name trees name None)
 rises_none trees name r q u = go (bytes_eq q name)
   where
     go : (b : Bool) → cond b None (trees q) ≡ Some u → T (is_sorted key_cmp u.map)
-    go true e = no_some e
+    go true e = none_some e
     go false e = r q u e
 
 rises_after : (e : Effect) (k : Key) (m : Map) → T (is_sorted key_cmp m) → T (is_sorted key_cmp (map_after e k m))

@@ -5,6 +5,7 @@ use Rattle.std.specs.Ordering.{ordering_reverse, eq_by_cmp}
 use Rattle.std.specs.Str.{bytes_eq}
 use Rattle.std.specs.declared.cmp.Ordering.{Ordering}
 use Rattle.std.proofs.lemmas.Cmp.{tied_itself}
+use Rattle.sled_nodes.proofs.Basics.{none_some, false_true, key_total, key_same}
 use Rattle.sled_nodes.specs.Order.{Key, key_cmp}
 use Rattle.sled_nodes.specs.Node.{without}
 use Rattle.sled_store.specs.theory.Facts.{same_name, name_itself}
@@ -13,17 +14,7 @@ use Rattle.sled_model.specs.Answer.{map_after, effect_of_write, same_value}
 use Rattle.sled_model.specs.declared.decision.Effect.{Effect}
 use Rattle.sled_model.specs.declared.decision.Effect.TheVariants as effect
 use Rattle.sled_model.specs.declared.tree.Tree.{Tree}
-use Rattle.tree_laws.proofs.Order.{key_total, key_same}
 use Rattle.shared_examples.specs.Places.{is_at}
-
-pub false_true : {P : Type 0} → false ≡ true → P
-false_true e = cc
-
-pub none_some : {P X : Type 0} {x : X} → None ≡ Some x → P
-none_some e = cc
-
-pub some_is : {X : Type 0} {x y : X} → Some x ≡ Some y → x ≡ y
-some_is e = cc
 
 put_here : (k v : Key) (m : Map) → find key_cmp k (put key_cmp k v m) ≡ Some v
 put_here k v m = find-put key_cmp key_total k k v m ∙ ap (λ o. cond (is_eq o) (Some v) (find key_cmp k m)) (tied_itself key_total k)

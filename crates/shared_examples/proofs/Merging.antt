@@ -2,6 +2,7 @@
 use Rattle.std.proofs.Common.{◌≡◌, ◌⊎◌, ◌∙◌, Bool, true, false, cond, List, [], ◌∷◌, ◌++◌, Option, sym, refl, ap, subst, inl, inr}
 use Rattle.std.specs.FinMap.Entries.{find}
 use Rattle.std.specs.List.{AllByRecursion}
+use Rattle.sled_nodes.proofs.Basics.{false_true}
 use Rattle.sled_nodes.specs.Order.{Key, key_cmp}
 use Rattle.sled_model.specs.Maps.{Maps}
 use Rattle.sled_model.specs.declared.call.Call.TheVariants.{Get, Merge}
@@ -13,7 +14,7 @@ use Rattle.sled_shared.specs.History.{MakesPoint, makes_as}
 use Rattle.sled_shared.specs.Made.{MadeValue, PointMade}
 use Rattle.shared_examples.specs.Places.{value_at, made_in, is_at, Leaves}
 use Rattle.shared_examples.specs.Counting.{IsMergeAt, merged_by, merged, last_of, MergesLaw}
-use Rattle.shared_examples.proofs.Keys.{after_effect, write_leaves, at_same, at_itself, false_true}
+use Rattle.shared_examples.proofs.Keys.{after_effect, write_leaves, at_same, at_itself}
 use Rattle.shared_examples.proofs.Standing.{stood, point_here, Makes, legal_makes, cut, all_first, only_leaves}
 
 value_is : {v w : Option Key} → Value v ≡ Value w → v ≡ w

@@ -2,6 +2,7 @@
 use Rattle.std.proofs.Common.{◌≡◌, ◌⊎◌, ◌∙◌, ℕ, ◌+◌, suc, Bool, true, false, cond, length, List, [], ◌∷◌, ◌++◌, Option, Ok, Err, sym, refl, ap, subst, inl, inr, arith}
 use Rattle.std.specs.FinMap.Entries.{find}
 use Rattle.std.specs.List.{AllByRecursion}
+use Rattle.sled_nodes.proofs.Basics.{false_true}
 use Rattle.sled_nodes.specs.Order.{Key, key_cmp}
 use Rattle.sled_model.specs.Answer.{effect_of_write, same_value}
 use Rattle.sled_model.specs.Maps.{Maps}
@@ -17,7 +18,7 @@ use Rattle.sled_shared.specs.Made.{MadeValue, PointMade}
 use Rattle.shared_examples.specs.Places.{value_at, made_in, is_at, Leaves}
 use Rattle.examples.specs.Counters.{number_in}
 use Rattle.shared_examples.specs.Raising.{IsSwapAt, swapped_by, swapped, Follow, SwapsLaw, IsRaise, RaisesLaw}
-use Rattle.shared_examples.proofs.Keys.{after_effect, write_leaves, values_same, at_same, at_itself, false_true}
+use Rattle.shared_examples.proofs.Keys.{after_effect, write_leaves, values_same, at_same, at_itself}
 use Rattle.shared_examples.proofs.Standing.{stood, point_here, point_none, Makes, legal_makes, only_leaves}
 
 -- ---- one swap

@@ -4,6 +4,7 @@ use Rattle.std.specs.FinMap.Entries.{find}
 use Rattle.std.specs.List.{AllByRecursion}
 use Rattle.std.specs.Str.{bytes_eq}
 use Rattle.std.proofs.lemmas.Cmp.{tied_itself}
+use Rattle.sled_nodes.proofs.Basics.{none_some, some_is, false_true, key_total}
 use Rattle.sled_nodes.specs.Order.{Key, key_cmp}
 use Rattle.sled_store.specs.theory.Facts.{name_itself, put_name_here}
 use Rattle.sled_model.specs.Answer.{map_after, same_value}
@@ -18,10 +19,9 @@ use Rattle.sled_shared.specs.History.{MakesPoint, makes_as}
 use Rattle.sled_shared.specs.Made.{MadeValue, PointMade, WholeMade}
 use Rattle.sled_shared.specs.WholeMade.{MakesPop, map_popped}
 use Rattle.sled_shared.specs.Wholes.{PopMin}
-use Rattle.tree_laws.proofs.Order.{key_total}
 use Rattle.shared_examples.specs.Places.{found_in, value_at, is_at, Leaves}
 use Rattle.shared_examples.specs.Queueing.{IsInsert, IsTake, IsPushOrTake, Has, QueueLaw}
-use Rattle.shared_examples.proofs.Keys.{after_effect, without_here, left_after, values_same, at_same, false_true, none_some, some_is}
+use Rattle.shared_examples.proofs.Keys.{after_effect, without_here, left_after, values_same, at_same}
 use Rattle.shared_examples.proofs.Standing.{put_left, point_here, point_elsewhere, Makes, legal_makes, cut, all_first, all_last}
 
 -- ---- an insert

@@ -3,6 +3,7 @@ use Rattle.std.proofs.Common.{◌≡◌, ◌⊎◌, ◌∙◌, ℕ, ◌+◌, Boo
 use Rattle.std.specs.List.{AllByRecursion}
 use Rattle.std.proofs.lemmas.Bool.{eqb-true, eq-eqb}
 use Rattle.std.proofs.lemmas.List.Sums.{sum_by-cons}
+use Rattle.sled_nodes.proofs.Basics.{false_true}
 use Rattle.sled_nodes.specs.Order.{Key}
 use Rattle.sled_model.specs.declared.call.Call.TheVariants.{Get, CompareAndSwap}
 use Rattle.sled_model.specs.declared.reply.Reply.{Reply}
@@ -18,7 +19,6 @@ use Rattle.shared_examples.specs.Raising.{IsSwapAt, swapped_by, swapped, IsRaise
 use Rattle.shared_examples.proofs.Attempts.{all_of_both}
 use Rattle.shared_examples.proofs.Leaving.{leaves}
 use Rattle.shared_examples.proofs.Sharing.{first_of_all, rest_of_all, shares_law}
-use Rattle.shared_examples.proofs.Keys.{false_true}
 use Rattle.shared_examples.proofs.Swapping.{raises_law}
 
 -- ---- what all callers made

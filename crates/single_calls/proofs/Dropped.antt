@@ -1,5 +1,6 @@
 -- What comes of the values of a tree that was dropped.
-use Rattle.std.proofs.Common.{◌≡◌, ◌≢◌, Bool, true, false, [], ◌∷◌, None, Result, Ok, Err, IfOk, sym, ap, ◌∙◌, subst}
+use Rattle.std.proofs.Common.{◌≡◌, ◌≢◌, Bool, true, [], ◌∷◌, None, Result, Ok, Err, IfOk, sym, ap, ◌∙◌, subst}
+use Rattle.sled_nodes.proofs.Basics.{false_true}
 use Rattle.sled_nodes.specs.Order.{Key}
 use Rattle.sled_store.specs.Store.{Store}
 use Rattle.sled_store.specs.theory.Facts.{put_name_here}
@@ -10,9 +11,6 @@ use Rattle.sled_model.specs.declared.tree.Tree.{Tree}
 use Rattle.sled.specs.Values.{DbValue, db_state}
 use Rattle.sled.specs.Drops.{DropsTree}
 use Rattle.sled.proofs.Trees.{current}
-
-false_true : {P : Type 0} → false ≡ true → P
-false_true e = cc
 
 -- the name has no tree now, and so none of this number
 pub never_passes : {P M : Type 0} (store : P → Store) (meant : M → Merge) (old new : DbValue P M) (t : Tree) (dropped : Bool) → DropsTree store meant old t.name dropped new → dropped ≡ true → must_refuse_of (db_state store meant new) (t ∷ []) ≢ None

@@ -1,5 +1,6 @@
 -- What comes of a closed database.
 use Rattle.std.proofs.Common.{◌≡◌, ℕ, not, true, false, [], ◌∷◌, List, Some, None, Result, Ok, Err, IfOk, IfErr, if◌then◌else◌, sym, ap, ◌∙◌, subst}
+use Rattle.sled_nodes.proofs.Basics.{none_some}
 use Rattle.sled_nodes.specs.declared.error.Error.{Error}
 use Rattle.sled_nodes.specs.declared.error.Error.TheVariants as error
 use Rattle.sled_store.specs.Store.{Store, now}
@@ -9,9 +10,6 @@ use Rattle.sled_model.specs.Refusal.{IsClosed, first_of, foreign_test, dropped_t
 use Rattle.sled_model.specs.declared.tree.Tree.{Tree}
 use Rattle.sled.specs.Values.{DbValue, db_state}
 use Rattle.sled.specs.Reads.{ReadsMap, RefusesReading, refuses_reading_as}
-
-none_some : {P X : Type 0} {x : X} → None ≡ Some x → P
-none_some e = cc
 
 -- that a group is open is the first cause of a refusal
 closed_first : (s : State) (trees : List Tree) → s.is_open ≡ false → must_refuse_of s trees ≡ Some IsClosed

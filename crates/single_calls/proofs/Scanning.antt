@@ -1,5 +1,6 @@
 -- What the end of a scan tells: what was given, and of the rest that it was absent throughout where nothing was decided meanwhile.
-use Rattle.std.proofs.Common.{◌≡◌, ℕ, Bool, true, false, List, Option, refl, sym, ap, ◌∙◌, subst}
+use Rattle.std.proofs.Common.{◌≡◌, ℕ, Bool, true, List, Option, refl, sym, ap, ◌∙◌, subst}
+use Rattle.sled_nodes.proofs.Basics.{false_true}
 use Rattle.sled_nodes.specs.Order.{Key}
 use Rattle.sled_store.specs.Store.{Store}
 use Rattle.sled_model.specs.Maps.{Maps, Merge}
@@ -19,9 +20,6 @@ use Rattle.single_calls.specs.Scans.{AtEachMoment, goes_on, IsQuiet, run_since, 
 
 abbrev Trees : Type 0
 Trees = Key → Option NamedTree
-
-false_true : {P : Type 0} → false ≡ true → P
-false_true e = cc
 
 -- a step that goes on leaves the trees
 leaves : (a b : Configuration) (s : Step) (o : Outcome) (maps : List Maps) → goes_on o ≡ true → transition_as a s o b maps → b.state.trees ≡ a.state.trees

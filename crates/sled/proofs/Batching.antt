@@ -1,6 +1,7 @@
 -- The tests that come before a group, each of all its trees.
 use Rattle.std.proofs.Common.{◌≡◌, Bool, true, false, cond, List, [], ◌∷◌, ◌++◌, append_assoc, Option, Some, None, refl, sym, ap, ◌∙◌}
 use Rattle.std.specs.Str.{bytes_eq}
+use Rattle.sled_nodes.proofs.Basics.{none_some}
 use Rattle.sled_nodes.specs.Order.{Key}
 use Rattle.sled_batch.specs.Batch.{Writes}
 use Rattle.sled_model.specs.State.{State}
@@ -8,9 +9,6 @@ use Rattle.sled_model.specs.Refusal.{MustRefuse, IsClosed, IsForeign, IsDropped,
 use Rattle.sled_model.specs.declared.tree.Tree.{Tree}
 
 -- ---- the tests of a list of trees
-
-none_some : {P X : Type 0} {x : X} → None ≡ Some x → P
-none_some e = cc
 
 pub first_none : (a b : Option MustRefuse) → first_of a b ≡ None → (a ≡ None) × (b ≡ None)
 first_none None b e = (refl, e)

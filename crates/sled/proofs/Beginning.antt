@@ -3,6 +3,7 @@ use Rattle.std.proofs.Common.{◌≡◌, ℕ, Bool, true, false, cond, List, [],
 use Rattle.std.specs.FinMap.Entries.{find}
 use Rattle.std.specs.declared.ops.Bound.{Bound}
 use Rattle.std.specs.declared.ops.Bound.TheVariants.{Included}
+use Rattle.sled_nodes.proofs.Basics.{some_is, true_false}
 use Rattle.sled_nodes.specs.Node.{value_at}
 use Rattle.sled_nodes.specs.Order.{Key, key_cmp}
 use Rattle.sled_nodes.specs.declared.error.Error.{Error}
@@ -40,12 +41,6 @@ use Rattle.sled.specs.Values.{DbValue, db_state, numbers_of, snapshot_of_db}
 use Rattle.sled.specs.theory.Groups.{flight_from, Finds, ReadsKey, IsSettled, begins_as, BeginsAt, Stands, value_in, unread}
 use Rattle.sled.proofs.Reading.{reads}
 use Rattle.sled.proofs.Trees.{current, numbered}
-
-some_is : {X : Type 0} {x y : X} → Some x ≡ Some y → x ≡ y
-some_is e = cc
-
-apart : {P : Type 0} → true ≡ false → P
-apart e = cc
 
 -- ---- the read of a key
 
@@ -99,7 +94,7 @@ plain key (Some v) = refl
 -- where its value does not stand it has a change to link
 changes_with : (key : Key) (value found : Option Key) → same_value found value ≡ false → reply_of_read (call_with key value) found ≡ None
 changes_with key (Some v) found e = ap (λ b. cond b (Some (Value found)) None) e
-changes_with key None None e = apart e
+changes_with key None None e = true_false e
 changes_with key None (Some x) e = refl
 
 -- ---- what a call knows of the leaf that was read for it

@@ -6,6 +6,7 @@ use Rattle.std.specs.Cmp.Lexicographic.{slice_cmp}
 use Rattle.std.specs.FinMap.Entries.{find}
 use Rattle.std.specs.Map.{lookup}
 use Rattle.std.specs.Ordering.{nat_cmp, eq_by_cmp}
+use Rattle.sled_nodes.proofs.Basics.{some_is}
 use Rattle.sled_nodes.specs.Order.{Key, key_cmp}
 use Rattle.sled_batch.specs.Batch.{Writes, Rises}
 use Rattle.sled_store.specs.Store.{Store}
@@ -24,9 +25,6 @@ use Rattle.sled.proofs.Beginning.{finds_both, finds_none}
 use Rattle.sled.proofs.Trees.{current, numbered}
 use Rattle.sled.proofs.Batching.{tested_parts, tested_last, tested_among, tested_upto}
 use Rattle.sled.proofs.Written.{written_or, writes_keep, writes_of_both, made_here, made_elsewhere, still_there, job_of, brings}
-
-some_is : {X : Type 0} {x y : X} → Some x ≡ Some y → x ≡ y
-some_is e = cc
 
 -- ---- what a map in memory finds
 

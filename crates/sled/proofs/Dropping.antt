@@ -2,6 +2,7 @@
 use Rattle.std.proofs.Common.{◌≡◌, ℕ, zero, suc, ◌+◌, ◌<◌, ◌^◌, Bool, true, false, cond, nat_eq, List, [], ◌∷◌, ◌++◌, length, length-append, get_or, Option, Some, None, option_map, Result, Ok, sym, refl, ap, ◌∙◌, subst, inl, inr, ◌⊎◌, append_assoc, append-nil, arith}
 use Rattle.std.specs.List.{concat}
 use Rattle.std.proofs.lemmas.List.Folds.{concat-append}
+use Rattle.sled_nodes.proofs.Basics.{none_some, some_is}
 use Rattle.sled_store.specs.In.{In}
 use Rattle.sled_nodes.specs.Order.{Key}
 use Rattle.sled_nodes.specs.Node.{pointers}
@@ -35,12 +36,6 @@ use Rattle.sled_tree.proofs.Known.{stage_kept}
 use Rattle.tree_groups.specs.Writes.{PagesLast}
 use Rattle.sled.specs.Drops.{IsBeginning}
 use Rattle.sled.specs.theory.Drops.{first_pages_down, CountsFaults, FreesPage, FreesPages, FreesNone, FreesOne, Counts, KeepsOrFrees, AreFirsts, FreesLevel, FreesLevels, FreesFrom, DropsRoot}
-
-none_some : {P X : Type 0} {x : X} → None ≡ Some x → P
-none_some e = cc
-
-some_is : {X : Type 0} {x y : X} → Some x ≡ Some y → x ≡ y
-some_is e = cc
 
 -- ---- the first pages of the levels
 

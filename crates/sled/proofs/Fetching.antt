@@ -4,6 +4,7 @@ use Rattle.std.specs.FinMap.Entries.{find}
 use Rattle.std.specs.declared.vec.Vec.{Vec}
 use Rattle.std.specs.declared.alloc.Global.{Global}
 use Rattle.std.specs.declared.alloc.AllocError.{AllocError}
+use Rattle.sled_nodes.proofs.Basics.{some_is}
 use Rattle.sled_nodes.specs.Order.{Key, key_cmp}
 use Rattle.sled_store.specs.theory.Facts.{name_itself}
 use Rattle.sled_store.specs.Store.{Store}
@@ -27,9 +28,6 @@ use Rattle.sled.specs.theory.Direct.{IsSwap}
 use Rattle.sled.specs.Fetch.{Closure, Answers, Stands, FetchRefused}
 use Rattle.sled.proofs.Conducting.{conducts_none, conducts_refused, plain_short}
 use Rattle.sled.proofs.Popping.{min_unread}
-
-some_is : {X : Type 0} {x y : X} → Some x ≡ Some y → x ≡ y
-some_is e = cc
 
 same_itself : (value : Option Key) → same_value value value ≡ true
 same_itself None = refl

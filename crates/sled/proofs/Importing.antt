@@ -3,6 +3,7 @@ use Rattle.std.proofs.Common.{◌≡◌, ◌≢◌, ◌⊎◌, ℕ, suc, ◌+◌
 use Rattle.std.proofs.lemmas.List.{drop_all}
 use Rattle.std.specs.FinMap.Entries.{find}
 use Rattle.std.specs.Global.{Vec}
+use Rattle.sled_nodes.proofs.Basics.{some_is}
 use Rattle.sled_nodes.specs.Order.{Key, key_cmp}
 use Rattle.sled_store.specs.theory.Facts.{put_name_here}
 use Rattle.sled_store.specs.Store.{Store, now}
@@ -35,12 +36,6 @@ use Rattle.sled.proofs.Counting.{told_then, told_one, told_before}
 use Rattle.sled.proofs.Conducting.{ReadsAlike, acts_then, may_alike, leaves_then, leaves_none}
 use Rattle.sled.proofs.Popping.{often_faults, often_readable, min_unread}
 use Rattle.sled.proofs.Testing.{first_alone}
-
-none_some : {P X : Type 0} {x : X} → None ≡ Some x → P
-none_some e = cc
-
-some_is : {X : Type 0} {x y : X} → Some x ≡ Some y → x ≡ y
-some_is e = cc
 
 -- ---- lists of parts
 

@@ -1,5 +1,6 @@
 -- Steps that keep copies of a reply: where a page that was read decides a call, the call may be refused for want of memory too.
 use Rattle.std.proofs.Common.{◌≡◌, ◌≢◌, ℕ, Bool, false, Option, Some, None, MatchOption, Result, Ok, Err, sym, refl, subst, inl, inr}
+use Rattle.sled_nodes.proofs.Basics.{none_some}
 use Rattle.sled_nodes.specs.Order.{Key}
 use Rattle.sled_nodes.specs.Ranges.{Range}
 use Rattle.sled_nodes.specs.declared.error.Error.{Error}
@@ -49,9 +50,6 @@ use Rattle.sled.specs.theory.Watched.{AdvancesOver, TellsPrepared, links_watched
 use Rattle.sled.proofs.Watching.{short, alone}
 
 -- ---- the tables: a line that decides is that of a leaf, and there the call may be refused
-
-none_some : {P X : Type 0} {x : X} → None ≡ Some x → P
-none_some e = cc
 
 module _ (reply : Reply) where
   goes_not : {P : Type 0} (a : Stage) → Decided reply ≡ Go a → P

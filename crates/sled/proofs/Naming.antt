@@ -1,9 +1,10 @@
 -- The names of all trees.
-use Rattle.std.proofs.Common.{◌≡◌, ℕ, Bool, true, false, not, cond, ◌&&◌, List, [], ◌∷◌, map, Option, Some, None, option_map, Less, Equal, Greater, is_eq, refl, sym, ap, ◌∙◌, subst, inl, inr, ◌⊎◌}
+use Rattle.std.proofs.Common.{◌≡◌, ℕ, Bool, true, false, not, cond, List, [], ◌∷◌, map, Option, Some, None, option_map, Less, Equal, Greater, is_eq, refl, sym, ap, ◌∙◌, subst, inl, inr, ◌⊎◌}
 use Rattle.std.specs.FinMap.Entries.{find, is_sorted, below_all}
 use Rattle.std.specs.Ordering.{eq_by_cmp, is_lt, nat_cmp}
 use Rattle.std.specs.declared.cmp.Ordering.{Ordering}
 use Rattle.std.proofs.lemmas.Cmp.{tied_itself}
+use Rattle.sled_nodes.proofs.Basics.{none_some, false_true, both_true, key_total, key_same}
 use Rattle.sled_store.specs.In.{In}
 use Rattle.sled_nodes.specs.Order.{Key, key_cmp, Below}
 use Rattle.sled_store.specs.State.{nodes_of}
@@ -12,21 +13,10 @@ use Rattle.sled_model.specs.Maps.{Map, Merge}
 use Rattle.sled_model.specs.State.{NamedTree}
 use Rattle.tree_laws.specs.Forest.{contents}
 use Rattle.tree_laws.specs.Contents.{trees_of}
-use Rattle.tree_laws.proofs.Order.{key_total, key_same}
 use Rattle.sled.specs.Values.{DbValue, numbers_of, given_to, named, db_state}
 use Rattle.sled.specs.Sound.{IsDb}
 use Rattle.sled.specs.Names.{Ascend, AreNames}
 use Rattle.sled.proofs.Trees.{trees_at}
-
-none_some : {P X : Type 0} {x : X} → None ≡ Some x → P
-none_some e = cc
-
-false_true : {P : Type 0} → false ≡ true → P
-false_true e = cc
-
-both : (a b : Bool) → a && b ≡ true → (a ≡ true) × (b ≡ true)
-both true b e = (refl, e)
-both false b e = false_true e
 
 -- a name that is listed has a number
 listed : (ts : List (Key × ℕ)) (t : Key) → In t (map (λ r. r.0) ts) → (n : ℕ) × (find key_cmp t ts ≡ Some n)
@@ -54,7 +44,7 @@ numbered_in (r ∷ rs) t n e = go (numbered_in rs t n) (eq_by_cmp key_cmp t r.0)
 
 below_later : (k : Key) (ts : List (Key × ℕ)) → below_all key_cmp k ts ≡ true → (other : Key) → In other (map (λ r. r.0) ts) → Below k other
 below_later k [] e other i = absurd i
-below_later k (r ∷ rs) e other i = let b = both _ _ e in go (below_later k rs b.1 other) b.0 i
+below_later k (r ∷ rs) e other i = let b = both_true _ _ e in go (below_later k rs b.1 other) b.0 i
   where
     less : (o : Ordering) → is_lt o ≡ true → o ≡ Less
     less Less q = refl
@@ -67,7 +57,7 @@ below_later k (r ∷ rs) e other i = let b = both _ _ e in go (below_later k rs 
 
 ascending : (ts : List (Key × ℕ)) → is_sorted key_cmp ts ≡ true → Ascend (map (λ r. r.0) ts)
 ascending [] e = tt
-ascending (r ∷ rs) e = let b = both _ _ e in (below_later r.0 rs b.0, ascending rs b.1)
+ascending (r ∷ rs) e = let b = both_true _ _ e in (below_later r.0 rs b.0, ascending rs b.1)
 
 -- the names that are listed are those of the state's trees
 pub names_are : {P M : Type 0} (store : P → Store) (meant : M → Merge) (d : DbValue P M) → IsDb store d → (now (store d.pages)).in_group ≡ false → (names : List Key) → names ≡ map (λ r. r.0) d.trees → AreNames (db_state store meant d) names

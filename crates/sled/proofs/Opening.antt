@@ -7,6 +7,7 @@ use Rattle.std.specs.declared.cmp.Ordering.{Ordering}
 use Rattle.std.proofs.lemmas.Bool.Decides.{nat_tests}
 use Rattle.std.specs.Str.{bytes_eq}
 use Rattle.std.specs.declared.ops.Bound.TheVariants.{Included}
+use Rattle.sled_nodes.proofs.Basics.{none_some, some_is, false_true, key_same}
 use Rattle.sled_nodes.specs.Order.{Key, key_cmp}
 use Rattle.sled_nodes.specs.Among.{is_up_to}
 use Rattle.sled_nodes.specs.Node.{count}
@@ -29,7 +30,6 @@ use Rattle.tree_laws.specs.theory.Laws.{IsAlone}
 use Rattle.tree_laws.proofs.Crashing.{adds_page, adds_is, adds_extends, adds_unseen, extends_same, extends_then, flushes_same, flushes_left, flushes_valid_law}
 use Rattle.tree_laws.proofs.Known.{store_moment}
 use Rattle.tree_laws.proofs.Outside.{outside_kept, outside_contents, outside_sized}
-use Rattle.tree_laws.proofs.Order.{key_same}
 use Rattle.tree_laws.proofs.Roots.{plant_law}
 use Rattle.tree_laws.proofs.Fuel.{contents_law}
 use Rattle.sled.specs.declared.TheConstants.{DEFAULT_TREE}
@@ -40,15 +40,6 @@ use Rattle.sled.specs.Sound.{IsDb}
 use Rattle.sled.specs.Opens.{or_empty, with_tree, planted, MakesTree, StopsMaking, numbered, IsOnePage, CanBeOpened, RefusesTree, Opens}
 use Rattle.sled.specs.theory.Opens.{HasTree, AreNumbered}
 use Rattle.tree_laws.specs.Paths.{IsClean}
-
-none_some : {P X : Type 0} {x : X} → None ≡ Some x → P
-none_some e = cc
-
-some_is : {X : Type 0} {x y : X} → Some x ≡ Some y → x ≡ y
-some_is e = cc
-
-false_true : {P : Type 0} → false ≡ true → P
-false_true e = cc
 
 -- no key is below the empty one
 begins_all : (key : Key) → is_up_to (Included key) [] ≡ true

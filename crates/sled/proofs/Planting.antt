@@ -7,6 +7,7 @@ use Rattle.std.specs.FinMap.Entries.{put, find, find-put}
 use Rattle.std.specs.Ordering.{nat_cmp, eq_by_cmp}
 use Rattle.std.specs.Str.{bytes_eq}
 use Rattle.std.specs.declared.cmp.Ordering.{Ordering}
+use Rattle.sled_nodes.proofs.Basics.{none_some, false_true, key_total, key_same}
 use Rattle.sled_nodes.specs.Order.{Key, key_cmp}
 use Rattle.sled_store.specs.In.{In}
 use Rattle.sled_store.specs.Update.{put_at, put_name}
@@ -27,14 +28,13 @@ use Rattle.sled_model.specs.declared.reply.Reply.TheVariants as told
 use Rattle.sled_model.specs.declared.tree.Tree.{Tree}
 use Rattle.tree_laws.specs.Contents.{trees_of}
 use Rattle.tree_laws.specs.Crashes.{IsValid, AddsCrashStates}
-use Rattle.tree_laws.specs.Forest.{Forest, IsSized, contents}
+use Rattle.tree_laws.specs.Forest.{IsSized, contents}
 use Rattle.tree_laws.specs.Snapshot.{Snapshot, snapshot_of, nodes_at, HasForest}
 use Rattle.tree_laws.specs.theory.Laws.{Rooted, StepsForest, after_allocation, after_creation}
 use Rattle.tree_laws.specs.theory.Snapshot.{KeepsForest}
 use Rattle.tree_laws.specs.Stages.{IsOwn}
 use Rattle.tree_laws.proofs.Crashing.{extends_then}
 use Rattle.tree_laws.proofs.Known.{store_allocated, store_planted}
-use Rattle.tree_laws.proofs.Order.{key_total, key_same}
 use Rattle.tree_laws.proofs.Roots.{plant_law}
 use Rattle.tree_laws.proofs.Splitting.{allocates}
 use Rattle.tree_laws.proofs.States.{planted_law}
@@ -60,12 +60,6 @@ use Rattle.sled.proofs.Opening.{grown, calm_then, unseen, absent, planted_absent
 use Rattle.sled.proofs.Resting.{Rests, rests_only_faults, rests_now, rests_extends, now_rests}
 use Rattle.sled.proofs.Trees.{trees_at, maps_are}
 use Rattle.sled.proofs.Watching.{same_queues}
-
-none_some : {P X : Type 0} {x : X} → None ≡ Some x → P
-none_some e = cc
-
-false_true : {P : Type 0} → false ≡ true → P
-false_true e = cc
 
 -- ---- the names and their numbers
 

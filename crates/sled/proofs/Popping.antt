@@ -1,10 +1,11 @@
 -- Calls that take out the pair at an end of a tree, and clears.
-use Rattle.std.proofs.Common.{◌≡◌, ◌≢◌, ℕ, zero, suc, ◌+◌, min, ◌<◌, ◌≤◌, ◌⊎◌, Bool, true, false, not, cond, List, [], ◌∷◌, ◌++◌, append-nil, length, Option, Some, None, is_some, Result, Ok, Err, IfOk, IfErr, sym, refl, ap, ◌∙◌, subst, inl, inr, arith}
+use Rattle.std.proofs.Common.{◌≡◌, ◌≢◌, ℕ, zero, suc, ◌+◌, min, ◌<◌, ◌≤◌, ◌⊎◌, Bool, true, false, not, cond, List, [], ◌∷◌, ◌++◌, append-nil, length, Option, Some, None, is_some, Result, IfOk, IfErr, sym, refl, ap, ◌∙◌, subst, inl, inr, arith}
 use Rattle.std.proofs.lemmas.Cmp.{tied_itself}
 use Rattle.std.specs.List.{filter, list_any}
 use Rattle.std.specs.FinMap.Entries.{find}
 use Rattle.std.specs.Ordering.{is_eq, eq_by_cmp}
 use Rattle.std.specs.declared.ops.Bound.TheVariants.{Unbounded}
+use Rattle.sled_nodes.proofs.Basics.{some_is, true_false, key_total, ok_weaker, err_weaker}
 use Rattle.sled_nodes.specs.Order.{Key, key_cmp}
 use Rattle.sled_nodes.specs.Among.{is_from, is_up_to, IsSuccessor, IsPredecessor}
 use Rattle.sled_nodes.specs.Node.{without}
@@ -27,7 +28,6 @@ use Rattle.sled_model.specs.declared.reply.Reply.{Reply}
 use Rattle.sled_model.specs.declared.reply.Reply.TheVariants.{Pair, Done}
 use Rattle.sled_model.specs.declared.tree.Tree.{Tree}
 use Rattle.tree_laws.proofs.Crashing.{extends_again}
-use Rattle.tree_laws.proofs.Order.{key_total}
 use Rattle.tree_laws.specs.Paths.{tree_pages}
 use Rattle.tree_reads.specs.Walk.{once, for_each}
 use Rattle.tree_reads.specs.declared.TheConstants.{MOST_PAGES}
@@ -43,24 +43,6 @@ use Rattle.sled.proofs.Conducting.{conducts_then, conducts_none, conducts_refuse
 use Rattle.sled.proofs.Counting.{told_one}
 use Rattle.sled.proofs.Testing.{tested_calm}
 use Rattle.sled.proofs.Trees.{maps_are}
-
-none_some : {P X : Type 0} {x : X} → None ≡ Some x → P
-none_some e = cc
-
-some_is : {X : Type 0} {x y : X} → Some x ≡ Some y → x ≡ y
-some_is e = cc
-
-true_false : {P : Type 0} → true ≡ false → P
-true_false e = cc
-
--- what holds of an answer, and of an error
-ok_weaker : {A E : Type 0} (p q : A → Type 0) → ((a : A) → p a → q a) → (r : Result A E) → IfOk r p → IfOk r q
-ok_weaker p q h (Ok a) k = h a k
-ok_weaker p q h (Err e) k = tt
-
-err_weaker : {A E : Type 0} (p q : E → Type 0) → ((e : E) → p e → q e) → (r : Result A E) → IfErr r p → IfErr r q
-err_weaker p q h (Ok a) k = tt
-err_weaker p q h (Err e) k = h e k
 
 -- ---- the ends of a map
 

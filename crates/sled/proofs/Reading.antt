@@ -3,6 +3,7 @@ use Rattle.std.proofs.Common.{◌≡◌, ℕ, ◌+◌, ◌<◌, Bool, true, fals
 use Rattle.std.specs.FinMap.Entries.{find}
 use Rattle.std.specs.declared.ops.Bound.{Bound}
 use Rattle.std.specs.declared.ops.Bound.TheVariants.{Included, Unbounded}
+use Rattle.sled_nodes.proofs.Basics.{none_some, some_is}
 use Rattle.sled_nodes.specs.Order.{Key, key_cmp}
 use Rattle.sled_nodes.specs.Among.{IsSuccessor}
 use Rattle.sled_nodes.specs.Ranges.{is_reversed}
@@ -25,12 +26,6 @@ use Rattle.sled.specs.Sound.{IsDb}
 use Rattle.sled.specs.Calls.{MustBeRefused, must_be_refused_as}
 use Rattle.sled.specs.Reads.{ReadsMap, BeginsRange, RefusesReading, refuses_reading_as, stops_reading, RefusesRange, refuses_range_as, GivesUpGet, gives_up_get_as}
 use Rattle.sled.proofs.Trees.{current}
-
-some_is : {X : Type 0} {x y : X} → Some x ≡ Some y → x ≡ y
-some_is e = cc
-
-none_some : {P X : Type 0} {x : X} → None ≡ Some x → P
-none_some e = cc
 
 -- what reads need of a database between two calls: a forest that shows its pages well formed, and that its pages were given
 pub root_is : {P M : Type 0} (store : P → Store) (d : DbValue P M) → IsDb store d → (t : Key) (root : ℕ) → (now (store d.pages)).roots t ≡ Some root → IsRoot (now (store d.pages)) root

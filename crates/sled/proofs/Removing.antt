@@ -7,6 +7,7 @@ use Rattle.std.specs.FinMap.Entries.{find, find-where_key, is_sorted}
 use Rattle.std.specs.List.{AllByRecursion, IsDistinct, concat}
 use Rattle.std.specs.Ordering.{nat_cmp, eq_by_cmp}
 use Rattle.std.specs.Str.{bytes_eq}
+use Rattle.sled_nodes.proofs.Basics.{none_some, some_is, false_true}
 use Rattle.sled_store.specs.In.{In}
 use Rattle.sled_nodes.specs.Order.{Key, key_cmp}
 use Rattle.sled_nodes.specs.Node.{without, count}
@@ -56,15 +57,6 @@ use Rattle.sled.proofs.Opening.{default_is}
 use Rattle.sled.proofs.Numbering.{leaves_rests}
 use Rattle.sled.proofs.Resting.{rests_same, rests_refused, rests_now}
 use Rattle.sled.proofs.Trees.{trees_at, trees_same, maps_are}
-
-none_some : {P X : Type 0} {x : X} → None ≡ Some x → P
-none_some e = cc
-
-some_is : {X : Type 0} {x y : X} → Some x ≡ Some y → x ≡ y
-some_is e = cc
-
-false_true : {P : Type 0} → false ≡ true → P
-false_true e = cc
 
 -- ---- the actions, as a list
 

@@ -1,5 +1,6 @@
 -- The tests that come before a call.
 use Rattle.std.proofs.Common.{◌≡◌, Bool, true, false, not, ◌&&◌, cond, [], ◌∷◌, Option, Some, None, refl, sym, ap, ◌∙◌}
+use Rattle.sled_nodes.proofs.Basics.{none_some, not_true}
 use Rattle.sled_store.specs.Store.{Store, now}
 use Rattle.sled_model.specs.Maps.{Merge}
 use Rattle.sled_model.specs.State.{State}
@@ -10,9 +11,6 @@ use Rattle.sled_model.specs.declared.call.Call.{Call}
 use Rattle.sled_model.specs.declared.call.Whole.TheVariants.{Flush}
 use Rattle.sled_model.specs.declared.tree.Tree.{Tree}
 use Rattle.sled.specs.Values.{DbValue, db_state}
-
-none_some : {P X : Type 0} {x : X} → None ≡ Some x → P
-none_some e = cc
 
 pub first_alone : (a : Option MustRefuse) → first_of a None ≡ a
 first_alone None = refl
@@ -60,13 +58,6 @@ tested_open s t e = go s.is_open (first_of (foreign_test s.name (t ∷ [])) (dro
     go : (b : Bool) (later : Option MustRefuse) → first_of (cond b None (Some IsClosed)) later ≡ None → b ≡ true
     go true later e = refl
     go false later e = none_some (sym e)
-
-not_true : (b : Bool) → not b ≡ true → b ≡ false
-not_true false e = refl
-not_true true e = absurd (apart e)
-  where
-    apart : false ≡ true → ⊥
-    apart e = cc
 
 module _ {P M : Type 0} (store : P → Store) (meant : M → Merge) (old : DbValue P M) where
   -- .. and so no group is open

@@ -6,6 +6,7 @@ use Rattle.std.proofs.lemmas.Option.{slice_get-map, slice_get_within, get_or_fro
 use Rattle.std.specs.declared.ops.Bound.TheVariants.{Included}
 use Rattle.std.specs.FinMap.Entries.{find}
 use Rattle.std.specs.Str.{bytes_eq}
+use Rattle.sled_nodes.proofs.Basics.{none_some, some_is}
 use Rattle.sled_nodes.specs.Order.{Key, key_cmp}
 use Rattle.sled_nodes.specs.declared.error.Error.{Error}
 use Rattle.sled_nodes.specs.declared.error.Error.TheVariants.{CollectionNotFound, Unsupported, ReportableBug, Io, Corruption, NoMemory, Closed}
@@ -114,12 +115,6 @@ module _ {P M : Type 0} (store : P → Store) (flush_number : P → ℕ) (meant 
     fails_know e new f h k = fails_know_as e new f.is h k
 
 -- ---- the tests of a list
-
-some_is : {X : Type 0} {x y : X} → Some x ≡ Some y → x ≡ y
-some_is e = cc
-
-none_some : {P X : Type 0} {x : X} → None ≡ Some x → P
-none_some e = cc
 
 foreign_zip : (name : Key) (trees : List Tree) (writes : List Writes) → foreign_test name trees ≡ None → foreign_test name (trees_of_batches (zip trees writes)) ≡ None
 foreign_zip name [] writes e = refl

@@ -4,6 +4,7 @@ use Rattle.std.proofs.Math.Path.{fun_ext}
 use Rattle.std.proofs.lemmas.Bool.{eqb-true}
 use Rattle.std.specs.FinMap.Entries.{is_sorted}
 use Rattle.std.specs.Str.{bytes_eq}
+use Rattle.sled_nodes.proofs.Basics.{none_some, some_is}
 use Rattle.sled_nodes.specs.Order.{Key, key_cmp}
 use Rattle.sled_store.specs.Update.{put_name}
 use Rattle.sled_store.specs.theory.Facts.{same_name}
@@ -20,12 +21,6 @@ use Rattle.tree_laws.proofs.Fuel.{contents_law}
 use Rattle.tree_laws.proofs.Reading.{sorted_law}
 use Rattle.sled.specs.Values.{DbValue, numbers_of, given_to, named, db_state, snapshot_of_db}
 use Rattle.sled.specs.Sound.{IsDb, MapsAscend}
-
-none_some : {P X : Type 0} {x : X} → None ≡ Some x → P
-none_some e = cc
-
-some_is : {X : Type 0} {x y : X} → Some x ≡ Some y → x ≡ y
-some_is e = cc
 
 -- the contents of each name that has a number
 pub trees_at : (s : Store) (numbers : Key → Option ℕ) (given : ℕ → Bool) (w : Forest) → HasForest (snapshot_of s numbers given) w → (t : Key) → trees_of (now s) t ≡ option_map (λ _. contents (nodes_of (now s)) w t) (numbers t)

@@ -1,9 +1,9 @@
 -- One step of a call in flight, over the pages and the queues of subscribers.
-use Rattle.std.proofs.Common.{◌≡◌, ℕ, Bool, false, cond, [], ◌∷◌, ◌++◌, Option, Some, None, option_map, MatchOption, sym, refl, ap, ◌∙◌, subst, inl, inr}
+use Rattle.std.proofs.Common.{◌≡◌, ℕ, Bool, false, cond, [], ◌∷◌, ◌++◌, Option, Some, None, option_map, sym, refl, ap, ◌∙◌, subst}
 use Rattle.std.proofs.Math.Path.{fun_ext}
+use Rattle.sled_nodes.proofs.Basics.{none_some, some_is}
 use Rattle.sled_nodes.specs.Order.{Key}
-use Rattle.sled_nodes.specs.Node.{after_link}
-use Rattle.sled_store.specs.Store.{Store, now, IsRefused}
+use Rattle.sled_store.specs.Store.{Store}
 use Rattle.sled_nodes.specs.declared.error.Error.{Error}
 use Rattle.sled_nodes.specs.declared.error.Error.TheVariants as error
 use Rattle.sled_store.specs.declared.page.View.{View}
@@ -21,27 +21,15 @@ use Rattle.sled_queues.specs.Tells.{waits_for, IsUnwatched}
 use Rattle.sled_queues.proofs.Lawful.{cancels_law}
 use Rattle.tree_laws.specs.declared.flight.Stage.{Stage}
 use Rattle.tree_laws.specs.declared.flight.Stage.TheVariants as stage
-use Rattle.sled_tree.specs.Change.{link_of, decision_at}
-use Rattle.sled_tree.specs.Course.{course_of}
-use Rattle.sled_tree.specs.Follows.{Follows, TakesWay}
+use Rattle.sled_tree.specs.Change.{decision_at}
 use Rattle.sled_tree.specs.theory.Change.{event_of_link}
-use Rattle.sled_tree.specs.theory.Linking.{IsAtLink, begun_again, PreparesChange, StepsBy, LinksPrepared}
-use Rattle.sled_tree.specs.theory.StageAction.{StageActionBy, Only}
+use Rattle.sled_tree.specs.theory.Linking.{PreparesChange, StepsBy, LinksPrepared}
 use Rattle.sled_tree.specs.declared.act.Change.{Change}
 use Rattle.sled_tree.specs.declared.flight.InFlight.{InFlight}
-use Rattle.sled_tree.specs.declared.flight.Next.TheVariants as next
 use Rattle.sled_tree.specs.declared.flight.Went.{Went}
 use Rattle.sled_tree.specs.declared.flight.Went.TheVariants.{Moved, Yielded, Decided, Refused}
-use Rattle.sled_tree.proofs.Facts.{unable, restarts, goes_on, by_these}
-use Rattle.sled_tree.proofs.Linking.{change_event}
-use Rattle.sled_tree.proofs.Passing.{act_changes, passes_further}
+use Rattle.sled_tree.proofs.Linking.{unprepared, change_event}
 use Rattle.sled.specs.theory.Watched.{told, told_by, tells_as, links_watched_as, AdvancesOver}
-
-none_some : {P X : Type 0} {x : X} → None ≡ Some x → P
-none_some e = cc
-
-some_is : {X : Type 0} {x y : X} → Some x ≡ Some y → x ≡ y
-some_is e = cc
 
 -- queues that stay as they are
 pub same_queues : (old new : QueuesValue) → new ≡ old → Becomes (queue_at old) old.given new
@@ -59,30 +47,8 @@ module _ (operator : Option Merge) (a : Store) (f : InFlight) (view : View) (her
   -- there is no memory
   pub short : (e : Error) → e ≡ error.NoMemory → (old new : QueuesValue) → new ≡ old → AdvancesOver operator a old f (Refused e) a new f
   short e none old new same = record {
-    steps = record {
-      advances = record { is = subst (λ z. StageActionBy (Only operator) (course_of f) a z (next.Refused e) a) (sym here) (by_these (course_of f) a a (stage.Act view) (next.Refused e) (unable (course_of f) a (stage.Act view) e none)) };
-      passes = record { is = tt };
-      follows = record { is = subst (λ z. Follows (course_of f) a z (next.Refused e) a) (sym here) (record { is = inr (e, refl, subst (λ z. IsRefused z a a) (sym none) (record { is = refl })) }) };
-    };
+    steps = unprepared operator a f view here e f none;
     tells = same_queues old new same;
-  }
-
-  -- it changes nothing
-  pub unchanged : PreparesChange operator f None → (queues : QueuesValue) → AdvancesOver operator a queues f Moved a queues (begun_again f)
-  unchanged p queues = record {
-    steps = record {
-      advances = goes_on a a f (stage.Act view) stage.Root (next.Go stage.Root) (sym here) refl (by_these (course_of f) a a (stage.Act view) (next.Go stage.Root) (restarts (course_of f) a (stage.Act view) (λ q i. i)));
-      passes = passes_further (now a) (now a) f (stage.Act view) stage.Root (next.Go stage.Root) (sym here) refl (act_changes operator (course_of f) (now a) (now a) view (next.Go stage.Root) (p.is view here));
-      follows = record {
-        is = subst (λ z. Follows (course_of f) a z (next.Go stage.Root) a) (sym here) (record {
-          is = inl (record {
-            operator = operator;
-            is = subst (λ (e : Effect). MatchOption (link_of e (key_of f.job.call)) ((a ≡ a) × (next.Go stage.Root ≡ next.Go stage.Root)) (λ link. TakesWay (after_link link) view.pid view.version a a (next.Go stage.Root) (λ _. next.Decided (decision_at operator f.job.call view.node.content).reply) (λ _. next.Go stage.Root))) (sym (p.is view here)) (refl, refl);
-          });
-        });
-      };
-    };
-    tells = same_queues queues queues refl;
   }
 
   -- its event is prepared
@@ -146,8 +112,3 @@ module _ (operator : Option Merge) (a b : Store) (f g : InFlight) (queues : Queu
       tells (Yielded key value) = same_queues queues queues refl
       tells (Decided reply) = quiet f.stage refl
       tells (Refused e) = same_queues queues queues refl
-
--- a call at its link has the leaf that it read
-pub at_link : (s : Stage) → IsAtLink s → (view : View) × (s ≡ stage.Act view)
-at_link (stage.Act view) is = (view, refl)
-at_link other is = absurd is

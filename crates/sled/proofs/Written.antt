@@ -1,13 +1,12 @@
 -- What the writes of a group make of a key, and which of them change something.
 use Rattle.std.proofs.Common.{◌≡◌, ◌≢◌, Bool, true, false, not, ◌&&◌, cond, List, [], ◌∷◌, ◌++◌, map, append_assoc, append-nil, Option, Some, None, is_some, Less, Equal, Greater, is_eq, is_lt, refl, sym, ap, ◌∙◌}
-use Rattle.std.specs.Cmp.{IsTotalOrder}
-use Rattle.std.specs.FinMap.{slice_cmp-IsAntisymmetric, nat_cmp-IsAntisymmetric}
 use Rattle.std.specs.FinMap.Entries.{find, find-put, find-where_key, below_all, is_sorted}
 use Rattle.std.specs.Option.{option_to_list}
 use Rattle.std.specs.Ordering.{eq_by_cmp}
 use Rattle.std.specs.Str.{bytes_eq}
 use Rattle.std.specs.declared.cmp.Ordering.{Ordering}
-use Rattle.std.proofs.lemmas.Cmp.{nat_list_cmp_total, tied_itself}
+use Rattle.std.proofs.lemmas.Cmp.{tied_itself}
+use Rattle.sled_nodes.proofs.Basics.{both_true, key_total, key_same, tied}
 use Rattle.sled_nodes.specs.Order.{Key, key_cmp}
 use Rattle.sled_nodes.specs.Node.{without}
 use Rattle.sled_batch.specs.Batch.{Writes, Rises}
@@ -23,22 +22,6 @@ use Rattle.sled_tree.specs.declared.flight.Job.{Job}
 use Rattle.sled.specs.theory.Groups.{jobs_of_write, value_in}
 
 -- ---- the order of keys
-
-key_total : IsTotalOrder key_cmp
-unfolding key_cmp
-key_total = nat_list_cmp_total
-
-key_same : (a b : Key) → key_cmp a b ≡ Equal → a ≡ b
-unfolding key_cmp
-key_same a b e = slice_cmp-IsAntisymmetric nat_cmp-IsAntisymmetric a b e
-
-tied : (a b : Key) → eq_by_cmp key_cmp a b ≡ true → a ≡ b
-tied a b e = key_same a b (go (key_cmp a b) e)
-  where
-    go : (o : Ordering) → is_eq o ≡ true → o ≡ Equal
-    go Less e = cc
-    go Equal e = refl
-    go Greater e = cc
 
 is_tied : (a : Key) → eq_by_cmp key_cmp a a ≡ true
 is_tied a = ap is_eq (tied_itself key_total a)
@@ -136,10 +119,6 @@ abbrev pub written_or : Option (Option Key) → Option Key → Option Key
 written_or None before = before
 written_or (Some value) before = value
 
-both_of : (a b : Bool) → a && b ≡ true → (a ≡ true) × (b ≡ true)
-both_of true b e = (refl, e)
-both_of false b e = cc
-
 untied : (o : Ordering) → is_lt o ≡ true → is_eq o ≡ false
 untied Less e = refl
 untied Equal e = cc
@@ -149,20 +128,20 @@ untied Greater e = cc
 below_found : {X : Type 0} (key : Key) (es : List (Key × X)) → below_all key_cmp key es ≡ true → find key_cmp key es ≡ None
 below_found key [] e = refl
 below_found key (d ∷ es) e =
-    let parts = both_of _ _ e in
+    let parts = both_true _ _ e in
     ap (λ b. cond b (Some d.1) (find key_cmp key es)) (untied (key_cmp key d.0) parts.0) ∙ below_found key es parts.1
 
 pub writes_here : (tree : Tree) (ws : Writes) (s : State) (q : Key) → Rises ws → is_some (s.trees tree.name) ≡ true → value_in ((after_writes (writes_on tree ws) s).trees tree.name) q ≡ written_or (find key_cmp q ws) (value_in (s.trees tree.name) q)
 writes_here tree [] s q rises there = refl
 writes_here tree (w ∷ ws) s q rises there =
     let first : Write = record { tree = tree; key = w.0; value = w.1 } in
-    let parts = both_of _ _ rises in
+    let parts = both_true _ _ rises in
     writes_here tree ws (after_write first s) q parts.1 (write_keeps first s tree.name ∙ there)
     ∙ ap (written_or (find key_cmp q ws)) (write_here first s q there)
     ∙ joined (eq_by_cmp key_cmp q w.0) refl
   where
     joined : (b : Bool) → eq_by_cmp key_cmp q w.0 ≡ b → written_or (find key_cmp q ws) (cond b w.1 (value_in (s.trees tree.name) q)) ≡ written_or (cond b (Some w.1) (find key_cmp q ws)) (value_in (s.trees tree.name) q)
-    joined true p = ap (λ o. written_or o w.1) (ap (λ k. find key_cmp k ws) (tied q w.0 p) ∙ below_found w.0 ws (both_of _ _ rises).0)
+    joined true p = ap (λ o. written_or o w.1) (ap (λ k. find key_cmp k ws) (tied q w.0 p) ∙ below_found w.0 ws (both_true _ _ rises).0)
     joined false p = refl
 
 -- ---- writes that come one after the other
@@ -205,12 +184,12 @@ made_elsewhere before b s tree q off =
 pub not_before : {X : Type 0} (done : List (Key × X)) (key : Key) (value : X) (more : List (Key × X)) → is_sorted key_cmp (done ++ (key, value) ∷ more) ≡ true → find key_cmp key done ≡ None
 not_before [] key value more rises = refl
 not_before {X = X} (d ∷ done) key value more rises =
-    let parts = both_of _ _ rises in
+    let parts = both_true _ _ rises in
     ap (λ b. cond b (Some d.1) (find key_cmp key done)) (turned key d.0 ∙ untied (key_cmp d.0 key) (later done parts.0)) ∙ not_before done key value more parts.1
   where
     later : (es : List (Key × X)) → below_all key_cmp d.0 (es ++ (key, value) ∷ more) ≡ true → is_lt (key_cmp d.0 key) ≡ true
-    later [] e = (both_of _ _ e).0
-    later (x ∷ es) e = later es (both_of _ _ e).1
+    later [] e = (both_true _ _ e).0
+    later (x ∷ es) e = later es (both_true _ _ e).1
 
 -- so that the writes before it leave its value
 pub still_there : (tree : Tree) (done : Writes) (key : Key) (value : Option Key) (more : Writes) (s : State) → Rises (done ++ (key, value) ∷ more) → is_some (s.trees tree.name) ≡ true
@@ -223,11 +202,11 @@ still_there tree done key value more s rises there = writes_here tree done s key
 
     below : (x : Key) (es : Writes) → below_all key_cmp x (es ++ (key, value) ∷ more) ≡ true → below_all key_cmp x es ≡ true
     below x [] e = refl
-    below x (d ∷ es) e = let parts = both_of _ _ e in joined _ _ parts.0 (below x es parts.1)
+    below x (d ∷ es) e = let parts = both_true _ _ e in joined _ _ parts.0 (below x es parts.1)
 
     beginning : (es : Writes) → Rises (es ++ (key, value) ∷ more) → Rises es
     beginning [] e = refl
-    beginning (d ∷ es) e = let parts = both_of _ _ e in joined _ _ (below d.0 es parts.0) (beginning es parts.1)
+    beginning (d ∷ es) e = let parts = both_true _ _ e in joined _ _ (below d.0 es parts.0) (beginning es parts.1)
 
 abbrev pub job_of : Write → Job
 job_of w = record { tree = w.tree; call = call_of_write w }

@@ -4,6 +4,7 @@ use Rattle.std.specs.FinMap.Entries.{find}
 use Rattle.std.specs.Ordering.{nat_cmp}
 use Rattle.std.specs.declared.ops.Bound.{Bound}
 use Rattle.std.specs.declared.ops.Bound.TheVariants.{Included, Excluded, Unbounded}
+use Rattle.sled_nodes.proofs.Basics.{none_some, some_is, true_false}
 use Rattle.sled_nodes.specs.Order.{Key}
 use Rattle.sled_nodes.specs.Node.{pairs}
 use Rattle.sled_nodes.specs.Ranges.{Range, pairs_in}
@@ -62,15 +63,6 @@ use Rattle.sled.specs.Flights.{call_in_flight_of, next_of, follows_as, has_path,
 use Rattle.sled.specs.theory.Watched.{StepsOver, steps_over_as}
 use Rattle.sled.proofs.Flying.{at, is_db, calm_still, no_group, operator, tree_now, there, named_now, state_over, loses_acting, refuses_quietly, cause_is, touches_acting, told_now, done_state, flies_moved, moved_db, flies_refused, refused_db, flown}
 use Rattle.sled.proofs.Trees.{trees_put, maps_are}
-
-none_some : {P X : Type 0} {x : X} → None ≡ Some x → P
-none_some e = cc
-
-some_is : {X : Type 0} {x y : X} → Some x ≡ Some y → x ≡ y
-some_is e = cc
-
-true_false : {X : Type 0} → true ≡ false → X
-true_false e = cc
 
 -- a scan is on no key
 off_key : (call : Call) (range : Range) → range_of call ≡ Some range → IsOnKey call → ⊥

@@ -1,24 +1,17 @@
 -- A list whose keys rise is made again by putting its entries in one after the other.
-use Rattle.std.proofs.Common.{◌≡◌, Bool, true, false, ◌&&◌, List, [], ◌∷◌, ◌++◌, append_assoc, append-nil, Option, Ordering, Less, Equal, Greater, is_lt, refl, sym, ap, subst, ◌∙◌}
+use Rattle.std.proofs.Common.{◌≡◌, true, List, [], ◌∷◌, ◌++◌, append_assoc, append-nil, Option, Ordering, Less, Equal, Greater, is_lt, refl, sym, ap, subst, ◌∙◌}
 use Rattle.std.specs.FinMap.Entries.{by_order, put, is_sorted, below_all}
 use Rattle.std.specs.Ordering.{ordering_reverse}
 use Rattle.std.specs.Cmp.{IsTotalOrder}
 use Rattle.std.specs.Cmp.Lexicographic.{nat_list_cmp_total}
+use Rattle.sled_nodes.proofs.Basics.{first_true, second_true}
 use Rattle.sled_nodes.specs.Order.{Key, key_cmp}
 use Rattle.sled_batch.specs.Batch.{Writes, Rises}
 
-first_of : (a b : Bool) → a && b ≡ true → a ≡ true
-first_of true b e = refl
-first_of false b e = cc
-
-second_of : (a b : Bool) → a && b ≡ true → b ≡ true
-second_of true b e = e
-second_of false b e = cc
-
 -- what stands below all entries stands below the first of a later part
 below_later : {K X : Type 0} (R : K → K → Ordering) (x : K) (es : List (K × X)) (e : K × X) (rest : List (K × X)) → below_all R x (es ++ e ∷ rest) ≡ true → is_lt (R x e.0) ≡ true
-below_later R x [] e rest h = first_of _ _ h
-below_later R x (d ∷ es) e rest h = below_later R x es e rest (second_of _ _ h)
+below_later R x [] e rest h = first_true _ _ h
+below_later R x (d ∷ es) e rest h = below_later R x es e rest (second_true _ _ h)
 
 turned : (r : Ordering) → is_lt r ≡ true → ordering_reverse r ≡ Greater
 turned Less h = refl
@@ -31,8 +24,8 @@ above R o x y h = o.antisymm y x ∙ turned (R x y) h
 put_last : {K X : Type 0} (R : K → K → Ordering) (o : IsTotalOrder R) (es : List (K × X)) (e : K × X) (rest : List (K × X)) → is_sorted R (es ++ e ∷ rest) ≡ true → put R e.0 e.1 es ≡ es ++ e ∷ []
 put_last R o [] e rest h = refl
 put_last R o (d ∷ es) e rest h =
-    ap (λ r. by_order r (e ∷ d ∷ es) ((d.0, e.1) ∷ es) (d ∷ put R e.0 e.1 es)) (above R o d.0 e.0 (below_later R d.0 es e rest (first_of _ _ h)))
-    ∙ ap (λ l. d ∷ l) (put_last R o es e rest (second_of _ _ h))
+    ap (λ r. by_order r (e ∷ d ∷ es) ((d.0, e.1) ∷ es) (d ∷ put R e.0 e.1 es)) (above R o d.0 e.0 (below_later R d.0 es e rest (first_true _ _ h)))
+    ∙ ap (λ l. d ∷ l) (put_last R o es e rest (second_true _ _ h))
 
 -- so far these were put in, and those are left
 pub record SoFar (all copy left : Writes) : Type 0 where

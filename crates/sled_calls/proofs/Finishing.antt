@@ -2,6 +2,7 @@
 use Rattle.std.proofs.Common.{◌≡◌, ◌≢◌, ℕ, zero, suc, ◌+◌, ◌<◌, cond, List, [], ◌∷◌, length, Some, None, option_map, inr, sym, refl, ap, ◌∙◌, subst, arith}
 use Rattle.std.specs.Cmp.{unsigned_tied}
 use Rattle.std.specs.declared.ops.Bound.TheVariants.{Included}
+use Rattle.sled_nodes.proofs.Basics.{none_some, some_is}
 use Rattle.sled_store.specs.Update.{put_at}
 use Rattle.sled_store.specs.Store.{Store, now}
 use Rattle.sled_nodes.specs.declared.error.Error.{Error}
@@ -37,12 +38,6 @@ use Rattle.sled_calls.specs.Finish.{steps_of, outcomes_of, RunsToEnd, Completes}
 use Rattle.sled_calls.proofs.Steps.{put_same, put_again, put_itself}
 use Rattle.sled_calls.proofs.Runs.{performs_none, performs_first}
 use Rattle.sled_calls.proofs.Machines.{put_here, missing_step, stepped_as, begun_call, begun_machine, free_slot, rests_as}
-
-none_some : {P A : Type 0} {a : A} → None ≡ Some a → P
-none_some e = cc
-
-some_is : {A : Type 0} {a b : A} → Some a ≡ Some b → a ≡ b
-some_is e = cc
 
 -- a call stands in its slot as it is now, wherever it stood
 onto : (fs : List (ℕ × InFlight)) (slot : ℕ) (h : InFlight) (q : ℕ) → kept_at ((slot, h) ∷ fs) q ≡ put_at (kept_at fs) slot (Some h) q

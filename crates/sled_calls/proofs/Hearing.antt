@@ -2,6 +2,7 @@
 use Rattle.std.proofs.Common.{◌≡◌, ℕ, ◌≤◌, true, nat_eq, cond, List, ◌++◌, Option, Some, None, refl, sym, ap, subst, ◌∙◌, arith}
 use Rattle.std.proofs.lemmas.Bool.{eq-eqb}
 use Rattle.std.proofs.lemmas.Bool.Decides.{nat_tests}
+use Rattle.sled_nodes.proofs.Basics.{none_some, some_is}
 use Rattle.sled_nodes.specs.Order.{Key}
 use Rattle.sled_store.specs.Store.{Store}
 use Rattle.sled_model.specs.Maps.{Map, Merge}
@@ -31,12 +32,6 @@ use Rattle.sled_calls.specs.Hears.{queues_at, turns_of_step, turns_of_run, told_
 use Rattle.sled_calls.specs.Run.{MakesSteps, NoStep, OneStep}
 use Rattle.sled_calls.specs.Step.{MachineStep}
 use Rattle.sled_calls.specs.Values.{MachineValue, configuration_of}
-
-some_is : {A : Type 0} {a b : A} → Some a ≡ Some b → a ≡ b
-some_is e = cc
-
-none_some : {P A : Type 0} {a : A} → None ≡ Some a → P
-none_some e = cc
 
 -- a named tree has the number of its name
 number_named : (o : Option ℕ) (m : Option Map) (merge : ℕ → Option Merge) (t : NamedTree) → named o m merge ≡ Some t → o ≡ Some t.number

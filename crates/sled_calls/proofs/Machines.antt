@@ -1,9 +1,10 @@
 -- What the calls of a machine do, by its fields.
-use Rattle.std.proofs.Common.{◌≡◌, ◌≢◌, ℕ, ◌+◌, ◌<◌, ◌≤◌, true, false, cond, nat_eq, List, [], ◌∷◌, ◌++◌, Option, Some, None, is_some, Result, Ok, Err, IfErr, option_map, map, sym, refl, ap, ◌∙◌, subst, inl, inr, ◌⊎◌, arith}
+use Rattle.std.proofs.Common.{◌≡◌, ◌≢◌, ℕ, ◌+◌, ◌<◌, ◌≤◌, true, false, cond, nat_eq, List, [], ◌∷◌, ◌++◌, Option, Some, None, is_some, option_map, map, sym, refl, ap, ◌∙◌, subst, inl, inr, ◌⊎◌, arith}
 use Rattle.std.proofs.Math.Path.{fun_ext}
 use Rattle.std.specs.Borrow.{Bor}
 use Rattle.std.specs.Option.{option_copied}
-use Rattle.std.proofs.lemmas.Bool.{eq-eqb, ne_eqb, eqb-true}
+use Rattle.std.proofs.lemmas.Bool.{eq-eqb, ne_eqb}
+use Rattle.sled_nodes.proofs.Basics.{none_some, some_is, false_true, same_or_not}
 use Rattle.sled_store.specs.Update.{put_at}
 use Rattle.sled_store.specs.Store.{Store, now}
 use Rattle.sled_nodes.specs.declared.error.Error.{Error}
@@ -55,15 +56,6 @@ use Rattle.sled_calls.specs.Sound.{IsMachine}
 use Rattle.sled_calls.specs.StepsInSlot.{flight_after}
 use Rattle.sled_calls.proofs.Runs.{extended, leaves_same}
 
-none_some : {P A : Type 0} {a : A} → None ≡ Some a → P
-none_some e = cc
-
-some_is : {A : Type 0} {a b : A} → Some a ≡ Some b → a ≡ b
-some_is e = cc
-
-false_true : {P : Type 0} → false ≡ true → P
-false_true e = cc
-
 -- whether there is some
 pub some_there : {A : Type 0} (o : Option A) → is_some o ≡ true → (a : A) × (o ≡ Some a)
 some_there None e = false_true e
@@ -72,9 +64,6 @@ some_there (Some a) e = (a, refl)
 pub none_there : {A : Type 0} (o : Option A) → is_some o ≡ false → o ≡ None
 none_there None e = refl
 none_there (Some a) e = false_true (sym e)
-
-same_or_not : (a b : ℕ) → (a ≡ b) ⊎ (a ≢ b)
-same_or_not a b = elim (nat_eq a b) as (λ t. nat_eq a b ≡ t → (a ≡ b) ⊎ (a ≢ b)) [ true ↦ λ e. inl (eqb-true a b e) | false ↦ λ e. inr (λ h. false_true (sym e ∙ eq-eqb a b h)) ] refl
 
 pub put_here : {X : Type 0} (f : ℕ → X) (p : ℕ) (a : X) → put_at f p a p ≡ a
 put_here f p a = ap (λ b. cond b a (f p)) (eq-eqb p p refl)
@@ -516,8 +505,3 @@ module _ {P M : Type 0} (store : P → Store) (number : P → ℕ) (meant : M �
   pub room_as : (tree : Tree) (call : Call) (r : Error) → must_refuse (db_state store meant old.db) (ToBegin tree call) ≡ None → r ≡ Rattle.sled_nodes.specs.declared.error.Error.TheVariants.NoMemory → (gs : List (ℕ × InFlight)) → gs ≡ inside.flights
       → MachineStepContract store number meant old (step.Begin tree call) (outcome.Refused r) (record inside { flights = gs })
   room_as tree call r must m gs g = subst (λ z. MachineStepContract store number meant old (step.Begin tree call) (outcome.Refused r) z) (sym e ∙ ap (λ z. record inside { flights = z }) (sym g)) (memory_as tree call r (tested_inside tree call must) m)
-
--- what holds of any error of a kind
-pub err_weaker : {A E : Type 0} (P Q : E → Type 0) → ((e : E) → P e → Q e) → (r : Result A E) → IfErr r P → IfErr r Q
-err_weaker P Q h (Ok a) k = tt
-err_weaker P Q h (Err e) k = h e k

@@ -13,6 +13,7 @@ use Rattle.std.proofs.Math.Seq.{drop-cons}
 use Rattle.std.specs.Char.{is_ascii_digit, digit_value}
 use Rattle.std.specs.Str.{all_ascii_digits}
 use Rattle.std.specs.Str.Parse.{digits_value_after}
+use Rattle.sled_nodes.proofs.Basics.{none_some, both_true}
 
 -- digits are read one by one
 pub all_ascii_digits-drop : (word : List ℕ) (i : ℕ) → i < length word → all_ascii_digits (drop i word) ≡ (is_ascii_digit (get_or word i 0) && all_ascii_digits (drop (i + 1) word))
@@ -73,21 +74,10 @@ read_number-decimal (digit ∷ next ∷ others) n small is =
     let other : (digit == 48) ≡ false = grind (arith, nat_tests) in
     cond-false _ _ _ other ∙ number_of-decimal (digit ∷ next ∷ others) n small is
 
-false_not_true : false ≡ true → ⊥
-false_not_true e = cc
-
-none_not_some : {X : Type 0} {x : X} → None ≡ Some x → ⊥
-none_not_some e = cc
-
-both_true : (x y : Bool) → (x && y) ≡ true → (x ≡ true) × (y ≡ true)
-both_true true true e = (refl, refl)
-both_true true false e = absurd (false_not_true e)
-both_true false y e = absurd (false_not_true e)
-
 -- where a test chose a value, it was true
 chosen : (b : Bool) (value n : ℕ) → (if b then Some value else None) ≡ Some n → (b ≡ true) × (value ≡ n)
 chosen true value n e = (refl, cc)
-chosen false value n e = absurd (none_not_some e)
+chosen false value n e = absurd (none_some e)
 
 decimal-number_of : (word : List ℕ) (n : ℕ) → 0 < length word → (get_or word 0 0 ≡ 48 → length word ≡ 1) → number_of word ≡ Some n → word ≡ decimal n
 decimal-number_of word n some lead read =
@@ -97,12 +87,12 @@ decimal-number_of word n some lead read =
     sym (decimal-digits_value own word digits some lead small) ∙ ap decimal tests.1
 
 longer : (digit next : ℕ) (others : List ℕ) (n : ℕ) (zero_first : Bool) → (digit == 48) ≡ zero_first → read_number (digit ∷ next ∷ others) ≡ Some n → digit ∷ next ∷ others ≡ decimal n
-longer digit next others n true is read = absurd (none_not_some (sym (cond-true _ _ _ is) ∙ read))
+longer digit next others n true is read = absurd (none_some (sym (cond-true _ _ _ is) ∙ read))
 longer digit next others n false is read =
     decimal-number_of (digit ∷ next ∷ others) n (omega arith) (λ e. absurd (omega (arith, e, eqb-false digit 48 is))) (sym (cond-false _ _ _ is) ∙ read)
 
 decimal-read_number : (word : List ℕ) (n : ℕ) → read_number word ≡ Some n → word ≡ decimal n
-decimal-read_number [] n read = absurd (none_not_some read)
+decimal-read_number [] n read = absurd (none_some read)
 decimal-read_number (digit ∷ []) n read = decimal-number_of (digit ∷ []) n (omega arith) (λ _. refl) read
 decimal-read_number (digit ∷ next ∷ others) n read = longer digit next others n (digit == 48) refl read
 

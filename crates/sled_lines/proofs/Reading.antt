@@ -14,9 +14,6 @@ use Rattle.sled_lines.specs.declared.command.Command.TheVariants as command
 nil_not_cons : {X : Type 0} {x : X} {xs : List X} → [] ≡ x ∷ xs → ⊥
 nil_not_cons e = cc
 
-not_both : true ≡ false → ⊥
-not_both e = cc
-
 -- a line ends by its last byte alone
 ends-cons : (x y : ℕ) (ys : List ℕ) → ends_with_byte 10 (x ∷ y ∷ ys) ≡ ends_with_byte 10 (y ∷ ys)
 ends-cons x y ys =

@@ -6,6 +6,7 @@ use Rattle.std.proofs.lemmas.Option.{cond_some}
 use Rattle.std.proofs.lemmas.Slice.Eq.{bytes_eq-Decides}
 use Rattle.std.specs.List.{flat_map}
 use Rattle.std.specs.Str.{bytes_eq}
+use Rattle.sled_nodes.proofs.Basics.{none_some, some_is, false_true, both_true}
 use Rattle.sled_lines.specs.Words.{is_plain, hex_digit, hex_value, escape, spelled, printed, plain_byte, byte_of, and_then, bytes_of, read_word, PrintsShortest}
 use Rattle.sled_lines.proofs.Spelling.{bytes_of-cons, bytes_of-escape, bytes_of-nil, bytes_of-cut, bytes_of-cut_after}
 
@@ -13,24 +14,10 @@ use Rattle.sled_lines.proofs.Spelling.{bytes_of-cons, bytes_of-escape, bytes_of-
 abbrev Fits : List ℕ → List ℕ → Type 0
 Fits word bytes = (length (flat_map spelled bytes) ≤ length word) × (length (flat_map spelled bytes) ≡ length word → flat_map spelled bytes ≡ word)
 
-none_not_some : {X : Type 0} {x : X} → None ≡ Some x → ⊥
-none_not_some e = cc
-
-same_in_some : {X : Type 0} {x y : X} → Some x ≡ Some y → x ≡ y
-same_in_some e = cc
-
-false_not_true : false ≡ true → ⊥
-false_not_true e = cc
-
-both_true : (x y : Bool) → (x && y) ≡ true → (x ≡ true) × (y ≡ true)
-both_true true true e = (refl, refl)
-both_true true false e = absurd (false_not_true e)
-both_true false y e = absurd (false_not_true e)
-
 -- a byte and others make a byte string only where there are both
 both_of : (b : Option ℕ) (others : Option (List ℕ)) (bytes : List ℕ) → and_then b others ≡ Some bytes → (x : ℕ) × (xs : List ℕ) × (b ≡ Some x) × (others ≡ Some xs) × (bytes ≡ x ∷ xs)
-both_of None others bytes e = absurd (none_not_some e)
-both_of (Some x) None bytes e = absurd (none_not_some e)
+both_of None others bytes e = absurd (none_some e)
+both_of (Some x) None bytes e = absurd (none_some e)
 both_of (Some x) (Some xs) bytes e = (x, xs, refl, refl, (cc))
 
 -- a byte that stands for itself
@@ -48,24 +35,24 @@ fits_plain b rest bytes later e =
 -- the tests of a digit
 hex_by : (c h : ℕ) (digit letter : Bool) → (nat_le 48 c && nat_le c 57) ≡ digit → (nat_le 97 c && nat_le c 102) ≡ letter → hex_value c ≡ Some h → (h < 16) × (hex_digit h ≡ c)
 hex_by c h true letter d l e =
-    let is : c - 48 ≡ h = same_in_some (sym (cond-true _ _ _ d) ∙ e) in
+    let is : c - 48 ≡ h = some_is (sym (cond-true _ _ _ d) ∙ e) in
     let low = both_true (nat_le 48 c) (nat_le c 57) d in
     (grind (arith, nat_tests), grind (arith, nat_tests))
 hex_by c h false true d l e =
-    let is : c - 87 ≡ h = same_in_some (sym (cond-false _ _ _ d ∙ cond-true _ _ _ l) ∙ e) in
+    let is : c - 87 ≡ h = some_is (sym (cond-false _ _ _ d ∙ cond-true _ _ _ l) ∙ e) in
     let low = both_true (nat_le 97 c) (nat_le c 102) l in
     (grind (arith, nat_tests), grind (arith, nat_tests))
-hex_by c h false false d l e = absurd (none_not_some (sym (cond-false _ _ _ d ∙ cond-false _ _ _ l) ∙ e))
+hex_by c h false false d l e = absurd (none_some (sym (cond-false _ _ _ d ∙ cond-false _ _ _ l) ∙ e))
 
 hex_digit-hex_value : (c h : ℕ) → hex_value c ≡ Some h → (h < 16) × (hex_digit h ≡ c)
 hex_digit-hex_value c h e = hex_by c h _ _ refl refl e
 
 -- the digits of a byte that two digits spell
 digits_by : (c d x : ℕ) (high low : Option ℕ) → hex_value c ≡ high → hex_value d ≡ low → byte_of high low ≡ Some x → (hex_digit (x / 16) ≡ c) × (hex_digit (x % 16) ≡ d)
-digits_by c d x None low g k e = absurd (none_not_some e)
-digits_by c d x (Some h) None g k e = absurd (none_not_some e)
+digits_by c d x None low g k e = absurd (none_some e)
+digits_by c d x (Some h) None g k e = absurd (none_some e)
 digits_by c d x (Some h) (Some l) g k e =
-    let is : h * 16 + l ≡ x = same_in_some e in
+    let is : h * 16 + l ≡ x = some_is e in
     let first = hex_digit-hex_value c h g in
     let second = hex_digit-hex_value d l k in
     let high : x / 16 ≡ h = omega (arith, is, first.0, second.0) in
@@ -92,7 +79,7 @@ fits_escape c d rest bytes later e =
 -- ---- every word
 
 fits_cons : (b : ℕ) (rest bytes : List ℕ) (percent : Bool) → (b == 37) ≡ percent → (percent ≡ true → bytes_of (b ∷ rest) ≡ None) → ((xs : List ℕ) → bytes_of rest ≡ Some xs → Fits rest xs) → bytes_of (b ∷ rest) ≡ Some bytes → Fits (b ∷ rest) bytes
-fits_cons b rest bytes true is cut later e = absurd (none_not_some (sym (cut refl) ∙ e))
+fits_cons b rest bytes true is cut later e = absurd (none_some (sym (cut refl) ∙ e))
 fits_cons b rest bytes false is cut later e = fits_plain b rest bytes later (sym (bytes_of-cons b rest is) ∙ e)
 
 fits_long : (b c d : ℕ) (rest bytes : List ℕ) (percent : Bool) → (b == 37) ≡ percent → ((xs : List ℕ) → bytes_of rest ≡ Some xs → Fits rest xs) → ((xs : List ℕ) → bytes_of (c ∷ d ∷ rest) ≡ Some xs → Fits (c ∷ d ∷ rest) xs) → bytes_of (b ∷ c ∷ d ∷ rest) ≡ Some bytes → Fits (b ∷ c ∷ d ∷ rest) bytes
@@ -104,7 +91,7 @@ fits_long b c d rest bytes false is later next e = fits_plain b (c ∷ d ∷ res
 
 fits_word : (word bytes : List ℕ) → bytes_of word ≡ Some bytes → Fits word bytes
 fits_word [] bytes e =
-    let none : bytes ≡ [] = same_in_some (sym e ∙ bytes_of-nil) in
+    let none : bytes ≡ [] = some_is (sym e ∙ bytes_of-nil) in
     let same : flat_map spelled bytes ≡ [] = ap (flat_map spelled) none in
     (omega (arith, ap length same), λ _. same)
 fits_word (b ∷ []) bytes e = fits_cons b [] bytes (b == 37) refl (λ is. ap (λ x. bytes_of (x ∷ [])) (eqb-true b 37 is) ∙ bytes_of-cut) (fits_word []) e
@@ -120,7 +107,7 @@ one_byte : (x b : ℕ) (xs : List ℕ) → x ∷ [] ≡ b ∷ xs → (xs ≡ [])
 one_byte x b xs e = ((cc), (cc))
 
 not_nil_by : (b : ℕ) (rest : List ℕ) (percent : Bool) → (b == 37) ≡ percent → (percent ≡ true → bytes_of (b ∷ rest) ≡ None) → bytes_of (b ∷ rest) ≡ Some [] → ⊥
-not_nil_by b rest true is cut e = none_not_some (sym (cut refl) ∙ e)
+not_nil_by b rest true is cut e = none_some (sym (cut refl) ∙ e)
 not_nil_by b rest false is cut e = let parts = both_of (plain_byte b) (bytes_of rest) [] (sym (bytes_of-cons b rest is) ∙ e) in cons_not_nil (sym parts.4)
 
 not_nil_long : (b c d : ℕ) (rest : List ℕ) (percent : Bool) → (b == 37) ≡ percent → bytes_of (b ∷ c ∷ d ∷ rest) ≡ Some [] → ⊥
@@ -128,7 +115,7 @@ not_nil_long b c d rest true is e =
     let read : bytes_of (37 ∷ c ∷ d ∷ rest) ≡ Some [] = ap (λ x. bytes_of (x ∷ c ∷ d ∷ rest)) (sym (eqb-true b 37 is)) ∙ e in
     let parts = both_of (byte_of (hex_value c) (hex_value d)) (bytes_of rest) [] (sym (bytes_of-escape c d rest) ∙ read) in
     cons_not_nil (sym parts.4)
-not_nil_long b c d rest false is e = not_nil_by b (c ∷ d ∷ rest) false is (λ no_sign. absurd (false_not_true no_sign)) e
+not_nil_long b c d rest false is e = not_nil_by b (c ∷ d ∷ rest) false is (λ no_sign. absurd (false_true no_sign)) e
 
 -- bytes by bytes, only nothing spells nothing
 spells_nil : (word : List ℕ) → bytes_of word ≡ Some [] → word ≡ []
@@ -143,7 +130,7 @@ Dash word = (3 ≤ length word) × (3 ≡ length word → escape 45 ≡ word)
 
 -- a byte that stands for itself, before something, is no lone dash
 no_dash : (b : ℕ) (rest : List ℕ) (percent : Bool) → (b == 37) ≡ percent → 0 < length rest → (percent ≡ true → bytes_of (b ∷ rest) ≡ None) → bytes_of (b ∷ rest) ≡ Some (45 ∷ []) → ⊥
-no_dash b rest true is some cut e = none_not_some (sym (cut refl) ∙ e)
+no_dash b rest true is some cut e = none_some (sym (cut refl) ∙ e)
 no_dash b rest false is some cut e =
     let parts = both_of (plain_byte b) (bytes_of rest) (45 ∷ []) (sym (bytes_of-cons b rest is) ∙ e) in
     let none : rest ≡ [] = spells_nil rest (parts.3 ∙ ap Some (one_byte 45 parts.0 parts.1 parts.4).0) in
@@ -159,10 +146,10 @@ dash_long b c d rest true is e =
     let digits = digits_by c d 45 (hex_value c) (hex_value d) refl refl (parts.2 ∙ ap Some one.1) in
     let spells : escape 45 ≡ 37 ∷ c ∷ d ∷ [] = ap (λ h. 37 ∷ h ∷ hex_digit (45 % 16) ∷ []) digits.0 ∙ ap (λ l. 37 ∷ c ∷ l ∷ []) digits.1 in
     (omega arith, λ _. spells ∙ (ap (λ x. x ∷ c ∷ d ∷ []) (sym sign) ∙ ap (λ w. b ∷ c ∷ d ∷ w) (sym none)))
-dash_long b c d rest false is e = absurd (no_dash b (c ∷ d ∷ rest) false is (omega arith) (λ no_sign. absurd (false_not_true no_sign)) e)
+dash_long b c d rest false is e = absurd (no_dash b (c ∷ d ∷ rest) false is (omega arith) (λ no_sign. absurd (false_true no_sign)) e)
 
 dash_word : (word : List ℕ) → word ≢ 45 ∷ [] → bytes_of word ≡ Some (45 ∷ []) → Dash word
-dash_word [] other e = absurd (cons_not_nil (sym (same_in_some (sym bytes_of-nil ∙ e))))
+dash_word [] other e = absurd (cons_not_nil (sym (some_is (sym bytes_of-nil ∙ e))))
 dash_word (b ∷ []) other e = absurd (other (sym ((fits_word (b ∷ []) (45 ∷ []) e).1 refl)))
 dash_word (b ∷ c ∷ []) other e = absurd (no_dash b (c ∷ []) (b == 37) refl (omega arith) (λ is. ap (λ x. bytes_of (x ∷ c ∷ [])) (eqb-true b 37 is) ∙ bytes_of-cut_after c) e)
 dash_word (b ∷ c ∷ d ∷ rest) other e = dash_long b c d rest (b == 37) refl e
@@ -184,21 +171,21 @@ spelled_by word bytes false false n d some other e =
     (omega (arith, ap length is, fits.0), λ as_long. is ∙ fits.1 (omega (arith, ap length is, as_long)))
 
 not_from : (b c : Bool) → (b || c) ≡ false → (b ≡ false) × (c ≡ false)
-not_from true c e = absurd (false_not_true (sym e))
+not_from true c e = absurd (false_true (sym e))
 not_from false c e = (refl, e)
 
 read_by : (word bytes : List ℕ) (percent neither : Bool) → bytes_eq word (37 ∷ []) ≡ percent → (bytes_eq word (45 ∷ []) || bytes_eq word []) ≡ neither → read_word word ≡ Some bytes → Shortest word bytes
 read_by word bytes true neither p n e =
     let is : word ≡ 37 ∷ [] = (bytes_eq-Decides word (37 ∷ [])).0 p in
-    let nothing : bytes ≡ [] = same_in_some (sym e ∙ cond-true _ _ _ p) in
+    let nothing : bytes ≡ [] = some_is (sym e ∙ cond-true _ _ _ p) in
     let same : printed bytes ≡ word = ap printed nothing ∙ sym is in
     (omega (arith, ap length same), λ _. same)
-read_by word bytes false true p n e = absurd (none_not_some (sym (cond-false _ _ _ p ∙ cond-true _ _ _ n) ∙ e))
+read_by word bytes false true p n e = absurd (none_some (sym (cond-false _ _ _ p ∙ cond-true _ _ _ n) ∙ e))
 read_by word bytes false false p n e =
     let tests = not_from (bytes_eq word (45 ∷ [])) (bytes_eq word []) n in
     spelled_by word bytes (bytes_eq bytes []) (bytes_eq bytes (45 ∷ [])) refl refl
-    (λ is. false_not_true (sym tests.1 ∙ (bytes_eq-Decides word []).1 is))
-    (λ is. false_not_true (sym tests.0 ∙ (bytes_eq-Decides word (45 ∷ [])).1 is))
+    (λ is. false_true (sym tests.1 ∙ (bytes_eq-Decides word []).1 is))
+    (λ is. false_true (sym tests.0 ∙ (bytes_eq-Decides word (45 ∷ [])).1 is))
     (sym (cond-false _ _ _ p ∙ cond-false _ _ _ n) ∙ e)
 
 pub shortest : PrintsShortest

@@ -1,5 +1,5 @@
 -- Laws of the words that spell byte strings.
-use Rattle.std.proofs.Common.{◌≡◌, ℕ, ◌+◌, ◌*◌, ◌/◌, ◌%◌, ◌<◌, ◌==◌, ◌&&◌, Bool, true, false, List, [], ◌∷◌, ◌++◌, ◌≢◌, length, take, drop, Option, Some, None, refl, ap, ◌∙◌, sym, arith, option_map, append_assoc, append-nil, take-append-drop, length-drop}
+use Rattle.std.proofs.Common.{◌≡◌, ℕ, ◌+◌, ◌*◌, ◌/◌, ◌%◌, ◌<◌, ◌==◌, Bool, true, false, List, [], ◌∷◌, ◌++◌, ◌≢◌, length, take, drop, Option, Some, None, refl, ap, ◌∙◌, sym, arith, option_map, append_assoc, append-nil, take-append-drop, length-drop}
 use Rattle.std.proofs.lemmas.List.{take_all}
 use Rattle.std.proofs.lemmas.Grind.{flat_map-append}
 use Rattle.std.proofs.lemmas.Bool.{cond-true, cond-false}
@@ -7,6 +7,7 @@ use Rattle.std.proofs.lemmas.Bool.Decides.{nat_tests}
 use Rattle.std.proofs.lemmas.Slice.Eq.{bytes_eq-Decides}
 use Rattle.std.specs.List.{flat_map, list_all}
 use Rattle.std.specs.Str.{bytes_eq}
+use Rattle.sled_nodes.proofs.Basics.{some_none, some_is, false_true, both_true}
 use Rattle.sled_lines.specs.Words.{is_plain, hex_digit, hex_value, escape, spelled, printed, plain_byte, byte_of, and_then, bytes_of, read_word, AreBytes, ReadsPrinted, ReadsValues}
 
 -- a byte that is no `%` stands for itself, or for nothing
@@ -68,9 +69,6 @@ bytes_of-end word (b ∷ rest) bytes none same = absurd (omega arith)
 
 -- ---- bytes that all stand for themselves
 
-both_true : (a b : Bool) → (a && b) ≡ true → (a ≡ true) × (b ≡ true)
-both_true a b both = grind (arith, both)
-
 plain_is_other : (b : ℕ) → is_plain b ≡ true → (b == 37) ≡ false
 plain_is_other b plain = grind (arith, nat_tests)
 
@@ -124,15 +122,6 @@ pushed-last out more rest run tail n plain front back none one sofar =
 
 -- ---- what is printed is read
 
-some_not_none : {X : Type 0} {x : X} → Some x ≡ None → ⊥
-some_not_none e = cc
-
-same_in_some : {X : Type 0} {x y : X} → Some x ≡ Some y → x ≡ y
-same_in_some e = cc
-
-false_not_true : false ≡ true → ⊥
-false_not_true e = cc
-
 -- a test that is no yes is a no
 no_from : (b : Bool) → (b ≡ true → ⊥) → b ≡ false
 no_from true never = absurd (never refl)
@@ -172,9 +161,9 @@ bytes_of-spelling (b ∷ bytes) small =
 read_word-bytes_of : (word bytes : List ℕ) → bytes_of word ≡ Some bytes → bytes ≢ [] → bytes ≢ 45 ∷ [] → read_word word ≡ Some bytes
 read_word-bytes_of word bytes spells some other =
     let one_byte : bytes_of (45 ∷ []) ≡ Some (45 ∷ []) = bytes_of-cons 45 [] refl ∙ ap (λ x. and_then (plain_byte 45) x) bytes_of-nil in
-    let not_percent : bytes_eq word (37 ∷ []) ≡ false = differs _ _ (λ e. absurd (some_not_none (sym spells ∙ ap bytes_of e ∙ bytes_of-cut))) in
-    let not_dash : bytes_eq word (45 ∷ []) ≡ false = differs _ _ (λ e. other (same_in_some (sym spells ∙ ap bytes_of e ∙ one_byte))) in
-    let not_empty : bytes_eq word [] ≡ false = differs _ _ (λ e. some (same_in_some (sym spells ∙ ap bytes_of e ∙ bytes_of-nil))) in
+    let not_percent : bytes_eq word (37 ∷ []) ≡ false = differs _ _ (λ e. absurd (some_none (sym spells ∙ ap bytes_of e ∙ bytes_of-cut))) in
+    let not_dash : bytes_eq word (45 ∷ []) ≡ false = differs _ _ (λ e. other (some_is (sym spells ∙ ap bytes_of e ∙ one_byte))) in
+    let not_empty : bytes_eq word [] ≡ false = differs _ _ (λ e. some (some_is (sym spells ∙ ap bytes_of e ∙ bytes_of-nil))) in
     rw (not_percent, not_dash, not_empty) spells
 
 printed_by : (b : ℕ) (bytes : List ℕ) → AreBytes (b ∷ bytes) → (dash : Bool) → bytes_eq (b ∷ bytes) (45 ∷ []) ≡ dash → read_word (printed (b ∷ bytes)) ≡ Some (b ∷ bytes)
@@ -185,7 +174,7 @@ printed_by b bytes small true dash =
     ap (λ word. read_word (printed word)) is ∙ dashed ∙ ap Some (sym is)
 printed_by b bytes small false dash =
     let word : printed (b ∷ bytes) ≡ flat_map spelled (b ∷ bytes) = cond-false _ _ _ dash in
-    rw word (read_word-bytes_of (flat_map spelled (b ∷ bytes)) (b ∷ bytes) (bytes_of-spelling (b ∷ bytes) small) (λ e. cc) (λ e. false_not_true (sym dash ∙ (bytes_eq-Decides (b ∷ bytes) (45 ∷ [])).1 e)))
+    rw word (read_word-bytes_of (flat_map spelled (b ∷ bytes)) (b ∷ bytes) (bytes_of-spelling (b ∷ bytes) small) (λ e. cc) (λ e. false_true (sym dash ∙ (bytes_eq-Decides (b ∷ bytes) (45 ∷ [])).1 e)))
 
 pub read_word-printed : ReadsPrinted
 read_word-printed [] small = refl
@@ -197,5 +186,5 @@ read_value-word_of None small = refl
 read_value-word_of (Some bytes) small =
     let read : read_word (printed bytes) ≡ Some bytes = read_word-printed bytes small in
     let dash : read_word (45 ∷ []) ≡ None = refl in
-    let other : bytes_eq (printed bytes) (45 ∷ []) ≡ false = differs (printed bytes) (45 ∷ []) (λ e. absurd (some_not_none (sym read ∙ ap read_word e ∙ dash))) in
+    let other : bytes_eq (printed bytes) (45 ∷ []) ≡ false = differs (printed bytes) (45 ∷ []) (λ e. absurd (some_none (sym read ∙ ap read_word e ∙ dash))) in
     cond-false _ _ _ other ∙ ap (option_map (λ b. Some b)) read

@@ -1,33 +1,23 @@
 -- What all entries of a list pass, and numbers up to a bound.
-use Rattle.std.proofs.Common.{◌≡◌, ℕ, ◌+◌, ◌<◌, Bool, true, false, ◌&&◌, List, [], ◌∷◌, ◌++◌, refl, sym, ap, ◌∙◌, arith, ◌≤◌, nat_le, take, get_or, add-one, length}
+use Rattle.std.proofs.Common.{◌≡◌, ℕ, ◌+◌, ◌<◌, Bool, true, ◌&&◌, List, [], ◌∷◌, ◌++◌, refl, sym, ap, ◌∙◌, arith, ◌≤◌, nat_le, take, get_or, add-one, length}
 use Rattle.std.proofs.lemmas.Bool.Decides.{nat_tests}
 use Rattle.std.proofs.lemmas.List.Folds.{list_all-append}
 use Rattle.std.specs.List.{list_all}
 use Rattle.sled_nodes.specs.Order.{Key}
 use Rattle.std.proofs.Math.Seq.{take-suc}
-
-pub first : (a b : Bool) → (a && b) ≡ true → a ≡ true
-first true b e = refl
-first false b e = cc
-
-pub second : (a b : Bool) → (a && b) ≡ true → b ≡ true
-second true b e = e
-second false b e = cc
-
-pub both : (a b : Bool) → a ≡ true → b ≡ true → (a && b) ≡ true
-both a b e f = rw (e, f) refl
+use Rattle.sled_nodes.proofs.Basics.{first_true, second_true, and_true}
 
 pub all_push : {X : Type 0} (p : X → Bool) (xs : List X) (x : X) → list_all p xs ≡ true → p x ≡ true → list_all p (xs ++ x ∷ []) ≡ true
-all_push p xs x e f = list_all-append p xs (x ∷ []) ∙ both _ _ e (both _ _ f refl)
+all_push p xs x e f = list_all-append p xs (x ∷ []) ∙ and_true _ _ e (and_true _ _ f refl)
 
 pub all_front : {X : Type 0} (p : X → Bool) (xs ys : List X) (x : X) → ys ≡ xs ++ x ∷ [] → list_all p ys ≡ true → (list_all p xs ≡ true) × (p x ≡ true)
 all_front p xs ys x l e =
     let all : (list_all p xs && (p x && true)) ≡ true = sym (list_all-append p xs (x ∷ [])) ∙ (ap (list_all p) (sym l) ∙ e) in
-    (first _ _ all, first _ _ (second (list_all p xs) _ all))
+    (first_true _ _ all, first_true _ _ (second_true (list_all p xs) _ all))
 
 pub all_weaker : {X : Type 0} (p q : X → Bool) → ((x : X) → p x ≡ true → q x ≡ true) → (xs : List X) → list_all p xs ≡ true → list_all q xs ≡ true
 all_weaker p q h [] e = refl
-all_weaker p q h (x ∷ xs) e = both _ _ (h x (first _ _ e)) (all_weaker p q h xs (second (p x) _ e))
+all_weaker p q h (x ∷ xs) e = and_true _ _ (h x (first_true _ _ e)) (all_weaker p q h xs (second_true (p x) _ e))
 
 -- numbers that stay below a bound
 pub le_is : (a b : ℕ) → a ≤ b → nat_le a b ≡ true

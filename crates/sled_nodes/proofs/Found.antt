@@ -1,5 +1,5 @@
 -- The first and the last that pass, as a walk from the front finds them.
-use Rattle.std.proofs.Common.{◌≡◌, ℕ, zero, suc, ◌+◌, ◌-◌, ◌<◌, Bool, true, false, ◌||◌, nat_eq, List, [], ◌∷◌, ◌++◌, length, take, drop, get_or, Option, Some, None, refl, sym, ap, subst, ◌∙◌, arith, append_assoc, length-append, add-one, drop-cons, MatchOption}
+use Rattle.std.proofs.Common.{◌≡◌, ℕ, zero, suc, ◌+◌, ◌-◌, ◌<◌, Bool, true, false, nat_eq, List, [], ◌∷◌, ◌++◌, length, take, drop, get_or, Option, Some, None, refl, sym, ap, subst, ◌∙◌, arith, append_assoc, length-append, add-one, drop-cons, MatchOption}
 use mathlib.Core.Bool.{true≢false}
 use Rattle.std.proofs.lemmas.Bool.{eqb-true}
 use Rattle.std.proofs.Math.ListN.{get_or-append}
@@ -9,25 +9,15 @@ use Rattle.std.proofs.lemmas.List.{length-take-le}
 use Rattle.std.proofs.lemmas.List.Folds.{list_any-append}
 use Rattle.std.proofs.Math.Seq.{take-suc, take-length, get_or-append_seam}
 use Rattle.std.proofs.lemmas.List.{take-append-drop}
+use Rattle.sled_nodes.proofs.Basics.{first_false, or_false}
 use Rattle.sled_nodes.specs.Order.{Key}
 use Rattle.sled_nodes.specs.Among.{is_up_to, IsPointer, IsBefore}
 use Rattle.sled_nodes.specs.theory.Places.{IsFirstAt, IsLastAt}
 
-neither : (a b : Bool) → a ≡ false → b ≡ false → (a || b) ≡ false
-neither a b e f = rw (e, f) refl
-
-left_none : (a b : Bool) → (a || b) ≡ false → a ≡ false
-left_none true b e = cc
-left_none false b e = refl
-
-right_none : (a b : Bool) → (a || b) ≡ false → b ≡ false
-right_none true b e = cc
-right_none false b e = e
-
 module _ {X : Type 0} (p : X → Bool) where
   -- none so far, and not the next one
   pub none_more : (xs : List X) (i : ℕ) (d : X) → i < length xs → list_any p (take i xs) ≡ false → p (get_or xs i d) ≡ false → list_any p (take (i + 1) xs) ≡ false
-  none_more xs i d h e f = rw add-one (ap (list_any p) (take-suc xs i d h) ∙ (list_any-append p (take i xs) (get_or xs i d ∷ []) ∙ neither _ _ e (neither _ _ f refl)))
+  none_more xs i d h e f = rw add-one (ap (list_any p) (take-suc xs i d h) ∙ (list_any-append p (take i xs) (get_or xs i d ∷ []) ∙ or_false _ _ e (or_false _ _ f refl)))
 
   pub none_all : (xs : List X) → list_any p (take (length xs) xs) ≡ false → list_any p xs ≡ false
   none_all xs e = ap (list_any p) (sym (take-length xs)) ∙ e
@@ -62,7 +52,7 @@ module _ {X : Type 0} (p : X → Bool) where
       after = l.last.after ++ get_or xs i d ∷ [];
       is = take-suc xs i d h ∙ (ap (λ r. r ++ get_or xs i d ∷ []) l.last.is ∙ append_assoc l.last.before (l.x ∷ l.last.after) (get_or xs i d ∷ []));
       passed = l.last.passed;
-      none = list_any-append p l.last.after (get_or xs i d ∷ []) ∙ neither _ _ l.last.none (neither _ _ f refl);
+      none = list_any-append p l.last.after (get_or xs i d ∷ []) ∙ or_false _ _ l.last.none (or_false _ _ f refl);
     };
     place = l.place;
   })
@@ -147,10 +137,10 @@ same_head x y xs ys e = ap (head_or x) e
 no_before : (c b : ℕ) (x : Key × ℕ) (es before after front rest : List (Key × ℕ)) (low : Key) → before ≡ [] → es ≡ before ++ x ∷ after → es ≡ (front ++ (low, b) ∷ []) ++ rest → nat_eq x.1 c ≡ true → list_any (λ e. nat_eq e.1 c) (front ++ (low, b) ∷ []) ≡ false → ⊥
 no_before c b x es before after [] rest low n is is' p none =
     let h : x ≡ (low, b) = same_head x (low, b) after rest (sym (is ∙ ap (λ ys. ys ++ x ∷ after) n) ∙ is') in
-    true≢false (sym p ∙ (ap (λ (y : Key × ℕ). nat_eq y.1 c) h ∙ left_none (nat_eq b c) false none))
+    true≢false (sym p ∙ (ap (λ (y : Key × ℕ). nat_eq y.1 c) h ∙ first_false (nat_eq b c) false none))
 no_before c b x es before after (f ∷ front) rest low n is is' p none =
     let h : x ≡ f = same_head x f after ((front ++ (low, b) ∷ []) ++ rest) (sym (is ∙ ap (λ ys. ys ++ x ∷ after) n) ∙ is') in
-    true≢false (sym p ∙ (ap (λ (y : Key × ℕ). nat_eq y.1 c) h ∙ left_none (nat_eq f.1 c) (list_any (λ e. nat_eq e.1 c) (front ++ (low, b) ∷ [])) none))
+    true≢false (sym p ∙ (ap (λ (y : Key × ℕ). nat_eq y.1 c) h ∙ first_false (nat_eq f.1 c) (list_any (λ e. nat_eq e.1 c) (front ++ (low, b) ∷ [])) none))
 
 nothing : (xs : List (Key × ℕ)) → length xs ≡ 0 → xs ≡ []
 nothing [] e = refl

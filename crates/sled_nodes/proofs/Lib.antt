@@ -1,3 +1,4 @@
+pub mod Basics
 pub mod Put
 pub mod Returned
 pub mod Found

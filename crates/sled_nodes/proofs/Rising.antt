@@ -1,5 +1,5 @@
 -- Lists whose keys rise, and what a search by halves finds in them.
-use Rattle.std.proofs.Common.{◌≡◌, ℕ, zero, suc, ◌+◌, ◌<◌, ◌≤◌, Bool, true, false, not, ◌&&◌, T, List, [], ◌∷◌, length, get_or, take, Some, None, Result, Ok, Err, refl, sym, ap, subst, ◌∙◌, arith, Ordering, Less, Equal, Greater, is_lt, is_eq, is_gt, IfOk, IfErr, OnOk, OnErr, cond, ◌-◌, ◌==◌, nat_lt, eqb→eq, remove}
+use Rattle.std.proofs.Common.{◌≡◌, ℕ, zero, suc, ◌+◌, ◌<◌, ◌≤◌, Bool, true, false, not, T, List, [], ◌∷◌, length, get_or, take, Some, None, Result, Ok, Err, refl, sym, ap, subst, ◌∙◌, arith, Ordering, Less, Equal, Greater, is_lt, is_eq, is_gt, IfOk, IfErr, OnOk, OnErr, cond, ◌-◌, ◌==◌, nat_lt, eqb→eq, remove}
 use Rattle.std.proofs.lemmas.Bool.Decides.{nat_tests}
 use Rattle.std.specs.Ordering.{ordering_index, ordering_reverse, eq_by_cmp}
 use Rattle.std.specs.Cmp.{IsTotalOrder}
@@ -10,6 +10,7 @@ use Rattle.std.specs.Cmp.Lexicographic.{slice_cmp, nat_list_cmp_total}
 use Rattle.std.specs.Ordering.{nat_cmp}
 use Rattle.std.specs.declared.ops.Bound.{Bound}
 use Rattle.std.specs.declared.ops.Bound.TheVariants.{Included, Excluded, Unbounded}
+use Rattle.sled_nodes.proofs.Basics.{true_of, of_true, left_of, right_of, both_of, less_of}
 use Rattle.sled_nodes.specs.Order.{Key, key_cmp}
 use Rattle.sled_nodes.specs.Among.{is_up_to, is_from}
 use Rattle.sled_nodes.specs.theory.Pairs.{Stands, Goes}
@@ -19,31 +20,6 @@ use Rattle.sled_nodes.specs.theory.Rising.{IsHit, IsGap}
 use Rattle.sled_nodes.proofs.Found.{none_more, none_all, first_found, last_here, last_stays, last_all}
 use Rattle.sled_nodes.proofs.Put.{IsPast, stands_at, past_more, goes_before, goes_last}
 use Rattle.sled_nodes.proofs.Returned.{out_more, out_here, out_all}
-
-so : (b : Bool) → b ≡ true → T b
-so true e = tt
-so false e = cc
-
-holds : (b : Bool) → T b → b ≡ true
-holds true t = refl
-holds false t = absurd t
-
-is_less : (o : Ordering) → T (is_lt o) → o ≡ Less
-is_less Less t = refl
-is_less Equal t = absurd t
-is_less Greater t = absurd t
-
-left_of : (a b : Bool) → T (a && b) → T a
-left_of true b t = tt
-left_of false b t = t
-
-right_of : (a b : Bool) → T (a && b) → T b
-right_of true b t = t
-right_of false b t = absurd t
-
-both_of : (a b : Bool) → T a → T b → T (a && b)
-both_of true b t u = u
-both_of false b t u = absurd t
 
 -- a walk over what passes, or passes not
 module _ {X : Type 0} (keeps : X → Bool) where
@@ -125,7 +101,7 @@ module _ {K : Type 0} (R : K → K → Ordering) (k : K) where
         off false e = refl
 
     pub yet_lower : (x y : K) → R x y ≡ Less → is_lt (R y k) ≡ true → R x k ≡ Less
-    yet_lower x y l t = o.trans x y k l (is_less (R y k) (so (is_lt (R y k)) t))
+    yet_lower x y l t = o.trans x y k l (less_of (R y k) (of_true (is_lt (R y k)) t))
 
     turned : (x : K) (r : Ordering) → R x k ≡ r → R k x ≡ ordering_reverse r
     turned x r e = o.antisymm k x ∙ ap ordering_reverse e
@@ -150,7 +126,7 @@ module _ {K X : Type 0} (R : K → K → Ordering) where
   -- each later key is greater
   below_at : (x : K) (es : List (K × X)) (j : ℕ) (d : K × X) → T (below_all R x es) → j < length es → R x (get_or es j d).0 ≡ Less
   below_at x [] j d t h = absurd (omega (arith, h))
-  below_at x (e ∷ es) zero d t h = is_less (R x e.0) (left_of (is_lt (R x e.0)) (below_all R x es) t)
+  below_at x (e ∷ es) zero d t h = less_of (R x e.0) (left_of (is_lt (R x e.0)) (below_all R x es) t)
   below_at x (e ∷ es) (suc j) d t h = below_at x es j d (right_of (is_lt (R x e.0)) (below_all R x es) t) (omega (arith, h))
 
   rises_at : (es : List (K × X)) (i j : ℕ) (d : K × X) → T (is_sorted R es) → i < j → j < length es → R (get_or es i d).0 (get_or es j d).0 ≡ Less
@@ -160,7 +136,7 @@ module _ {K X : Type 0} (R : K → K → Ordering) where
   rises_at (e ∷ es) (suc i) (suc j) d t l h = rises_at es i j d (right_of (below_all R e.0 es) (is_sorted R es) t) (omega (arith, l)) (omega (arith, h))
 
   pub rises : (es : List (K × X)) (i j : ℕ) (d : K × X) → is_sorted R es ≡ true → i < j → j < length es → R (get_or es i d).0 (get_or es j d).0 ≡ Less
-  rises es i j d s l h = rises_at es i j d (so (is_sorted R es) s) l h
+  rises es i j d s l h = rises_at es i j d (of_true (is_sorted R es) s) l h
 
   -- a pair less, at a place
   below_less : (x : K) (es : List (K × X)) (i : ℕ) → T (below_all R x es) → T (below_all R x (remove es i))
@@ -176,10 +152,10 @@ module _ {K X : Type 0} (R : K → K → Ordering) where
   sorted_less (e ∷ es) (suc i) t = both_of (below_all R e.0 (remove es i)) (is_sorted R (remove es i)) (below_less e.0 es i (left_of (below_all R e.0 es) (is_sorted R es) t)) (sorted_less es i (right_of (below_all R e.0 es) (is_sorted R es) t))
 
   pub rises_less : (es : List (K × X)) (i : ℕ) → is_sorted R es ≡ true → is_sorted R (remove es i) ≡ true
-  rises_less es i s = holds (is_sorted R (remove es i)) (sorted_less es i (so (is_sorted R es) s))
+  rises_less es i s = true_of (is_sorted R (remove es i)) (sorted_less es i (of_true (is_sorted R es) s))
 
   pub rises_where : (p : K → Bool) (es : List (K × X)) → is_sorted R es ≡ true → is_sorted R (where_key R p es) ≡ true
-  rises_where p es s = holds (is_sorted R (where_key R p es)) (is_sorted-where_key R p es (so (is_sorted R es) s))
+  rises_where p es s = true_of (is_sorted R (where_key R p es)) (is_sorted-where_key R p es (of_true (is_sorted R es) s))
 
   -- the keys so far ascend
   abbrev pub RisesTo : List (K × X) → ℕ → Type 0
@@ -190,8 +166,8 @@ module _ {K X : Type 0} (R : K → K → Ordering) where
     below_too : (x y : K) (es : List (K × X)) → R x y ≡ Less → T (below_all R y es) → T (below_all R x es)
     below_too x y [] l t = tt
     below_too x y (e ∷ es) l t =
-        let step : R x e.0 ≡ Less = o.trans x y e.0 l (is_less (R y e.0) (left_of (is_lt (R y e.0)) (below_all R y es) t)) in
-        both_of (is_lt (R x e.0)) (below_all R x es) (so (is_lt (R x e.0)) (ap is_lt step)) (below_too x y es l (right_of (is_lt (R y e.0)) (below_all R y es) t))
+        let step : R x e.0 ≡ Less = o.trans x y e.0 l (less_of (R y e.0) (left_of (is_lt (R y e.0)) (below_all R y es) t)) in
+        both_of (is_lt (R x e.0)) (below_all R x es) (of_true (is_lt (R x e.0)) (ap is_lt step)) (below_too x y es l (right_of (is_lt (R y e.0)) (below_all R y es) t))
 
     from_next : (es : List (K × X)) → ((k : ℕ) (d : K × X) → suc k < length es → R (get_or es k d).0 (get_or es (suc k) d).0 ≡ Less) → T (is_sorted R es)
     from_next [] h = tt
@@ -199,15 +175,15 @@ module _ {K X : Type 0} (R : K → K → Ordering) where
     from_next (e ∷ f ∷ es) h =
         let rest : T (is_sorted R (f ∷ es)) = from_next (f ∷ es) (λ k d l. h (suc k) d (omega (arith, l))) in
         let l : R e.0 f.0 ≡ Less = h 0 e (omega arith) in
-        both_of (below_all R e.0 (f ∷ es)) (is_sorted R (f ∷ es)) (both_of (is_lt (R e.0 f.0)) (below_all R e.0 es) (so (is_lt (R e.0 f.0)) (ap is_lt l)) (below_too e.0 f.0 es l (left_of (below_all R f.0 es) (is_sorted R es) rest))) rest
+        both_of (below_all R e.0 (f ∷ es)) (is_sorted R (f ∷ es)) (both_of (is_lt (R e.0 f.0)) (below_all R e.0 es) (of_true (is_lt (R e.0 f.0)) (ap is_lt l)) (below_too e.0 f.0 es l (left_of (below_all R f.0 es) (is_sorted R es) rest))) rest
 
     pub rises_from : (es : List (K × X)) (n : ℕ) → length es ≤ n → RisesTo es n → is_sorted R es ≡ true
-    rises_from es n le h = holds (is_sorted R es) (from_next es (λ k d l.
+    rises_from es n le h = true_of (is_sorted R es) (from_next es (λ k d l.
         let next : k + 1 ≡ suc k = omega arith in
         subst (λ m. R (get_or es k d).0 (get_or es m d).0 ≡ Less) next (h k d (omega (arith, l, le)))))
 
     pub rises_put : (k : K) (v : X) (es : List (K × X)) → is_sorted R es ≡ true → is_sorted R (put R k v es) ≡ true
-    rises_put k v es s = holds (is_sorted R (put R k v es)) (is_sorted-put R o k v es (so (is_sorted R es) s))
+    rises_put k v es s = true_of (is_sorted R (put R k v es)) (is_sorted-put R o k v es (of_true (is_sorted R es) s))
 
     -- what is put, or is not
     pub rises_on : {Y E : Type 0} (r : Result Y E) (k : K) (v : X) (es new : List (K × X)) → is_sorted R es ≡ true → OnOk r (new ≡ put R k v es) → OnErr r (new ≡ es) → is_sorted R new ≡ true
@@ -219,7 +195,7 @@ module _ {K X : Type 0} (R : K → K → Ordering) where
     parted p es down s i j d le h t = by (i == j) refl
       where
         by : (b : Bool) → (i == j) ≡ b → p (get_or es i d).0 ≡ true
-        by true e = subst (λ n. p (get_or es n d).0 ≡ true) (sym (eqb→eq i j (so (i == j) e))) t
+        by true e = subst (λ n. p (get_or es n d).0 ≡ true) (sym (eqb→eq i j (of_true (i == j) e))) t
         by false e = down (get_or es i d).0 (get_or es j d).0 (rises es i j d s (grind (arith, nat_tests)) h) t
 
     -- a search by halves
@@ -228,7 +204,7 @@ module _ {K X : Type 0} (R : K → K → Ordering) where
       climbs es s i j d le h = by (i == j) refl
         where
           by : (b : Bool) → (i == j) ≡ b → ordering_index (R (get_or es i d).0 k) ≤ ordering_index (R (get_or es j d).0 k)
-          by true e = subst (λ n. ordering_index (R (get_or es n d).0 k) ≤ ordering_index (R (get_or es j d).0 k)) (sym (eqb→eq i j (so (i == j) e))) (omega arith)
+          by true e = subst (λ n. ordering_index (R (get_or es n d).0 k) ≤ ordering_index (R (get_or es j d).0 k)) (sym (eqb→eq i j (of_true (i == j) e))) (omega arith)
           by false e = climb R k o (get_or es i d).0 (get_or es j d).0 (rises es i j d s (grind (arith, nat_tests)) h) (R (get_or es j d).0 k) refl
 
       pub hit : (es : List (K × X)) (i : ℕ) → is_sorted R es ≡ true → i < length es → ((d : K × X) → R (get_or es i d).0 k ≡ Equal) → IsHit R k es i
@@ -244,14 +220,14 @@ module _ {K X : Type 0} (R : K → K → Ordering) where
       lower_to es i s h e j d a b = by (i == j) refl
         where
           by : (t : Bool) → (i == j) ≡ t → R (get_or es j d).0 k ≡ Less
-          by true t = subst (λ n. R (get_or es n d).0 k ≡ Less) (eqb→eq i j (so (i == j) t)) (e d)
+          by true t = subst (λ n. R (get_or es n d).0 k ≡ Less) (eqb→eq i j (of_true (i == j) t)) (e d)
           by false t = o.trans (get_or es j d).0 (get_or es i d).0 k (rises es j i d s (grind (arith, nat_tests)) h) (e d)
 
       pub higher_from : (es : List (K × X)) (i : ℕ) → is_sorted R es ≡ true → i < length es → ((d : K × X) → R (get_or es i d).0 k ≡ Greater) → AllWithin (λ e. R e.0 k ≡ Greater) es i (length es)
       higher_from es i s h e j d a b = by (i == j) refl
         where
           by : (t : Bool) → (i == j) ≡ t → R (get_or es j d).0 k ≡ Greater
-          by true t = subst (λ n. R (get_or es n d).0 k ≡ Greater) (eqb→eq i j (so (i == j) t)) (e d)
+          by true t = subst (λ n. R (get_or es n d).0 k ≡ Greater) (eqb→eq i j (of_true (i == j) t)) (e d)
           by false t =
               let below : R k (get_or es i d).0 ≡ Less = turned R k o (get_or es i d).0 Greater (e d) in
               let less : R k (get_or es j d).0 ≡ Less = o.trans k (get_or es i d).0 (get_or es j d).0 below (rises es i j d s (grind (arith, nat_tests)) b) in
@@ -295,14 +271,14 @@ module _ {K X : Type 0} (R : K → K → Ordering) where
       hit_below es i h = (λ j d a b. ap is_lt (back R k o (get_or es j d).0 Greater (h.before j d a b)), λ j d a b. at_or_behind j d a b (i == j) refl)
         where
           at_or_behind : (j : ℕ) (d : K × X) → i ≤ j → j < length es → (t : Bool) → (i == j) ≡ t → is_lt (R (get_or es j d).0 k) ≡ false
-          at_or_behind j d a b true t = ap is_lt (back R k o (get_or es j d).0 Equal (subst (λ n. R k (get_or es n d).0 ≡ Equal) (eqb→eq i j (so (i == j) t)) (h.here d)))
+          at_or_behind j d a b true t = ap is_lt (back R k o (get_or es j d).0 Equal (subst (λ n. R k (get_or es n d).0 ≡ Equal) (eqb→eq i j (of_true (i == j) t)) (h.here d)))
           at_or_behind j d a b false t = ap is_lt (back R k o (get_or es j d).0 Less (h.after j d (grind (arith, nat_tests)) b))
 
       pub hit_to : (es : List (K × X)) (i : ℕ) → IsHit R k es i → IsPartitionPoint (λ e. is_gt (R e.0 k) ≡ false) (λ e. is_gt (R e.0 k) ≡ true) es (i + 1)
       hit_to es i h = (λ j d a b. at_or_before j d a b (i == j) refl, λ j d a b. ap is_gt (back R k o (get_or es j d).0 Less (h.after j d a b)))
         where
           at_or_before : (j : ℕ) (d : K × X) → 0 ≤ j → j < i + 1 → (t : Bool) → (i == j) ≡ t → is_gt (R (get_or es j d).0 k) ≡ false
-          at_or_before j d a b true t = ap is_gt (back R k o (get_or es j d).0 Equal (subst (λ n. R k (get_or es n d).0 ≡ Equal) (eqb→eq i j (so (i == j) t)) (h.here d)))
+          at_or_before j d a b true t = ap is_gt (back R k o (get_or es j d).0 Equal (subst (λ n. R k (get_or es n d).0 ≡ Equal) (eqb→eq i j (of_true (i == j) t)) (h.here d)))
           at_or_before j d a b false t = ap is_gt (back R k o (get_or es j d).0 Greater (h.before j d a (grind (arith, nat_tests))))
 
   -- what follows from what was found
@@ -330,7 +306,7 @@ module _ {K X : Type 0} (R : K → K → Ordering) where
 
         by : (b : Bool) → (i == length es) ≡ b → Goes R k es i
         by true e =
-            let n : i ≡ length es = eqb→eq i (length es) (so (i == length es) e) in
+            let n : i ≡ length es = eqb→eq i (length es) (of_true (i == length es) e) in
             subst (λ m. Goes R k es m) (sym n) (goes_last R es k (subst (λ m. IsPast R k es m) n past_i))
         by false e = let h = g.in_range in inside es g past_i (grind (arith, nat_tests))
 

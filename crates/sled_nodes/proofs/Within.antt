@@ -7,9 +7,7 @@ use Rattle.std.proofs.lemmas.List.{length-reverse, get_or-reverse}
 use Rattle.std.proofs.lemmas.List.Filters.{length-filter_more}
 use Rattle.std.proofs.lemmas.Option.{slice_get_past, slice_get-get_or}
 use Rattle.std.proofs.Math.Seq.{take-length}
-
-both : (a b : Bool) → a ≡ true → b ≡ true → (a && b) ≡ true
-both a b e f = rw (e, f) refl
+use Rattle.sled_nodes.proofs.Basics.{not_true, and_true}
 
 first_off : (a b : Bool) → a ≡ false → (a && b) ≡ false
 first_off a b e = rw e refl
@@ -17,10 +15,6 @@ first_off a b e = rw e refl
 second_off : (a b : Bool) → b ≡ false → (a && b) ≡ false
 second_off true b e = e
 second_off false b e = refl
-
-off : (a : Bool) → not a ≡ true → a ≡ false
-off true e = cc
-off false e = refl
 
 on : (a : Bool) → not a ≡ false → a ≡ true
 on true e = refl
@@ -123,14 +117,14 @@ module _ {X : Type 0} (from up : X → Bool) (xs : List X) (d : X) where
     none_yet : so_far within xs n ≡ 0
     none_yet =
         let same : 0 + n ≡ n = omega arith in
-        let e : so_far within xs (0 + n) ≡ 0 = flat within xs d 0 n (omega (arith, h)) (λ j l u. first_off (from (get_or xs j d)) (up (get_or xs j d)) (off (from (get_or xs j d)) (begins.0 j d l (omega (arith, u))))) in
+        let e : so_far within xs (0 + n) ≡ 0 = flat within xs d 0 n (omega (arith, h)) (λ j l u. first_off (from (get_or xs j d)) (up (get_or xs j d)) (not_true (from (get_or xs j d)) (begins.0 j d l (omega (arith, u))))) in
         ap (so_far within xs) (sym same) ∙ e
 
     pub up_at : (k : ℕ) → n + k < length xs → up (get_or xs (n + k) d) ≡ true → slice_get xs (n + k) ≡ slice_get (filter within xs) k
     up_at k l t =
-        let all : so_far within xs (n + k) ≡ so_far within xs n + k = rise within xs d n k (omega (arith, l)) (λ j le u. both (from (get_or xs j d)) (up (get_or xs j d)) (on (from (get_or xs j d)) (begins.1 j d le (omega (arith, u, l)))) (falls j (n + k) d (omega (arith, u)) l t)) in
+        let all : so_far within xs (n + k) ≡ so_far within xs n + k = rise within xs d n k (omega (arith, l)) (λ j le u. and_true (from (get_or xs j d)) (up (get_or xs j d)) (on (from (get_or xs j d)) (begins.1 j d le (omega (arith, u, l)))) (falls j (n + k) d (omega (arith, u)) l t)) in
         let none : so_far within xs n ≡ 0 = none_yet in
-        stands_at within xs (n + k) k d l (both (from (get_or xs (n + k) d)) (up (get_or xs (n + k) d)) (on (from (get_or xs (n + k) d)) (begins.1 (n + k) d (omega arith) l)) t) (omega (arith, all, none))
+        stands_at within xs (n + k) k d l (and_true (from (get_or xs (n + k) d)) (up (get_or xs (n + k) d)) (on (from (get_or xs (n + k) d)) (begins.1 (n + k) d (omega arith) l)) t) (omega (arith, all, none))
 
     pub up_past : (k : ℕ) → length xs ≤ n + k → slice_get (filter within xs) k ≡ None
     up_past k l =
@@ -162,9 +156,9 @@ module _ {X : Type 0} (from up : X → Bool) (xs : List X) (d : X) where
     pub down_at : (i k : ℕ) → i + 1 + k ≡ n → from (get_or xs i d) ≡ true → slice_get xs i ≡ slice_get (reverse (filter within xs)) k
     down_at i k e t =
         let m : i + (1 + k) ≡ n = omega (arith, e) in
-        let all : so_far within xs (i + (1 + k)) ≡ so_far within xs i + (1 + k) = rise within xs d i (1 + k) (omega (arith, e, h)) (λ j le u. both (from (get_or xs j d)) (up (get_or xs j d)) (go j le (omega (arith, u, e, h)) (from (get_or xs j d)) refl) (ends.0 j d (omega arith) (omega (arith, u, e)))) in
+        let all : so_far within xs (i + (1 + k)) ≡ so_far within xs i + (1 + k) = rise within xs d i (1 + k) (omega (arith, e, h)) (λ j le u. and_true (from (get_or xs j d)) (up (get_or xs j d)) (go j le (omega (arith, u, e, h)) (from (get_or xs j d)) refl) (ends.0 j d (omega arith) (omega (arith, u, e)))) in
         let total : length (filter within xs) ≡ so_far within xs (i + (1 + k)) = no_others ∙ ap (so_far within xs) (sym m) in
-        stands_at within xs i (so_far within xs i) d (omega (arith, e, h)) (both (from (get_or xs i d)) (up (get_or xs i d)) t (ends.0 i d (omega arith) (omega (arith, e)))) refl
+        stands_at within xs i (so_far within xs i) d (omega (arith, e, h)) (and_true (from (get_or xs i d)) (up (get_or xs i d)) t (ends.0 i d (omega arith) (omega (arith, e)))) refl
         ∙ sym (turned (filter within xs) k (so_far within xs i) (omega (arith, all, total)))
       where
         go : (j : ℕ) → i ≤ j → j < length xs → (b : Bool) → from (get_or xs j d) ≡ b → from (get_or xs j d) ≡ true
@@ -181,7 +175,7 @@ module _ {X : Type 0} (from up : X → Bool) (xs : List X) (d : X) where
     pub down_short : (i k : ℕ) → i + 1 + k ≡ n → from (get_or xs i d) ≡ false → slice_get (reverse (filter within xs)) k ≡ None
     down_short i k e f =
         let few : so_far within xs (i + 1 + k) ≤ so_far within xs (i + 1) + k = slow within xs d (i + 1) k (omega (arith, e, h)) in
-        let none : so_far within xs (0 + (i + 1)) ≡ 0 = flat within xs d 0 (i + 1) (omega (arith, e, h)) (λ j l u. first_off (from (get_or xs j d)) (up (get_or xs j d)) (off (from (get_or xs j d)) (climbs j i d (omega (arith, u)) (omega (arith, e, h)) (ap not f)))) in
+        let none : so_far within xs (0 + (i + 1)) ≡ 0 = flat within xs d 0 (i + 1) (omega (arith, e, h)) (λ j l u. first_off (from (get_or xs j d)) (up (get_or xs j d)) (not_true (from (get_or xs j d)) (climbs j i d (omega (arith, u)) (omega (arith, e, h)) (ap not f)))) in
         let same : 0 + (i + 1) ≡ i + 1 = omega arith in
         let front : so_far within xs (i + 1) ≡ 0 = ap (so_far within xs) (sym same) ∙ none in
         let total : length (filter within xs) ≡ so_far within xs (i + 1 + k) = no_others ∙ ap (so_far within xs) (sym e) in

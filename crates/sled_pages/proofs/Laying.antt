@@ -3,7 +3,7 @@ use Rattle.std.proofs.Common.{◌≡◌, ℕ, ◌+◌, ◌-◌, ◌^◌, ◌<◌
 use Rattle.std.specs.Option.{option_map}
 use Rattle.std.specs.List.{find, list_all}
 use Rattle.sled_nodes.specs.Node.{pointers}
-use Rattle.sled_nodes.proofs.All.{all_push, all_weaker, first, second, both}
+use Rattle.sled_nodes.proofs.All.{all_push, all_weaker}
 use Rattle.std.specs.Ordering.{nat_cmp}
 use Rattle.std.specs.Cmp.{unsigned_ties}
 use Rattle.std.specs.BTreeMap.{BTreeMap, get, is_at}
@@ -24,6 +24,7 @@ use Rattle.sled_pages.specs.declared.memory.undo.Undo.{Undo}
 use Rattle.sled_nodes.specs.Image.{last_of, node_in, root_in, all_of, all_named, all_numbers}
 use Rattle.sled_pages.specs.Image.{IsImage}
 use Rattle.std.specs.Str.{bytes_eq}
+use Rattle.sled_nodes.proofs.Basics.{first_true, second_true, and_true}
 use Rattle.sled_nodes.specs.Order.{Key}
 use Rattle.sled_store.specs.Update.{put_name}
 use Rattle.sled_store.proofs.Roots.{same_test}
@@ -54,8 +55,8 @@ root_more list roots new name pid e h q =
 
 named_later : (a b : ℕ) (n : Node) → a ≤ b → all_named (λ p. nat_le p a) n ≡ true → all_named (λ p. nat_le p b) n ≡ true
 named_later a b n h e =
-    let r = second (all_of (λ p. nat_le p a) n.next) _ e in
-    both _ _ (of_later n.next (first _ _ e)) (both _ _ (of_later n.merging_child (first _ _ r)) (all_weaker (λ x. nat_le x.1 a) (λ x. nat_le x.1 b) (λ x. le_later x.1 a b h) (pointers n.content) (second (all_of (λ p. nat_le p a) n.merging_child) _ r)))
+    let r = second_true (all_of (λ p. nat_le p a) n.next) _ e in
+    and_true _ _ (of_later n.next (first_true _ _ e)) (and_true _ _ (of_later n.merging_child (first_true _ _ r)) (all_weaker (λ x. nat_le x.1 a) (λ x. nat_le x.1 b) (λ x. le_later x.1 a b h) (pointers n.content) (second_true (all_of (λ p. nat_le p a) n.merging_child) _ r)))
   where
     of_later : (o : Option ℕ) → all_of (λ p. nat_le p a) o ≡ true → all_of (λ p. nat_le p b) o ≡ true
     of_later None f = refl
@@ -63,12 +64,12 @@ named_later a b n h e =
 
 pub numbers_more : (image : List (ℕ × Node)) (a b pid : ℕ) (node : Node) → a ≤ b → pid ≤ b → all_named (λ p. nat_le p b) node ≡ true → all_numbers (λ p. nat_le p a) image ≡ true → all_numbers (λ p. nat_le p b) (image ++ (pid, node) ∷ []) ≡ true
 numbers_more image a b pid node h k n e = all_push (λ x. nat_le x.0 b && all_named (λ p. nat_le p b) x.1) image (pid, node)
-    (all_weaker (λ x. nat_le x.0 a && all_named (λ p. nat_le p a) x.1) (λ x. nat_le x.0 b && all_named (λ p. nat_le p b) x.1) (λ x f. both _ _ (le_later x.0 a b h (first _ _ f)) (named_later a b x.1 h (second (nat_le x.0 a) _ f))) image e)
-    (both _ _ (le_is pid b k) n)
+    (all_weaker (λ x. nat_le x.0 a && all_named (λ p. nat_le p a) x.1) (λ x. nat_le x.0 b && all_named (λ p. nat_le p b) x.1) (λ x f. and_true _ _ (le_later x.0 a b h (first_true _ _ f)) (named_later a b x.1 h (second_true (nat_le x.0 a) _ f))) image e)
+    (and_true _ _ (le_is pid b k) n)
 
 -- what a node names, from its parts
 pub node_names : (n : Node) (a b c : ℕ) (o : Option ℕ) → a ≤ b → b ≤ c → all_of (λ p. nat_le p a) n.next ≡ true → all_of (λ p. nat_le p b) n.merging_child ≡ true → list_all (λ e. nat_le e.1 c) (pointers n.content) ≡ true → all_named (λ p. nat_le p c) n ≡ true
-node_names n a b c o h k next child rest = both _ _ (of_later a c (omega arith) n.next next) (both _ _ (of_later b c k n.merging_child child) rest)
+node_names n a b c o h k next child rest = and_true _ _ (of_later a c (omega arith) n.next next) (and_true _ _ (of_later b c k n.merging_child child) rest)
   where
     of_later : (a b : ℕ) → a ≤ b → (o : Option ℕ) → all_of (λ p. nat_le p a) o ≡ true → all_of (λ p. nat_le p b) o ≡ true
     of_later a b h None f = refl
@@ -83,7 +84,7 @@ least_given last least p own h k = up_to_given last p own (le_is p last (omega a
 
 pub numbers_given : (image : List (ℕ × Node)) (last own : ℕ) → all_numbers (λ p. nat_le p last) image ≡ true → all_numbers (given_in true last own) image ≡ true
 numbers_given image last own e = all_weaker (λ x. nat_le x.0 last && all_named (λ p. nat_le p last) x.1) (λ x. given_in true last own x.0 && all_named (given_in true last own) x.1)
-    (λ x f. both _ _ (up_to_given last x.0 own (first _ _ f)) (named x.1 (second (nat_le x.0 last) _ f))) image e
+    (λ x f. and_true _ _ (up_to_given last x.0 own (first_true _ _ f)) (named x.1 (second_true (nat_le x.0 last) _ f))) image e
   where
     of_given : (o : Option ℕ) → all_of (λ p. nat_le p last) o ≡ true → all_of (given_in true last own) o ≡ true
     of_given None f = refl
@@ -91,8 +92,8 @@ numbers_given image last own e = all_weaker (λ x. nat_le x.0 last && all_named 
 
     named : (n : Node) → all_named (λ p. nat_le p last) n ≡ true → all_named (given_in true last own) n ≡ true
     named n f =
-        let r = second (all_of (λ p. nat_le p last) n.next) _ f in
-        both _ _ (of_given n.next (first _ _ f)) (both _ _ (of_given n.merging_child (first _ _ r)) (all_weaker (λ x. nat_le x.1 last) (λ x. given_in true last own x.1) (λ x. up_to_given last x.1 own) (pointers n.content) (second (all_of (λ p. nat_le p last) n.merging_child) _ r)))
+        let r = second_true (all_of (λ p. nat_le p last) n.next) _ f in
+        and_true _ _ (of_given n.next (first_true _ _ f)) (and_true _ _ (of_given n.merging_child (first_true _ _ r)) (all_weaker (λ x. nat_le x.1 last) (λ x. given_in true last own x.1) (λ x. up_to_given last x.1 own) (pointers n.content) (second_true (all_of (λ p. nat_le p last) n.merging_child) _ r)))
 
 pub roots_up_to : (roots : List (Key × ℕ)) (least : ℕ) (given : ℕ → Bool) → ((p : ℕ) → p ≤ least → given p ≡ true) → list_all (λ r. nat_le r.1 least) roots ≡ true → list_all (λ r. given r.1) roots ≡ true
 roots_up_to roots least given h e = all_weaker (λ r. nat_le r.1 least) (λ r. given r.1) (λ r f. h r.1 (le_of r.1 least f)) roots e

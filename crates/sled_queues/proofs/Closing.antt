@@ -1,5 +1,6 @@
 -- No step opens a closed database.
-use Rattle.std.proofs.Common.{◌≡◌, ℕ, true, false, List, [], ◌∷◌, Option, Some, None, refl, sym, ap, ◌∙◌, ◌⊎◌, inl, inr}
+use Rattle.std.proofs.Common.{◌≡◌, ℕ, true, List, [], ◌∷◌, Option, Some, None, refl, sym, ap, ◌∙◌, ◌⊎◌, inl, inr}
+use Rattle.sled_nodes.proofs.Basics.{true_false}
 use Rattle.sled_nodes.specs.Order.{Key}
 use Rattle.sled_store.specs.Store.{Store}
 use Rattle.sled_nodes.specs.declared.error.Error.{Error}
@@ -18,9 +19,6 @@ use Rattle.sled_model.specs.declared.outcome.Step.{Step}
 use Rattle.sled_model.specs.declared.outcome.Step.TheVariants as step
 use Rattle.sled_model.specs.declared.outcome.Outcome.{Outcome}
 use Rattle.sled_model.specs.declared.outcome.Outcome.TheVariants as outcome
-
-differ : {P : Type 0} → true ≡ false → P
-differ e = cc
 
 -- the database is open after it exactly where it was before
 abbrev Stays : State → State → Type 0
@@ -72,7 +70,7 @@ writes_done (w ∷ ws) s = writes_done ws (after_write w s) ∙ write_done (s.tr
 -- a refused group leaves all as it was, or closes the database
 group_stops : {P : Type 0} (a b : State) → (b ≡ a) ⊎ (P × Closes a b) → b.is_open ≡ true → Stays a b
 group_stops a b (inl e) h = same a b e
-group_stops a b (inr c) h = differ (sym h ∙ ap (λ (s : State). s.is_open) c.1.is)
+group_stops a b (inr c) h = true_false (sym h ∙ ap (λ (s : State). s.is_open) c.1.is)
 
 whole_done : (a : Configuration) (w : Whole) (o : Outcome) (b : Configuration) (maps : List Maps) → transition_as a (step.Whole w) o b maps → b.state.is_open ≡ true → Stays a.state b.state
 whole_done a Flush (outcome.Decided reply) b maps t h = same a.state b.state t.2

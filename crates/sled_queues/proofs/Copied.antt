@@ -1,14 +1,11 @@
 -- Copies of a part of a map.
-use Rattle.std.proofs.Common.{◌≡◌, ℕ, ◌+◌, Bool, true, false, cond, not, nat_eq, nat_le, ◌&&◌, min, List, [], ◌∷◌, ◌++◌, append_assoc, append-nil, length, drop, Option, Some, None, option_map, slice_get, sym, refl, ap, ◌∙◌, subst, is_eq, Less, Equal, Greater, arith}
+use Rattle.std.proofs.Common.{◌≡◌, ℕ, ◌+◌, Bool, true, false, cond, not, nat_eq, nat_le, ◌&&◌, min, List, [], ◌∷◌, ◌++◌, append_assoc, append-nil, length, drop, Option, Some, None, option_map, slice_get, sym, refl, ap, ◌∙◌, subst, arith}
 use Rattle.std.specs.List.{starts_with}
 use Rattle.std.specs.Option.{option_to_list}
 use Rattle.std.proofs.lemmas.Bool.{eqb-true}
-use Rattle.std.specs.Cmp.{IsTotalOrder}
 use Rattle.std.specs.Ordering.{eq_by_cmp}
-use Rattle.std.specs.declared.cmp.Ordering.{Ordering}
-use Rattle.std.specs.FinMap.{slice_cmp-IsAntisymmetric, nat_cmp-IsAntisymmetric}
 use Rattle.std.specs.FinMap.Entries.{find, find-put, find-where_key}
-use Rattle.std.proofs.lemmas.Cmp.{nat_list_cmp_total}
+use Rattle.sled_nodes.proofs.Basics.{true_false, not_cond, key_total, key_same, tied}
 use Rattle.sled_nodes.specs.Order.{Key, key_cmp}
 use Rattle.sled_model.specs.Maps.{Map}
 use Rattle.sled_model.specs.Event.{key_of_event}
@@ -24,37 +21,18 @@ use Rattle.sled_queues.specs.Events.{Turn, Comes, Watches, Takes, Ends, after_tu
 use Rattle.sled_queues.specs.Copies.{after_event, after_events, ChangesLaw, is_under, events_under, IsCopy, CopyLaw, came_to, events_told, TellsEvents, FollowsLaw}
 use Rattle.sled_queues.proofs.Hearing.{turned, eqb_flip, after_one, brought_all, turned_tree, turned_prefix}
 
-key_total : IsTotalOrder key_cmp
-unfolding key_cmp
-key_total = nat_list_cmp_total
-
-key_same : (a b : Key) → key_cmp a b ≡ Equal → a ≡ b
-unfolding key_cmp
-key_same a b e = slice_cmp-IsAntisymmetric nat_cmp-IsAntisymmetric a b e
-
-differ : {P : Type 0} → true ≡ false → P
-differ e = cc
-
 pub changes_law : ChangesLaw
 changes_law effect.Nothing key m = refl
 changes_law (effect.Set v) key m = refl
 changes_law effect.Remove key m = refl
-
-tied : (a b : Key) → eq_by_cmp key_cmp a b ≡ true → a ≡ b
-tied a b e = go (key_cmp a b) refl e
-  where
-    go : (o : Ordering) → key_cmp a b ≡ o → is_eq o ≡ true → a ≡ b
-    go Less e t = differ (sym t)
-    go Equal e t = key_same a b e
-    go Greater e t = differ (sym t)
 
 -- what is found at a key after a change of the value at another, or the same, of which so much is known: whether they are the same,
 -- whether each is under the prefix, and that the same keys are both or neither
 changed : (v : Option Key) (same here under : Bool) (in_copy in_map : Option Key) → (same ≡ true → here ≡ under) → in_copy ≡ cond here in_map None
     → cond under (cond same v in_copy) in_copy ≡ cond here (cond same v in_map) None
 changed v true true true in_copy in_map e h = refl
-changed v true true false in_copy in_map e h = differ (e refl)
-changed v true false true in_copy in_map e h = differ (sym (e refl))
+changed v true true false in_copy in_map e h = true_false (e refl)
+changed v true false true in_copy in_map e h = true_false (sym (e refl))
 changed v true false false in_copy in_map e h = h
 changed v false true true in_copy in_map e h = h
 changed v false true false in_copy in_map e h = h
@@ -65,10 +43,6 @@ changed v false false false in_copy in_map e h = h
 abbrev value_of : Event → Option Key
 value_of (Insert key value) = Some value
 value_of (Remove key) = None
-
-not_cond : {X : Type 0} (b : Bool) (x y : X) → cond (not b) x y ≡ cond b y x
-not_cond true x y = refl
-not_cond false x y = refl
 
 found_after : (e : Event) (m : Map) (q : Key) → find key_cmp q (after_event e m) ≡ cond (eq_by_cmp key_cmp q (key_of_event e)) (value_of e) (find key_cmp q m)
 found_after (Insert k v) m q = find-put key_cmp key_total q k v m

@@ -3,6 +3,7 @@ use Rattle.std.proofs.Common.{◌≡◌, ℕ, Bool, true, false, cond, nat_eq, L
 use Rattle.std.proofs.Math.Path.{fun_ext}
 use Rattle.std.specs.Prelude.{map}
 use Rattle.std.specs.Option.{option_to_list}
+use Rattle.sled_nodes.proofs.Basics.{none_some, some_is}
 use Rattle.sled_nodes.specs.Order.{Key}
 use Rattle.sled_store.specs.Update.{put_at}
 use Rattle.sled_model.specs.Backlog.{Backlog, no_backlog, comes, come_all}
@@ -15,12 +16,6 @@ use Rattle.sled_queues.specs.Turns.{turns_of_events}
 use Rattle.sled_queues.specs.Queues.{queue_of, queues_of, IsCalm, prepared_in, prepared, committed_in, committed, cancelled_in, taken_in}
 use Rattle.sled_queues.specs.Laws.{CalmLaw, prepared_all, delivered_all, DeliversGroupLaw}
 use Rattle.sled_queues.proofs.Lawful.{on_option, map_twice, map_same, calm_from}
-
-none_some : {P A : Type 0} {a : A} → None ≡ Some a → P
-none_some e = cc
-
-some_is : {A : Type 0} {a b : A} → Some a ≡ Some b → a ≡ b
-some_is e = cc
 
 -- what some events make of one queue
 abbrev gain : List (ℕ × Event) → WaitingValue → WaitingValue

@@ -20,9 +20,6 @@ turned n (Takes m) q = cond (nat_eq n m) (without_next q) q
 turned n (Watches m tree prefix) q = q
 turned n (Ends m) q = q
 
-differ : {P : Type 0} → true ≡ false → P
-differ e = cc
-
 pub eqb_flip : (m n : ℕ) → nat_eq m n ≡ nat_eq n m
 eqb_flip m n = go (nat_eq n m) refl
   where

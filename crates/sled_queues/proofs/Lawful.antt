@@ -1,15 +1,13 @@
 -- The laws of queues.
 use Rattle.std.proofs.Common.{◌≡◌, Bool, true, false, cond, [], ◌∷◌, ◌++◌, Option, Some, None, option_map, sym, refl, ap, ◌∙◌}
 use Rattle.std.proofs.Math.Path.{fun_ext}
+use Rattle.sled_nodes.proofs.Basics.{none_some, some_is}
 use Rattle.sled_model.specs.Backlog.{comes, come_all}
 use Rattle.sled_model.specs.State.{Queue, matches}
 use Rattle.sled_model.specs.declared.event.Event.{Event}
 use Rattle.sled_queues.specs.Values.{WaitingValue}
 use Rattle.sled_queues.specs.Queues.{queue_of, prepared_in, committed_in, cancelled_in}
 use Rattle.sled_queues.specs.Laws.{DeliversLaw, CancelsLaw}
-
-some_is : {A : Type 0} {a b : A} → Some a ≡ Some b → a ≡ b
-some_is e = cc
 
 -- two functions that are the same on what a queue is, if there is one
 pub on_option : {W X : Type 0} (f g : W → X) (o : Option W) → ((w : W) → o ≡ Some w → f w ≡ g w) → option_map f o ≡ option_map g o
@@ -39,9 +37,6 @@ told_as e w false calm = ap (λ l. record (queue_of w) { backlog = come_all l w.
 gone_as : (e : Event) (w : WaitingValue) (b : Bool) → w.coming ≡ [] → cancelled_in (gained e w b) ≡ w
 gone_as e w true calm = ap (λ l. record w { coming = l }) (sym calm)
 gone_as e w false calm = ap (λ l. record w { coming = l }) (sym calm)
-
-none_some : {P A : Type 0} {a : A} → None ≡ Some a → P
-none_some e = cc
 
 pub calm_from : (f : WaitingValue → WaitingValue) (o : Option WaitingValue) (w : WaitingValue) → ((v : WaitingValue) → o ≡ Some v → (f v).coming ≡ []) → option_map f o ≡ Some w → w.coming ≡ []
 calm_from f None w h e = none_some e

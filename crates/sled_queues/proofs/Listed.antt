@@ -6,6 +6,7 @@ use Rattle.std.specs.Str.{bytes_eq}
 use Rattle.std.proofs.lemmas.Bool.{eq-eqb, ne_eqb, eqb-true, leb-true, leb-false}
 use Rattle.std.proofs.lemmas.List.{length-append}
 use Rattle.std.proofs.lemmas.List.Folds.{list_any-append}
+use Rattle.sled_nodes.proofs.Basics.{none_some, some_is}
 use Rattle.sled_nodes.specs.Order.{Key}
 use Rattle.sled_store.specs.Update.{put_at}
 use Rattle.sled_model.specs.Backlog.{Backlog, queue_limit, most_missed, comes, come_all}
@@ -22,12 +23,6 @@ use Rattle.sled_queues.proofs.Single.{push_once, without_once, without_keeps, wi
 -- how many events wait in a queue
 abbrev waiting : WaitingValue → ℕ
 waiting w = length w.backlog.events
-
-none_some : {P A : Type 0} {a : A} → None ≡ Some a → P
-none_some e = cc
-
-some_is : {A : Type 0} {a b : A} → Some a ≡ Some b → a ≡ b
-some_is e = cc
 
 -- what a queue was that is changed
 was : {W : Type 0} (g : W → W) (o : Option W) (w : W) → option_map g o ≡ Some w → (v : W) × (o ≡ Some v) × (w ≡ g v)

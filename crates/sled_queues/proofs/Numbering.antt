@@ -6,6 +6,7 @@ use Rattle.std.specs.Str.{bytes_eq}
 use Rattle.std.proofs.lemmas.List.{map-append}
 use Rattle.std.proofs.lemmas.Bool.{eq-eqb, eqb-true}
 use Rattle.std.proofs.lemmas.Slice.Eq.{bytes_eq-Decides}
+use Rattle.sled_nodes.proofs.Basics.{none_some, some_is, true_false}
 use Rattle.sled_nodes.specs.Order.{Key}
 use Rattle.sled_store.specs.Update.{put_name}
 use Rattle.sled_store.specs.Store.{Store}
@@ -35,15 +36,6 @@ use Rattle.sled_queues.specs.Copies.{after_event_of, after_events, came_to, came
 use Rattle.sled_queues.specs.Turns.{turns_of_event, turns_of_call, turns_of_pop, turns_of_removals, turns_of_part, turns_of_parts, turns_of_events, turns_of_stop, turns_of}
 use Rattle.sled_queues.specs.Trees.{AreNumbered, drops, IsTreeAfter, TellsTrees, TreesLaw}
 use Rattle.sled_queues.proofs.Copied.{changes_law, after_both}
-
-differ : {P : Type 0} → true ≡ false → P
-differ e = cc
-
-some_is : {A : Type 0} {a b : A} → Some a ≡ Some b → a ≡ b
-some_is e = cc
-
-none_some : {P A : Type 0} {a : A} → None ≡ Some a → P
-none_some e = cc
 
 -- the same of trees alone: they are those of the state after, and some are dropped
 record Tells (a : State) (keeps : Key → Bool) (turns : List Turn) (b : State) : Type 0 where
@@ -157,7 +149,7 @@ decided s at t call here n = record {
       where
         off : (b : Bool) → nat_eq u.number t.number ≡ b → b ≡ false
         off false h = refl
-        off true h = differ (sym (bytes_itself at) ∙ ap (λ k. bytes_eq k at) (sym (n.apart name at u t there here (eqb-true u.number t.number h))) ∙ e)
+        off true h = true_false (sym (bytes_itself at) ∙ ap (λ k. bytes_eq k at) (sym (n.apart name at u t there here (eqb-true u.number t.number h))) ∙ e)
 
 -- the state is another, but has its trees
 with_state : (a b c : State) (keeps : Key → Bool) (turns : List Turn) → c ≡ b → Tells a keeps turns b → Tells a keeps turns c
@@ -307,7 +299,7 @@ where_open a s o turns b h = record { numbered = h.numbered; maps = λ is_open. 
 closed_told : (a b : State) (s : Step) (o : Outcome) → Closes a b → AreNumbered a → TellsTrees a s o [] b
 closed_told a b s o c n = record {
   numbered = numbered_as a b (ap (λ (z : State). z.trees_given) c.is) (λ name u there. was name u (a.trees name) refl (ap (λ (z : State). z.trees name) (sym c.is) ∙ there)) n;
-  maps = λ is_open. differ (sym is_open ∙ ap (λ (z : State). z.is_open) c.is);
+  maps = λ is_open. true_false (sym is_open ∙ ap (λ (z : State). z.is_open) c.is);
 }
   where
     was : (name : Key) (u : NamedTree) (o : Option NamedTree) → a.trees name ≡ o → c.trees name ≡ Some u → (v : NamedTree) × (a.trees name ≡ Some v) × (u.number ≡ v.number)

@@ -2,6 +2,7 @@
 use Rattle.std.proofs.Common.{◌≡◌, ℕ, Bool, true, false, cond, nat_eq, List, [], ◌∷◌, ◌++◌, append-nil, append_assoc, Option, Some, None, refl, sym, ap, ◌∙◌, ◌⊎◌, inl, inr}
 use Rattle.std.specs.Option.{option_to_list}
 use Rattle.std.proofs.lemmas.Bool.{eqb-true}
+use Rattle.sled_nodes.proofs.Basics.{none_some}
 use Rattle.sled_nodes.specs.Order.{Key}
 use Rattle.sled_store.specs.Store.{Store}
 use Rattle.sled_nodes.specs.declared.error.Error.{Error}
@@ -195,9 +196,6 @@ quiet_stop n (inr s) = quiet_parts n s.1.does
 
 heard : (n : ℕ) (s : Step) (o : Outcome) (ts : List Turn) (queues : Queues) → told_at n s o ≡ [] → IsQuiet n ts → IsHeard n s o ts queues
 heard n s o ts queues e h = record { stays = h.stays; told = e ∙ sym (h.none queues) }
-
-none_some : {P A : Type 0} {a : A} → None ≡ Some a → P
-none_some e = cc
 
 -- what its own `Next` tells
 next_told : (n m : ℕ) (reply : Reply) (e : Option event.Next) (queues : Queues) → reply ≡ told.Next e → e ≡ next_in (queues m) → told_at n (step.Whole (Next m)) (outcome.Decided reply) ≡ taken_by n (Takes m ∷ []) queues

@@ -1,22 +1,16 @@
 -- What a test of equality that says yes tells of lists and pairs.
-use Rattle.std.proofs.Common.{◌≡◌, ◌∙◌, ℕ, Bool, true, false, ◌&&◌, nat_eq, List, [], ◌∷◌, Option, Some, None, refl, ap}
+use Rattle.std.proofs.Common.{◌≡◌, ◌∙◌, ℕ, Bool, true, ◌&&◌, nat_eq, List, [], ◌∷◌, Option, Some, None, refl, ap}
 use Rattle.std.specs.Cmp.Lexicographic.{pointwise}
 use Rattle.std.specs.Global.{Vec}
 use Rattle.std.specs.Option.{option_eq}
 use Rattle.std.specs.Str.{bytes_eq}
+use Rattle.sled_nodes.proofs.Basics.{false_true, both_true}
 use Rattle.sled_nodes.specs.Order.{Key}
 use Rattle.sled_store.specs.theory.Facts.{same_name}
 use Rattle.sled_model.specs.Collections.{content_of}
 
 abbrev Sound : {X : Type 0} → (X → X → Bool) → Type 0
 Sound {X = X} E = (x y : X) → E x y ≡ true → x ≡ y
-
-false_true : {P : Type 0} → false ≡ true → P
-false_true e = cc
-
-both_true : (a b : Bool) → (a && b) ≡ true → (a ≡ true) × (b ≡ true)
-both_true true b e = (refl, e)
-both_true false b e = false_true e
 
 lists_same : {X : Type 0} (E : X → X → Bool) → Sound E → Sound (pointwise E)
 lists_same E h [] [] e = refl

@@ -3,6 +3,7 @@ use Rattle.std.proofs.Common.{◌≡◌, ◌∙◌, ℕ, Bool, true, false, cond
 use Rattle.std.proofs.Math.Path.{fun_ext}
 use Rattle.std.specs.FinMap.Entries.{find}
 use Rattle.std.specs.Str.{bytes_eq}
+use Rattle.sled_nodes.proofs.Basics.{none_some}
 use Rattle.sled_nodes.specs.Order.{Key, key_cmp}
 use Rattle.sled_nodes.specs.Ranges.{Range}
 use Rattle.sled_nodes.specs.declared.error.Error.{Error}
@@ -32,9 +33,6 @@ use Rattle.sled_shared.specs.Notes.{entries_of, noted_as, noted_in}
 use Rattle.sled_shared.specs.Sound.{IsOpen, maps_now, IsState}
 use Rattle.sled_shared.proofs.Ids.{begun_risen, abandoned_risen, none_risen}
 
-no_some : {X : Type 0} {x : X} {P : Type 0} → None ≡ Some x → P
-no_some e = cc
-
 pub legal_end : {a m b : Maps} {es : List EntryValue} (e : EntryValue) → IsLegal a es m → makes_as m e.made b → IsLegal a (es ++ e ∷ []) b
 legal_end e NoEntries h = OneEntry h NoEntries
 legal_end e (OneEntry x rest) h = OneEntry x (legal_end e rest h)
@@ -51,11 +49,11 @@ comes merge (Scan lo hi back) value = refl
 
 -- a scan changes no map
 scan_keeps : (call : Call) (r : Range) → range_of call ≡ Some r → (value : Option Key) (d : Decision) → comes_to call value d → (k : Key) (m : Map) → map_after d.effect k m ≡ m
-scan_keeps (Get key) r e value d c k m = no_some e
-scan_keeps (Insert key v) r e value d c k m = no_some e
-scan_keeps (Remove key) r e value d c k m = no_some e
-scan_keeps (CompareAndSwap key old new) r e value d c k m = no_some e
-scan_keeps (Merges key bytes) r e value d c k m = no_some e
+scan_keeps (Get key) r e value d c k m = none_some e
+scan_keeps (Insert key v) r e value d c k m = none_some e
+scan_keeps (Remove key) r e value d c k m = none_some e
+scan_keeps (CompareAndSwap key old new) r e value d c k m = none_some e
+scan_keeps (Merges key bytes) r e value d c k m = none_some e
 scan_keeps (Scan lo hi back) r e value d c k m = ap (λ (x : Decision). map_after x.effect k m) c
 
 -- to put a map where it stands changes nothing

@@ -1,5 +1,6 @@
 -- What steps note, told by their outcomes alone.
 use Rattle.std.proofs.Common.{◌≡◌, ◌≢◌, ◌∙◌, ℕ, Bool, true, false, cond, List, [], ◌∷◌, ◌++◌, append-nil, Option, Some, None, Ok, Err, sym, refl, ap, subst}
+use Rattle.sled_nodes.proofs.Basics.{none_some}
 use Rattle.sled_nodes.specs.Order.{Key}
 use Rattle.sled_nodes.specs.Ranges.{Range}
 use Rattle.sled_store.specs.Store.{Store}
@@ -22,16 +23,13 @@ use Rattle.sled_shared.specs.Made.{MadeValue, PointMade}
 use Rattle.sled_shared.specs.Notes.{noted_as, noted_in, AddsReply, AddsStep}
 use Rattle.sled_shared.specs.Steps.{SlotStep}
 
-no_some : {X : Type 0} {x : X} {P : Type 0} → None ≡ Some x → P
-no_some e = cc
-
 -- the reply of a scan is its end, and of no call on a key
 scan_ends : (merge : Option Merge) (call : Call) (value : Option Key) (r : Range) → range_of call ≡ Some r → (decision_of merge call value).reply ≡ told.End
-scan_ends merge (Get k) value r e = no_some e
-scan_ends merge (Insert k v) value r e = no_some e
-scan_ends merge (Remove k) value r e = no_some e
-scan_ends merge (CompareAndSwap k old new) value r e = no_some e
-scan_ends merge (Merges k bytes) value r e = no_some e
+scan_ends merge (Get k) value r e = none_some e
+scan_ends merge (Insert k v) value r e = none_some e
+scan_ends merge (Remove k) value r e = none_some e
+scan_ends merge (CompareAndSwap k old new) value r e = none_some e
+scan_ends merge (Merges k bytes) value r e = none_some e
 scan_ends merge (Scan lo hi back) value r e = refl
 
 either_no_end : (b : Bool) (x y : Decision) → (x.reply ≡ told.End → ⊥) → (y.reply ≡ told.End → ⊥) → (cond b x y).reply ≡ told.End → ⊥
@@ -48,7 +46,7 @@ no_end merge (CompareAndSwap k old new) value e h =
     either_no_end (same_value value old) swapped conflict (λ q. cc) (λ q. cc) h
 no_end None (Merges k bytes) value e h = cc
 no_end (Some merge) (Merges k bytes) value e h = cc
-no_end merge (Scan lo hi back) value e h = no_some (sym e)
+no_end merge (Scan lo hi back) value e h = none_some (sym e)
 
 -- a reply that is no end comes to the list
 adds_reply : (reply : Reply) (tree : Tree) (call : Call) (made more : List MadeValue) → reply ≢ told.End → more ≡ made ++ PointMade tree call reply ∷ [] → AddsReply reply made more

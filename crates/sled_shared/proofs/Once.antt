@@ -1,14 +1,8 @@
 -- Numbers that are there once each.
-use Rattle.std.proofs.Common.{◌≡◌, ◌≢◌, ◌∙◌, ℕ, ◌+◌, ◌≤◌, ◌⊎◌, inl, inr, true, false, nat_eq, List, Option, Some, None, IfSome, refl, sym, ap, arith}
-use Rattle.std.proofs.lemmas.Bool.{eq-eqb, eqb-true}
+use Rattle.std.proofs.Common.{◌≡◌, ◌≢◌, ◌∙◌, ℕ, ◌+◌, ◌≤◌, inl, inr, List, Option, Some, None, IfSome, ap, arith}
+use Rattle.sled_nodes.proofs.Basics.{same_or_not}
 use Rattle.sled_shared.specs.Gathered.{EachOnce, times}
 use Rattle.sled_shared.specs.Values.{CallerValue}
-
-false_true : {P : Type 0} → false ≡ true → P
-false_true e = cc
-
-same_or_not : (a b : ℕ) → (a ≡ b) ⊎ (a ≢ b)
-same_or_not a b = elim (nat_eq a b) as (λ t. nat_eq a b ≡ t → (a ≡ b) ⊎ (a ≢ b)) [ true ↦ λ e. inl (eqb-true a b e) | false ↦ λ e. inr (λ h. false_true (sym e ∙ eq-eqb a b h)) ] refl
 
 -- one number more
 pub once_more : (k : ℕ) (callers : List CallerValue) → EachOnce k callers → times callers (k + 1) ≡ 1 → EachOnce (k + 1) callers

@@ -6,6 +6,7 @@ use Rattle.std.specs.Ordering.{eq_by_cmp}
 use Rattle.std.specs.declared.cmp.Ordering.{Ordering}
 use Rattle.std.specs.FinMap.Entries.{find}
 use Rattle.std.specs.Str.{bytes_eq}
+use Rattle.sled_nodes.proofs.Basics.{none_some, false_true, key_total, key_same}
 use Rattle.sled_nodes.specs.Order.{Key, key_cmp}
 use Rattle.sled_store.specs.Store.{Store, now}
 use Rattle.sled_store.specs.theory.Facts.{same_name, name_itself}
@@ -14,19 +15,12 @@ use Rattle.sled_model.specs.Maps.{Map, Maps, Merge}
 use Rattle.sled_model.specs.State.{NamedTree}
 use Rattle.sled_store.specs.State.{nodes_of}
 use Rattle.tree_laws.specs.Contents.{trees_of, pairs_under}
-use Rattle.tree_laws.proofs.Order.{key_same, key_total}
 use Rattle.sled.specs.Export.{collections}
 use Rattle.sled.specs.Sound.{IsDb}
 use Rattle.sled.specs.Values.{DbValue, named, numbers_of}
 use Rattle.sled_calls.specs.Values.{MachineValue}
 use Rattle.sled_shared.specs.History.{maps_from}
 use Rattle.sled_shared.specs.Sound.{maps_now}
-
-no_some : {X : Type 0} {x : X} {P : Type 0} → None ≡ Some x → P
-no_some e = cc
-
-false_true : {P : Type 0} → false ≡ true → P
-false_true e = cc
 
 order_equal : (o : Ordering) → is_eq o ≡ true → o ≡ Equal
 order_equal Less q = false_true q
@@ -57,7 +51,7 @@ of_collections maps (t ∷ ts) name = go (of_collections maps ts name) (bytes_eq
 by_number : (map : Option Map) (number : Option ℕ) (merges : ℕ → Option Merge) → ((n : ℕ) → number ≡ Some n → (x : Map) × (map ≡ Some x))
     → option_map (λ (n : ℕ). unwrap_or map []) number ≡ option_map (λ (t : NamedTree). t.map) (named number map merges)
 by_number map None merges h = refl
-by_number None (Some n) merges h = no_some (h n refl).1
+by_number None (Some n) merges h = none_some (h n refl).1
 by_number (Some x) (Some n) merges h = refl
 
 -- a database begins with the maps that its export has

@@ -3,6 +3,7 @@ use Rattle.std.proofs.Common.{◌≡◌, ◌≢◌, ◌∙◌, ℕ, zero, suc, B
 use Rattle.std.proofs.lemmas.List.Elements.{All-nil, All-cons, All-head, All-tail}
 use Rattle.std.specs.Global.{Vec}
 use Rattle.std.specs.Str.{bytes_eq}
+use Rattle.sled_nodes.proofs.Basics.{some_none}
 use Rattle.sled_nodes.specs.Order.{Key}
 use Rattle.sled_nodes.specs.declared.error.Error.{Error}
 use Rattle.sled_nodes.specs.declared.error.Error.TheVariants.{NoMemory}
@@ -32,12 +33,6 @@ use Rattle.sled_shared.specs.Made.{MadeValue, PartsMade, whole_value}
 use Rattle.sled_shared.specs.Wholes.{WholeValue}
 use Rattle.sled_shared.specs.Wholes as value
 use Rattle.sled_shared.specs.WholeNotes.{noted_with, whole_test, DoesWhole, ComesToWhole}
-
-some_none : {X : Type 0} {x : X} {P : Type 0} → Some x ≡ None → P
-some_none e = cc
-
-false_true : {P : Type 0} → false ≡ true → P
-false_true e = cc
 
 -- copies
 group_same : (x : Vec (Tree × Writes)) (b : Whole) → is_same_whole (Group x) b → whole_value (Group x) ≡ whole_value b

@@ -1,5 +1,5 @@
 -- Roots as a sorted list of pairs.
-use Rattle.std.proofs.Common.{◌≡◌, ℕ, Bool, true, false, not, cond, T, List, Option, Some, None, Result, Ok, Err, OnOk, OnErr, refl, sym, ap, subst, ◌∙◌}
+use Rattle.std.proofs.Common.{◌≡◌, ℕ, Bool, true, false, not, cond, List, Option, Some, None, Result, Ok, Err, OnOk, OnErr, refl, sym, ap, ◌∙◌}
 use Rattle.std.proofs.Math.Path.{fun_ext}
 use mathlib.Core.Bool.{true≢false}
 use Rattle.std.specs.Str.{bytes_eq}
@@ -7,6 +7,7 @@ use Rattle.std.specs.FinMap.{slice_cmp-IsAntisymmetric, nat_cmp-IsAntisymmetric}
 use Rattle.std.specs.FinMap.Entries.{put, find, where_key, is_sorted, find-put, find-where_key, is_sorted-put, is_sorted-where_key}
 use Rattle.std.specs.Ordering.{nat_cmp, eq_by_cmp}
 use Rattle.std.specs.Cmp.Lexicographic.{slice_cmp, nat_list_cmp_total, texts_ties}
+use Rattle.sled_nodes.proofs.Basics.{true_of, of_true}
 use Rattle.sled_nodes.specs.Order.{Key, key_cmp}
 use Rattle.sled_store.specs.Update.{put_name}
 use Rattle.sled_store.specs.Roots.{roots_of}
@@ -37,21 +38,14 @@ root_out name roots = fun_ext (λ q.
     find-where_key (slice_cmp nat_cmp) (λ x. not (eq_by_cmp (slice_cmp nat_cmp) name x)) q (λ x e. ap (λ y. not (eq_by_cmp (slice_cmp nat_cmp) name y)) (sym (slice_cmp-IsAntisymmetric nat_cmp-IsAntisymmetric q x e))) roots
     ∙ (ap (λ b. cond (not b) (find (slice_cmp nat_cmp) q roots) None) (sym (texts_ties name q) ∙ same_test q name) ∙ flip (bytes_eq q name) (find (slice_cmp nat_cmp) q roots)))
 
-holds : (b : Bool) → b ≡ true → T b
-holds b e = subst T (sym e) tt
-
-told : (b : Bool) → T b → b ≡ true
-told true h = refl
-told false h = absurd h
-
 put_ascends : (name : Key) (pid : ℕ) (roots : List (Key × ℕ)) → is_sorted key_cmp roots ≡ true → is_sorted key_cmp (put (slice_cmp nat_cmp) name pid roots) ≡ true
 unfolding key_cmp
-put_ascends name pid roots h = told _ (is_sorted-put (slice_cmp nat_cmp) nat_list_cmp_total name pid roots (holds _ h))
+put_ascends name pid roots h = true_of _ (is_sorted-put (slice_cmp nat_cmp) nat_list_cmp_total name pid roots (of_true _ h))
 
 -- roots stay in order
 pub out_ascends : (keeps : Key → Bool) (roots new : List (Key × ℕ)) → new ≡ where_key (slice_cmp nat_cmp) keeps roots → is_sorted key_cmp roots ≡ true → is_sorted key_cmp new ≡ true
 unfolding key_cmp
-out_ascends keeps roots new e h = ap (is_sorted (slice_cmp nat_cmp)) e ∙ told _ (is_sorted-where_key (slice_cmp nat_cmp) keeps roots (holds _ h))
+out_ascends keeps roots new e h = ap (is_sorted (slice_cmp nat_cmp)) e ∙ true_of _ (is_sorted-where_key (slice_cmp nat_cmp) keeps roots (of_true _ h))
 
 pub put_told : {E : Type 0} (name : Key) (pid : ℕ) (roots new : List (Key × ℕ)) (r : Result (Unit {0}) E) → OnOk r (new ≡ put (slice_cmp nat_cmp) name pid roots) → OnErr r (new ≡ roots) → is_sorted key_cmp roots ≡ true → is_sorted key_cmp new ≡ true
 put_told name pid roots new (Ok done) e f h = ap (is_sorted key_cmp) e ∙ put_ascends name pid roots h

@@ -2,6 +2,7 @@
 use Rattle.std.proofs.Common.{◌≡◌, ◌≢◌, ℕ, false, List, [], Option, Some, None, MatchOption, Ok, Err, sym, refl, ap, ◌∙◌, subst, inl, inr}
 use Rattle.std.specs.FinMap.Entries.{find}
 use Rattle.std.specs.declared.ops.Bound.TheVariants.{Included}
+use Rattle.sled_nodes.proofs.Basics.{none_some, some_is}
 use Rattle.sled_nodes.specs.Order.{Key, key_cmp}
 use Rattle.sled_nodes.specs.Node.{after_link}
 use Rattle.sled_store.specs.Store.{Store, Changes}
@@ -30,7 +31,6 @@ use Rattle.sled_tree.specs.theory.StageAction.{StageActionBy, DecidesAs, Only}
 use Rattle.sled_nodes.specs.Node.{value_at}
 use Rattle.sled_model.specs.State.{IsOnKey}
 use Rattle.sled_tree.proofs.Replying.{links_on_key}
-use Rattle.sled_tree.proofs.Basics.{none_some, some_is}
 use Rattle.sled_tree.proofs.Facts.{once_acts, leaves_replaced, rid_of_none}
 
 -- the link of an effect changes the tree's contents as the effect does

@@ -1,5 +1,6 @@
 -- What is known of a call that comes to its change, or is decided before it: it did nothing, and the leaf stands as it was read.
 use Rattle.std.proofs.Common.{◌≡◌, ℕ, ◌⊎◌, Bool, Option, Some, None, MatchOption, Result, Ok, Err, sym, refl, ap, ◌∙◌, subst, inl, inr}
+use Rattle.sled_nodes.proofs.Basics.{none_some, some_is}
 use Rattle.sled_nodes.specs.Node.{after_link}
 use Rattle.sled_store.specs.Store.{Store, now, view_of}
 use Rattle.sled_nodes.specs.declared.error.Error.{Error}
@@ -30,7 +31,6 @@ use Rattle.tree_laws.specs.declared.flight.Stage.TheVariants as stage
 use Rattle.tree_laws.specs.Stages.{parent_of}
 use Rattle.tree_laws.specs.declared.flight.Reached.{Reached}
 use Rattle.tree_laws.specs.declared.flight.Reached.TheVariants as reached
-use Rattle.sled_tree.proofs.Basics.{none_some, some_is}
 use Rattle.sled_tree.specs.Passing.{IsUnchanged}
 use Rattle.sled_tree.specs.Follows.{resumed, begun, onward, pointed, down, done_at, OrNoMemory, follows_leaf_as, follows_content, follows_here, follows_open, follows_not_merging, follows_read, follows_child, follows_child_not_merging, follows_cursor, follows_cursor_not_merging, follows_search, follows_met, searched, FollowsPage, follows_root, LinksChange, OrRefused, TakesWay, after_install_left, after_swap_root, read_again, sought_again, follows_as, Follows}
 

@@ -1,6 +1,7 @@
 -- The steps of a walk.
 use native.Mathlib.Omega.{arith}
 use Rattle.std.proofs.Common.{◌≡◌, ℕ, ◌+◌, ◌<◌, ◌≤◌, true, false, Bool, is_none, Option, Some, None, Result, Ok, Err, IfOk, IfErr, OnOk, MatchOption, refl, sym, ap, ◌∙◌, subst, inl, inr}
+use Rattle.sled_nodes.proofs.Basics.{true_false}
 use Rattle.sled_nodes.specs.Order.{Key}
 use Rattle.sled_nodes.specs.Among.{IsPointer, IsPointerFor}
 use Rattle.sled_nodes.specs.Node.{count, pointers}
@@ -33,7 +34,6 @@ use Rattle.tree_laws.specs.Stages.{by_pointer}
 use Rattle.tree_laws.specs.declared.flight.Reached.{Reached}
 use Rattle.tree_laws.specs.declared.flight.Reached.TheVariants as reached
 use Rattle.sled_tree.proofs.Facts.{unable, unread, restarts}
-use Rattle.sled_tree.proofs.Basics.{true_false}
 use Rattle.sled_tree.proofs.Arriving.{goes, root_read, cursor_read, descends, acts, keeps, answers}
 use Rattle.sled_tree.proofs.Replying.{links_on_key}
 use Rattle.sled_tree.proofs.Following.{opened}

@@ -3,6 +3,7 @@ use Rattle.std.proofs.Common.{◌≡◌, ℕ, ◌+◌, ◌<◌, ◌≤◌, ◌�
 use Rattle.std.specs.Ordering.{is_gt, ordering_reverse}
 use Rattle.std.specs.declared.cmp.Ordering.{Ordering}
 use Rattle.std.proofs.lemmas.Bool.Decides.{leb_tells}
+use Rattle.sled_nodes.proofs.Basics.{none_some, some_is, same_or_not, key_total}
 use Rattle.sled_nodes.specs.Order.{Key, key_cmp, Below, UpTo}
 use Rattle.sled_store.specs.In.{In}
 use Rattle.sled_nodes.specs.Node.{count}
@@ -22,9 +23,7 @@ use Rattle.tree_laws.specs.Snapshot.{Snapshot, snapshot_of, nodes_at, HasForest}
 use Rattle.tree_laws.specs.theory.Snapshot.{KeepsForest, GrowsByReceiving}
 use Rattle.tree_laws.specs.theory.StageLaws.{StageActionLaw}
 use Rattle.tree_laws.proofs.Known.{goes_same, root_in}
-use Rattle.tree_laws.proofs.Replace.{same_number}
 use Rattle.tree_laws.proofs.Update.{put_here, put_there, name_here}
-use Rattle.tree_laws.proofs.Order.{key_total}
 use Rattle.sled_tree.specs.Course.{Course, course_of}
 use Rattle.tree_laws.specs.declared.flight.Stage.{Stage}
 use Rattle.tree_laws.specs.declared.flight.Stage.TheVariants as stage
@@ -37,7 +36,6 @@ use Rattle.tree_laws.specs.Stages.{IsStage, owned}
 use Rattle.sled_tree.specs.Stages.{Knows, changes_at}
 use Rattle.sled_tree.specs.StageAction.{ActsOnce, LeaksNoPage, leaks_no_page_as}
 use Rattle.sled_tree.specs.theory.StageAction.{StageAction, StageActionBy, StageOutcome, Whichever, KeepsContents, FlightStep, FlightStepBy, is_action_refused_as}
-use Rattle.sled_tree.proofs.Basics.{none_some, some_is}
 
 -- a page that stays as it is does not grow
 pub grows_not : (m : Snapshot) (w : Forest) → GrowsByReceiving (nodes_at m) (nodes_at m) w
@@ -72,11 +70,11 @@ pub leaves_replaced : (mine own : List ℕ) (m : Snapshot) (p : ℕ) (g n : Page
     → ((q : ℕ) → In q mine → (x : Place) × In q (v.chain x)) → LeaksNoPage mine own m.state (after_replacement m p n).state v
 leaves_replaced mine own m p g n v live rid kept = record {
   kept = λ q i. inr (inr (kept q i));
-  made = λ q e. elim (same_number q p) [
+  made = λ q e. elim (same_or_not q p) [
     | inl s ↦ none_some (sym e ∙ ap m.state.pages s ∙ live)
     | inr off ↦ inl (put_there m.state.pages p (Some n) q off ∙ e)
   ];
-  merged = λ q c a b was child now. elim (same_number q p) [
+  merged = λ q c a b was child now. elim (same_or_not q p) [
     | inl s ↦ inr (rid c (ap (λ (z : Page). z.node.merging_child) (some_is (sym live ∙ ap m.state.pages (sym s) ∙ was)) ∙ child))
     | inr off ↦ inl (ap (λ (z : Page). z.node.merging_child) (some_is (sym now ∙ put_there m.state.pages p (Some n) q off ∙ was)) ∙ child)
   ];
@@ -90,11 +88,11 @@ rid_of_none own g n e none c child = none_some (sym none ∙ ap (λ (z : Node). 
 pub leaves_allocated : (m : Snapshot) (w : Forest) (p : ℕ) (n : Page) (v : Forest) → HasForest m w → m.pids p ≡ false → LeaksNoPage [] (p ∷ []) m.state (after_allocation m p n).state v
 leaves_allocated m w p n v is fresh = record {
   kept = λ q i. absurd i;
-  made = λ q e. elim (same_number q p) [
+  made = λ q e. elim (same_or_not q p) [
     | inl s ↦ inr (inl s)
     | inr off ↦ inl (put_there m.state.pages p (Some n) q off ∙ e)
   ];
-  merged = λ q c a b was child now. elim (same_number q p) [
+  merged = λ q c a b was child now. elim (same_or_not q p) [
     | inl s ↦ absurd (apart (sym fresh ∙ ap m.pids (sym s) ∙ is.pids q a was))
     | inr off ↦ inl (ap (λ (z : Page). z.node.merging_child) (some_is (sym now ∙ put_there m.state.pages p (Some n) q off ∙ was)) ∙ child)
   ];
@@ -121,11 +119,11 @@ leaves_freed m p v = record {
     | inl e ↦ inr (inl (ap (put_at m.state.pages p None) e ∙ put_here m.state.pages p None))
     | inr b ↦ absurd b
   ];
-  made = λ q e. elim (same_number q p) [
+  made = λ q e. elim (same_or_not q p) [
     | inl s ↦ inl (ap (put_at m.state.pages p None) s ∙ put_here m.state.pages p None)
     | inr off ↦ inl (put_there m.state.pages p None q off ∙ e)
   ];
-  merged = λ q c a b was child now. elim (same_number q p) [
+  merged = λ q c a b was child now. elim (same_or_not q p) [
     | inl s ↦ none_some (sym (ap (put_at m.state.pages p None) s ∙ put_here m.state.pages p None) ∙ now)
     | inr off ↦ inl (ap (λ (z : Page). z.node.merging_child) (some_is (sym now ∙ put_there m.state.pages p None q off ∙ was)) ∙ child)
   ];
@@ -214,7 +212,7 @@ moves_on j old new a b once plain known = record {
 
 -- what was given stays given when one more is
 given_stays : (given : ℕ → Bool) (p q : ℕ) → given q ≡ true → put_at given p true q ≡ true
-given_stays given p q e = elim (same_number q p) [
+given_stays given p q e = elim (same_or_not q p) [
   | inl s ↦ ap (put_at given p true) s ∙ put_here given p true
   | inr off ↦ put_there given p true q off ∙ e
 ]

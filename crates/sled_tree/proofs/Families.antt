@@ -1,6 +1,5 @@
 -- Which stages are those of a merge.
 use Rattle.std.proofs.Common.{◌≡◌, refl}
-use Rattle.sled_store.specs.declared.page.View.{View}
 use Rattle.tree_laws.specs.declared.flight.Cap.{Cap}
 use Rattle.tree_laws.specs.declared.flight.Confirm.{Confirm}
 use Rattle.tree_laws.specs.declared.flight.SwapRoot.{SwapRoot}
@@ -14,8 +13,7 @@ use Rattle.tree_laws.specs.declared.flight.InstallLeft.{InstallLeft}
 use Rattle.tree_laws.specs.declared.flight.Split.{Split}
 use Rattle.tree_laws.specs.declared.flight.Stage.{Stage}
 use Rattle.tree_laws.specs.declared.flight.Stage.TheVariants as stage
-use Rattle.sled_tree.specs.Stages.{IsOnItsWay}
-use Rattle.sled_tree.specs.theory.Stages.{IsOffWalk, IsOfMerge, IsElsewhere}
+use Rattle.sled_tree.specs.theory.Stages.{IsOfMerge, IsElsewhere}
 
 -- a stage that is none of these is of a merge
 pub of_merge : (s : Stage) → IsElsewhere s → ((a : Split) → s ≡ stage.Split a → ⊥) → ((a : InstallLeft) → s ≡ stage.InstallLeft a → ⊥) → ((a : Post) → s ≡ stage.Post a → ⊥) → ((a : Hoist) → s ≡ stage.Hoist a → ⊥) → ((a : SwapRoot) → s ≡ stage.SwapRoot a → ⊥) → ((a : Orphan) → s ≡ stage.Free a → ⊥) → IsOfMerge s
@@ -40,11 +38,3 @@ no_other (stage.Seek a) of intend child cap seek receive confirm = seek a refl
 no_other (stage.Receive a) of intend child cap seek receive confirm = receive a refl
 no_other (stage.Confirm a) of intend child cap seek receive confirm = confirm a refl
 no_other other of intend child cap seek receive confirm = of
-
--- a stage off the walk that is not to link the call's change, nor to give pairs, is elsewhere
-pub elsewhere : (s : Stage) → IsOffWalk s → IsOnItsWay s → ((a : View) → s ≡ stage.Act a → ⊥) → IsElsewhere s
-elsewhere stage.Root off way act = off
-elsewhere (stage.Walk a) off way act = off
-elsewhere (stage.Act a) off way act = act a refl
-elsewhere (stage.Give a) off way act = way
-elsewhere other off way act = tt

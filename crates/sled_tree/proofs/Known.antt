@@ -6,6 +6,7 @@ use Rattle.tree_laws.specs.Snapshot.{Snapshot, nodes_at, HasForest}
 use Rattle.tree_laws.specs.theory.Snapshot.{Guarantee, GrowsByReceiving, KeepsForest}
 use Rattle.tree_laws.specs.Stages.{owned}
 use Rattle.std.specs.declared.ops.Bound.TheVariants.{Included}
+use Rattle.sled_nodes.proofs.Basics.{none_some, some_is, true_false}
 use Rattle.sled_model.specs.Answer.{key_of}
 use Rattle.sled_nodes.specs.Order.{Key}
 use Rattle.sled_nodes.specs.Ranges.{Range}
@@ -18,7 +19,6 @@ use Rattle.tree_laws.specs.declared.flight.Stage.TheVariants.{Root}
 use Rattle.tree_laws.proofs.Staged.{apart_law}
 use Rattle.tree_laws.proofs.Staying.{stage_stays}
 use Rattle.tree_laws.proofs.Reading.{one_law}
-use Rattle.sled_tree.proofs.Basics.{none_some, some_is, true_false}
 use Rattle.sled_tree.specs.Course.{Course, start_of, first_aim, aim_of, course, course_of, IsAimed}
 use Rattle.sled_tree.specs.declared.flight.Aim.TheVariants.{Own}
 use Rattle.sled_tree.specs.declared.flight.InFlight.{InFlight}

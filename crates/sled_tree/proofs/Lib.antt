@@ -1,4 +1,3 @@
-pub mod Basics
 pub mod Replying
 pub mod Facts
 pub mod Arriving

@@ -1,5 +1,6 @@
 -- A call that is to link its change, in two halves.
-use Rattle.std.proofs.Common.{◌≡◌, ℕ, Option, Some, None, Ok, Err, MatchOption, sym, refl, ap, ◌∙◌, subst, inl, inr}
+use Rattle.std.proofs.Common.{◌≡◌, ℕ, Option, Some, None, Ok, Err, MatchOption, sym, refl, ap, subst, inl, inr}
+use Rattle.sled_nodes.proofs.Basics.{none_some, some_is}
 use Rattle.sled_nodes.specs.Node.{after_link}
 use Rattle.sled_store.specs.Store.{Store, now, Changes, IsRefused}
 use Rattle.sled_nodes.specs.declared.error.Error.{Error}
@@ -17,14 +18,13 @@ use Rattle.sled_tree.specs.Change.{link_of, decision_at}
 use Rattle.sled_tree.specs.Course.{course_of}
 use Rattle.sled_tree.specs.Follows.{Follows, TakesWay}
 use Rattle.sled_tree.specs.theory.Change.{IsChangeOf, IsOfPair, event_of_link}
-use Rattle.sled_tree.specs.theory.Linking.{IsAtLink, begun_again, PreparesChange, StepsBy, LinksPrepared}
+use Rattle.sled_tree.specs.theory.Linking.{IsAtLink, begun_again, StepsBy, LinksPrepared}
 use Rattle.sled_tree.specs.theory.StageAction.{StageActionBy, Only}
 use Rattle.sled_tree.specs.declared.act.Change.{Change}
 use Rattle.sled_tree.specs.declared.flight.InFlight.{InFlight}
 use Rattle.sled_tree.specs.declared.flight.Next.TheVariants as next
 use Rattle.sled_tree.specs.declared.flight.Went.TheVariants as went
 use Rattle.sled_tree.proofs.Acting.{act_moves, links_follows, late_follows}
-use Rattle.sled_tree.proofs.Basics.{none_some, some_is}
 use Rattle.sled_tree.proofs.Facts.{refused, stale, unable, restarts, goes_on, by_these}
 use Rattle.sled_tree.proofs.Passing.{act_changes, act_current, passes_further}
 
@@ -62,22 +62,8 @@ module _ (change : Change) (a b : Store) (f : InFlight) (view : View) (here : f.
 
 -- the leaf that was read
 pub leaf_of : (a : Stage) → IsAtLink a → (view : View) × (a ≡ stage.Act view)
-leaf_of stage.Root here = absurd here
-leaf_of (stage.Walk a) here = absurd here
 leaf_of (stage.Act view) here = (view, refl)
-leaf_of (stage.Give a) here = absurd here
-leaf_of (stage.Split a) here = absurd here
-leaf_of (stage.InstallLeft a) here = absurd here
-leaf_of (stage.Post a) here = absurd here
-leaf_of (stage.Hoist a) here = absurd here
-leaf_of (stage.SwapRoot a) here = absurd here
-leaf_of (stage.Free a) here = absurd here
-leaf_of (stage.Intend a) here = absurd here
-leaf_of (stage.Child a) here = absurd here
-leaf_of (stage.Cap a) here = absurd here
-leaf_of (stage.Seek a) here = absurd here
-leaf_of (stage.Receive a) here = absurd here
-leaf_of (stage.Confirm a) here = absurd here
+leaf_of other here = absurd here
 
 -- a change that was not prepared
 module _ (operator : Option Operator) (a : Store) (f : InFlight) (view : View) (here : f.stage ≡ stage.Act view) where
@@ -121,10 +107,3 @@ module _ (operator : Option Operator) (call : Call) (content : Data) (change : C
       go effect.Nothing l = none_some l
       go (effect.Set v) l = ap event_of_link (sym (some_is l))
       go effect.Remove l = ap event_of_link (sym (some_is l))
-
--- the stage at which a change was prepared
-some_act : {u v : View} → stage.Act u ≡ stage.Act v → u ≡ v
-some_act e = cc
-
-pub prepared_here : (operator : Option Operator) (f : InFlight) (view : View) (change : Option Change) → f.stage ≡ stage.Act view → IsChangeOf operator f.job.call view.node.content change → PreparesChange operator f change
-prepared_here operator f view change here is = record { is = λ v there. subst (λ (z : View). IsChangeOf operator f.job.call z.node.content change) (some_act (sym here ∙ there)) is }

@@ -1,5 +1,6 @@
 -- The steps of a merge.
 use Rattle.std.proofs.Common.{◌≡◌, ◌≢◌, ℕ, ◌≤◌, ◌⊎◌, true, false, [], ◌∷◌, Option, Some, None, Ok, Err, sym, refl, ap, ◌∙◌, subst, inl}
+use Rattle.sled_nodes.proofs.Basics.{some_is}
 use Rattle.sled_nodes.specs.Order.{Below, UpTo}
 use Rattle.sled_store.specs.In.{In}
 use Rattle.sled_nodes.specs.Halves.{after_receiving}
@@ -34,7 +35,6 @@ use Rattle.sled_tree.specs.Stages.{changes_at}
 use Rattle.sled_tree.specs.theory.StageAction.{StageAction, AfterChild, AfterSeek, IsUnchangedNow, owned_next}
 use Rattle.sled_tree.specs.Follows.{ResumesMerge, resumed}
 use Rattle.sled_tree.proofs.Facts.{moves_on, once_acts, stays, rests, same_here, viewed, live_view, leaves_replaced, leaves_read, rid_of_none}
-use Rattle.sled_tree.proofs.Basics.{some_is}
 
 -- the parent takes the page for its merging child
 pub intends : (j : Course) (old new : Store) (a : Merge) (version : ℕ) → Changes (after_link (ParentMergeIntention a.child)) a.parent.pid a.parent.version old new (Ok version)

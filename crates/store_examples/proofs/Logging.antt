@@ -10,6 +10,7 @@ use Rattle.std.specs.List.Sorted.{IsBinarySearchResult, IsSearchInRange}
 use Rattle.std.specs.Option.{option_map}
 use Rattle.std.specs.Ordering.{nat_cmp}
 use Rattle.std.specs.Str.{bytes_eq}
+use Rattle.sled_nodes.proofs.Basics.{first_true, second_true, and_true}
 use mathlib.Core.Bool.{true≢false}
 use Rattle.sled_nodes.specs.declared.node.Node.{Node}
 use Rattle.sled_store.specs.declared.page.Page.{Page}
@@ -21,7 +22,7 @@ use Rattle.sled_store.specs.Update.{put_at, put_name}
 use Rattle.sled_store.specs.State.{State, Action, PageBecomes, after, after_all}
 use Rattle.sled_store.specs.Store.{Store, now, after_action, after_flush, version_now, ActsAt, Allocates, IsRoots}
 use Rattle.sled_store.specs.theory.Facts.{after_last, put_here, put_elsewhere, put_name_here, put_name_elsewhere, same_name, name_itself}
-use Rattle.sled_nodes.proofs.All.{all_push, all_weaker, first, second, both}
+use Rattle.sled_nodes.proofs.All.{all_push, all_weaker}
 use Rattle.sled_pages.proofs.Kept.{next_fresh, next_given, next_version}
 use Rattle.sled_pages.proofs.Places.{one_place}
 use Rattle.sled_nodes.specs.theory.Rising.{IsHit, IsGap}
@@ -118,7 +119,7 @@ below_later next next' v h e = grind (arith, nat_tests)
 
 given_later : (last last' next next' : ℕ) → last ≤ last' → next ≤ next' → (a : Logged) → is_given last next a ≡ true → is_given last' next' a ≡ true
 given_later last last' next next' h k (PageBecame pid (Some page)) e =
-    both (up_to last' pid) _ (up_later last last' pid h (first _ _ e)) (below_later next next' page.version k (second (up_to last pid) _ e))
+    and_true (up_to last' pid) _ (up_later last last' pid h (first_true _ _ e)) (below_later next next' page.version k (second_true (up_to last pid) _ e))
 given_later last last' next next' h k (PageBecame pid None) e = refl
 given_later last last' next next' h k (RootBecame name root) e = refl
 given_later last last' next next' h k GroupBegan e = refl
@@ -137,12 +138,12 @@ pub there : (m : LogPages) (pid : ℕ) → is_some ((now (store_of m)).pages pid
 there m pid h =
     elim ((now (store_of m)).pages pid) as (λ o. (now (store_of m)).pages pid ≡ o → is_some o ≡ true → up_to m.last_pid pid ≡ true) [
       | None ↦ λ e k. cc
-      | Some page ↦ λ e k. first _ _ (page_given m pid page e)
+      | Some page ↦ λ e k. first_true _ _ (page_given m pid page e)
     ] refl h
 
 pub change_given : (m : LogPages) (pid version : ℕ) (node : Node) → is_some ((now (store_of m)).pages pid) ≡ true → version ≡ m.next_version →
     is_given m.last_pid (m.next_version + 1) (PageBecame pid (Some (record { version = version; node = node }))) ≡ true
-change_given m pid version node h e = both (up_to m.last_pid pid) _ (there m pid h) (ap (λ v. nat_lt v (m.next_version + 1)) e ∙ next_given m.next_version)
+change_given m pid version node h e = and_true (up_to m.last_pid pid) _ (there m pid h) (ap (λ v. nat_lt v (m.next_version + 1)) e ∙ next_given m.next_version)
 
 pub acts : (a : Action) (m : LogPages) (new : Store) → new ≡ record (after_action a (store_of m)) { pids = up_to m.last_pid; versions = below (m.next_version + 1) } → ActsAt a m.next_version (store_of m) new
 acts a m new e = record {
@@ -163,7 +164,7 @@ fresh_up : (n : ℕ) → up_to n (n + 1) ≡ false
 fresh_up n = grind (arith, nat_tests)
 
 pub new_given : (last next : ℕ) (node : Node) → is_given (last + 1) (next + 1) (PageBecame (last + 1) (Some (record { version = next; node = node }))) ≡ true
-new_given last next node = both (up_to (last + 1) (last + 1)) _ (next_up last) (next_given next)
+new_given last next node = and_true (up_to (last + 1) (last + 1)) _ (next_up last) (next_given next)
 
 pub allocates : (node : Node) (m : LogPages) (new : Store) →
     new ≡ record (after_action (PageBecomes (m.last_pid + 1) (Some (record { version = m.next_version; node = node }))) (store_of m)) { pids = up_to (m.last_pid + 1); versions = below (m.next_version + 1) } →
@@ -205,7 +206,7 @@ part flushed kept log =
 all_taken : {X : Type 0} (p : X → Bool) (n : ℕ) (xs : List X) → list_all p xs ≡ true → list_all p (take n xs) ≡ true
 all_taken p zero xs e = refl
 all_taken p (suc n) [] e = refl
-all_taken p (suc n) (x ∷ xs) e = both (p x) _ (first _ _ e) (all_taken p n xs (second (p x) _ e))
+all_taken p (suc n) (x ∷ xs) e = and_true (p x) _ (first_true _ _ e) (all_taken p n xs (second_true (p x) _ e))
 
 -- what is left of a list after a crash is one
 pub crash_keeps : (m : LogPages) (log : List Logged) (keep kept : ℕ) → log ≡ take (m.flushed + kept) m.log.items → KeepsMost keep m.flushed m.log.items kept → IsLog log (m.flushed + kept) m.last_pid m.next_version

@@ -1,7 +1,8 @@
 -- What the last attempt of a transaction was given and left, and what its reads show.
-use Rattle.std.proofs.Common.{◌≡◌, ℕ, Bool, true, false, ◌&&◌, List, [], ◌∷◌, length, map, replicate, slice_get, Option, Some, None, option_map, unwrap_or, Result, Ok, Err, IfOk, IfErr, OnOk, sym, refl, ap, ◌∙◌, subst, inl, inr}
+use Rattle.std.proofs.Common.{◌≡◌, ℕ, Bool, true, false, ◌&&◌, List, [], ◌∷◌, length, map, replicate, slice_get, Option, Some, None, option_map, unwrap_or, Result, Ok, Err, IfOk, OnOk, sym, refl, ap, ◌∙◌, subst, inl, inr}
 use Rattle.std.proofs.lemmas.List.{length-map}
 use Rattle.std.specs.FinMap.Entries.{find}
+use Rattle.sled_nodes.proofs.Basics.{some_is, false_true}
 use Rattle.sled_nodes.specs.Order.{Key, key_cmp}
 use Rattle.sled_nodes.specs.declared.error.Error.{Error}
 use Rattle.sled_batch.specs.Batch.{Writes}
@@ -33,31 +34,17 @@ and_false : (b : Bool) → b && false ≡ false
 and_false true = refl
 and_false false = refl
 
-false_true : {Q : Type 0} → false ≡ true → Q
-false_true e = cc
-
 ok_not_err : {Q X Y : Type 0} {x : X} {y : Y} → Ok x ≡ Err y → Q
 ok_not_err e = cc
 
 abort_not_storage : {Q X E : Type 0} {e : E} {cause : Error} → ◌≡◌ {A = Result X (TransactionError E)} (Err (Abort e)) (Err (Storage cause)) → Q
 abort_not_storage e = cc
 
-same_some : {X : Type 0} {x y : X} → Some x ≡ Some y → x ≡ y
-same_some e = cc
-
 -- ---- what a result tells
 
 pub on_ok : {X E : Type 0} (p : X → Type 0) (q : Type 0) → ((x : X) → p x → q) → (r : Result X E) → IfOk r p → OnOk r q
 on_ok p q h (Ok x) k = h x k
 on_ok p q h (Err e) k = tt
-
-pub if_ok : {X E : Type 0} (p q : X → Type 0) → ((x : X) → p x → q x) → (r : Result X E) → IfOk r p → IfOk r q
-if_ok p q h (Ok x) k = h x k
-if_ok p q h (Err e) k = tt
-
-pub if_err : {X E : Type 0} (p q : E → Type 0) → ((e : E) → p e → q e) → (r : Result X E) → IfErr r p → IfErr r q
-if_err p q h (Ok x) k = tt
-if_err p q h (Err e) k = h e k
 
 -- ---- a transaction that asks for no flush
 
@@ -192,5 +179,5 @@ module _ {P M F R A E : Type 0} (store : P → Store) (meant : M → Merge) (say
         → ShowsAt store l.given position key value → value ≡ found_in (maps_now store meant old tree.name) key
     shown_at position tree there none key value s =
         let (overlay, is, r) = law old trees l.given position tree key value sound l.tested l.roots l.over there s in
-        let unwritten : overlay ≡ [] = same_some (sym is ∙ ap (λ (os : List Writes). slice_get os position) l.empty ∙ none) in
+        let unwritten : overlay ≡ [] = some_is (sym is ∙ ap (λ (os : List Writes). slice_get os position) l.empty ∙ none) in
         r.is ∙ ap (λ (ws : Writes). unwrap_or (find key_cmp key ws) (find key_cmp key r.named.map)) unwritten ∙ sym (ap (λ o. found_in (option_map (λ (t : NamedTree). t.map) o) key) r.there)

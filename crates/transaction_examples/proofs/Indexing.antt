@@ -1,6 +1,7 @@
 -- What the writing of a row makes of the table and of its index.
 use Rattle.std.proofs.Common.{◌≡◌, ◌≢◌, ◌⊎◌, ℕ, false, Bool, List, [], ◌∷◌, zip, T, Option, Some, None, unwrap_or, Result, Ok, Err, IfOk, IfErr, sym, refl, ap, ◌∙◌, subst, inl, inr}
 use Rattle.std.specs.FinMap.Entries.{find, put, is_sorted, is_sorted-put}
+use Rattle.sled_nodes.proofs.Basics.{none_some, some_is, key_total}
 use denote.Ref.{MutBor}
 use Rattle.sled_nodes.specs.Order.{Key, key_cmp}
 use Rattle.sled_batch.specs.Batch.{Writes}
@@ -20,7 +21,6 @@ use Rattle.sled.specs.Transactions.{RunsOnList, ListMade, ListNotMade, ShowsAtLa
 use Rattle.sled.specs.Values.{DbValue}
 use Rattle.examples.specs.Reads.{found_in, maps_now}
 use Rattle.examples.proofs.Entering.{same_or_apart, found_here, found_there}
-use Rattle.examples.proofs.Keys.{key_total}
 use Rattle.transaction_examples.specs.Throughout.{HoldsThroughout}
 use Rattle.transaction_examples.specs.Indexed.{agree_in, PutsRow, EndsPut}
 use Rattle.transaction_examples.specs.declared.indexed.EmailTaken.{EmailTaken}
@@ -29,26 +29,20 @@ use Rattle.transaction_examples.proofs.Attempted.{makes_group, stops_before, Las
 use Rattle.transaction_examples.proofs.Jobbing.{first_changed, second_changed}
 use Rattle.transaction_examples.proofs.Made.{Wrote, MakesGroup, Stopped, NotWritten, same_maps, made_holds, stopped_holds, stopped_stays, first_wrote, second_wrote, two_kept}
 
-none_some : {Q X : Type 0} {x : X} → None ≡ Some x → Q
-none_some e = cc
-
-same_some : {X : Type 0} {x y : X} → Some x ≡ Some y → x ≡ y
-same_some e = cc
-
 -- ---- the index agrees with the table still
 
 is_before : (before : Option Key) (k : Key) → (before ≡ Some k) ⊎ (before ≢ Some k)
 is_before None k = inr (λ e. none_some e)
 is_before (Some b) k = elim (same_or_apart b k) [
   | inl same ↦ inl (ap Some same)
-  | inr off ↦ inr (λ e. off (same_some e))
+  | inr off ↦ inr (λ e. off (some_is e))
 ]
 
 module _ (old new : Maps) (table index id email : Key) (before : Option Key) (p : PutsRow old new table index id email before) (agree : agree_in table index old) where
   has_after : (i e : Key) → found_in (new table) i ≡ Some e → found_in (new index) e ≡ Some i
   has_after i e there = elim (same_or_apart i id) [
     | inl same ↦
-        let now : email ≡ e = same_some (sym p.is ∙ ap (found_in (new table)) (sym same) ∙ there) in
+        let now : email ≡ e = some_is (sym p.is ∙ ap (found_in (new table)) (sym same) ∙ there) in
         ap (found_in (new index)) (sym now) ∙ p.entry ∙ ap Some (sym same)
     | inr off ↦
         let was : found_in (old table) i ≡ Some e = sym (p.users i off) ∙ there in
@@ -56,7 +50,7 @@ module _ (old new : Maps) (table index id email : Key) (before : Option Key) (p 
         elim (same_or_apart e email) [
           | inl same ↦ absurd (off (p.free i (ap (found_in (old index)) (sym same) ∙ entered)))
           | inr apart ↦ elim (is_before before e) [
-            | inl had ↦ absurd (off (same_some (sym entered ∙ agree.has id e (p.was ∙ had))))
+            | inl had ↦ absurd (off (some_is (sym entered ∙ agree.has id e (p.was ∙ had))))
             | inr not ↦ p.entries e not apart ∙ entered
           ]
         ]
@@ -65,7 +59,7 @@ module _ (old new : Maps) (table index id email : Key) (before : Option Key) (p 
   only_after : (e i : Key) → found_in (new index) e ≡ Some i → found_in (new table) i ≡ Some e
   only_after e i there = elim (same_or_apart e email) [
     | inl same ↦
-        let now : id ≡ i = same_some (sym p.entry ∙ ap (found_in (new index)) (sym same) ∙ there) in
+        let now : id ≡ i = some_is (sym p.entry ∙ ap (found_in (new index)) (sym same) ∙ there) in
         ap (found_in (new table)) (sym now) ∙ p.is ∙ ap Some (sym same)
     | inr apart ↦ elim (is_before before e) [
       | inl had ↦ none_some (sym (p.gone e had apart) ∙ there)
@@ -93,7 +87,7 @@ taken_out_rises (Some e) = tt
 
 taken_there : (before : Option Key) (k : Key) → before ≡ Some k → find key_cmp k (taken_out before) ≡ Some None
 taken_there None k e = none_some e
-taken_there (Some b) k e = ap (λ x. find key_cmp k (taken_out (Some x))) (same_some e) ∙ found_here k None []
+taken_there (Some b) k e = ap (λ x. find key_cmp k (taken_out (Some x))) (some_is e) ∙ found_here k None []
 
 untaken : (before : Option Key) (k : Key) → before ≢ Some k → find key_cmp k (taken_out before) ≡ None
 untaken None k off = refl

@@ -1,6 +1,7 @@
 -- What the taking of a job makes of the two trees of jobs.
 use Rattle.std.proofs.Common.{◌≡◌, ◌≢◌, ℕ, true, false, Bool, List, [], ◌∷◌, zip, slice_get, slice_set, Option, Some, None, unwrap_or, Result, Ok, Err, IfOk, IfErr, sym, refl, ap, ◌∙◌, subst, inl, inr}
 use Rattle.std.specs.FinMap.Entries.{put}
+use Rattle.sled_nodes.proofs.Basics.{none_some, some_is}
 use denote.Ref.{MutBor}
 use Rattle.sled_nodes.specs.Order.{Key, key_cmp}
 use Rattle.sled_batch.specs.Batch.{Writes}
@@ -27,19 +28,13 @@ use Rattle.transaction_examples.specs.theory.Jobs.{MovesInside, TakesInside, Not
 use Rattle.transaction_examples.proofs.Attempted.{makes_group, stops_before, LastAll, last_all_made, last_all_given_up, shown_at}
 use Rattle.transaction_examples.proofs.Made.{Wrote, MakesGroup, Stopped, NotWritten, made_holds, stopped_holds, stopped_stays, none_wrote, first_wrote, second_wrote, two_kept}
 
-none_some : {Q X : Type 0} {x : X} → None ≡ Some x → Q
-none_some e = cc
-
-same_some : {X : Type 0} {x y : X} → Some x ≡ Some y → x ≡ y
-same_some e = cc
-
 -- ---- the writes of two positions
 
 pub first_changed : (old new : List Writes) (a b : Writes) (w : Writes → Writes) → old ≡ a ∷ b ∷ [] → ChangesAt old 0 w new → new ≡ w a ∷ b ∷ []
-first_changed old new a b w e c = c.is ∙ ap (λ o. slice_set old 0 (w o)) (same_some (sym c.was ∙ ap (λ l. slice_get l 0) e)) ∙ ap (λ l. slice_set l 0 (w a)) e
+first_changed old new a b w e c = c.is ∙ ap (λ o. slice_set old 0 (w o)) (some_is (sym c.was ∙ ap (λ l. slice_get l 0) e)) ∙ ap (λ l. slice_set l 0 (w a)) e
 
 pub second_changed : (old new : List Writes) (a b : Writes) (w : Writes → Writes) → old ≡ a ∷ b ∷ [] → ChangesAt old 1 w new → new ≡ a ∷ w b ∷ []
-second_changed old new a b w e c = c.is ∙ ap (λ o. slice_set old 1 (w o)) (same_some (sym c.was ∙ ap (λ l. slice_get l 1) e)) ∙ ap (λ l. slice_set l 1 (w b)) e
+second_changed old new a b w e c = c.is ∙ ap (λ o. slice_set old 1 (w o)) (some_is (sym c.was ∙ ap (λ l. slice_get l 1) e)) ∙ ap (λ l. slice_set l 1 (w b)) e
 
 -- ---- a job in maps
 

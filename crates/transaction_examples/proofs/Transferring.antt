@@ -2,6 +2,7 @@
 use Rattle.std.proofs.Common.{◌≡◌, ℕ, ◌+◌, ◌<◌, ◌≤◌, ◌^◌, false, Bool, [], ◌∷◌, T, Some, unwrap_or, Result, Ok, Err, OnOk, IfOk, IfErr, refl, ap, ◌∙◌, subst, sym, arith}
 use Rattle.std.specs.FinMap.Entries.{put, is_sorted, is_sorted-put}
 use Rattle.std.specs.Int.{w64, to_be_bytes}
+use Rattle.sled_nodes.proofs.Basics.{key_total}
 use denote.Ref.{MutBor}
 use Rattle.sled_nodes.specs.Order.{Key, key_cmp}
 use Rattle.sled_batch.specs.Batch.{Writes}
@@ -23,7 +24,6 @@ use Rattle.examples.specs.Counters.{number_in, counter_in}
 use Rattle.examples.specs.Reads.{found_in, maps_now}
 use Rattle.examples.proofs.Counting.{number_read}
 use Rattle.examples.proofs.Entering.{found_here, found_there}
-use Rattle.examples.proofs.Keys.{key_total}
 use Rattle.transaction_examples.specs.Throughout.{HoldsThroughout, IsSettled, Recovers}
 use Rattle.transaction_examples.specs.Transfers.{come_to, Transfers, is_reason, EndsTransfer}
 use Rattle.transaction_examples.specs.declared.transfers.TransferError.{TransferError}

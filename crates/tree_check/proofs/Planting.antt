@@ -3,6 +3,7 @@ use Rattle.std.proofs.Common.{◌≡◌, ◌≢◌, ℕ, zero, suc, ◌≤◌, B
 use Rattle.std.specs.Str.{bytes_eq}
 use Rattle.std.specs.Bool.{Decides}
 use Rattle.std.proofs.lemmas.Slice.Eq.{bytes_eq-Decides}
+use Rattle.sled_nodes.proofs.Basics.{some_is}
 use Rattle.sled_store.specs.In.{In}
 use Rattle.sled_nodes.specs.Node.{pointers, count}
 use Rattle.sled_nodes.specs.Order.{Key}
@@ -12,7 +13,7 @@ use Rattle.sled_nodes.specs.declared.node.Data.{Data}
 use Rattle.sled_nodes.specs.declared.node.Data.TheVariants.{Leaf, Index}
 use Rattle.tree_laws.specs.Forest.{Tree, Forest, Place, place, head, later, Holds, Run, IsHomed, WellFormed, IsSized}
 use Rattle.tree_laws.proofs.Cover.{later_in}
-use Rattle.tree_laws.proofs.Replace.{place_is, some_is}
+use Rattle.tree_laws.proofs.Replace.{place_is}
 use Rattle.tree_check.specs.theory.Tree.{IsPointerTo, IsAtHeight, IsTreeFrom, IsTop}
 
 none_is : {A : Type 0} {P : Type 0} {o : Option A} {a : A} → o ≡ None → o ≡ Some a → P
@@ -71,7 +72,7 @@ module _ {nodes : Nodes} {roots new : Tree → Option ℕ} {w : Forest} {t : Tre
     where
       go : (o : Option ℕ) → home p ≡ o → or_home t o (w.home p) ≡ Some x → ((g : ℕ) × (x ≡ place t g) × (home p ≡ Some g)) ⊎ (w.home p ≡ Some x)
       go None h e = inr e
-      go (Some g) h e = inl (g, sym (some_is _ _ e), h)
+      go (Some g) h e = inl (g, sym (some_is e), h)
 
   -- the tree had no page before
   no_chain : (h : ℕ) → w.chain (place t h) ≡ []
@@ -117,7 +118,7 @@ module _ {nodes : Nodes} {roots new : Tree → Option ℕ} {w : Forest} {t : Tre
   }
 
   one_node : (p : ℕ) (m n : Node) → nodes p ≡ Some m → nodes p ≡ Some n → m ≡ n
-  one_node p m n a b = some_is m n (sym a ∙ b)
+  one_node p m n a b = some_is (sym a ∙ b)
 
   node_is : (h p : ℕ) (n : Node) (a : IsAtHeight nodes chain p h) → nodes p ≡ Some n → a.node ≡ n
   node_is h p n a live = one_node p a.node n a.live live

@@ -1,5 +1,5 @@
 -- The root of a name among the first of a list of roots.
-use Rattle.std.proofs.Common.{◌≡◌, ◌≢◌, ℕ, zero, suc, ◌+◌, ◌<◌, Bool, true, false, cond, ◌&&◌, T, List, [], ◌∷◌, ◌++◌, length, get_or, take, Some, None, sym, refl, ap, ◌∙◌, subst, inl, inr, ◌⊎◌, arith, Ordering, Less, Equal, Greater, is_lt, is_eq}
+use Rattle.std.proofs.Common.{◌≡◌, ◌≢◌, ℕ, zero, suc, ◌+◌, ◌<◌, Bool, true, false, cond, T, List, [], ◌∷◌, ◌++◌, length, get_or, take, Some, None, sym, refl, ap, ◌∙◌, subst, inl, inr, ◌⊎◌, arith, Ordering, Less, Equal, Greater, is_eq}
 use Rattle.std.proofs.lemmas.List.{take_more}
 use Rattle.std.specs.Ordering.{eq_by_cmp}
 use Rattle.std.proofs.lemmas.Cmp.{tied_itself}
@@ -7,30 +7,13 @@ use Rattle.std.specs.FinMap.Entries.{find, is_sorted, below_all}
 use Rattle.std.specs.Str.{bytes_eq}
 use Rattle.std.specs.Bool.{Decides}
 use Rattle.std.proofs.lemmas.Slice.Eq.{bytes_eq-Decides}
+use Rattle.sled_nodes.proofs.Basics.{of_true, left_of, right_of, less_of, key_total, key_same}
 use Rattle.sled_nodes.specs.Order.{Key, key_cmp}
-use Rattle.tree_laws.proofs.Order.{key_same, key_total}
 use Rattle.tree_laws.proofs.Pairs.{above}
-
-left_of : (a b : Bool) → T (a && b) → T a
-left_of true b t = tt
-left_of false b t = t
-
-right_of : (a b : Bool) → T (a && b) → T b
-right_of true b t = t
-right_of false b t = absurd t
-
-is_less : (o : Ordering) → T (is_lt o) → o ≡ Less
-is_less Less t = refl
-is_less Equal t = absurd t
-is_less Greater t = absurd t
-
-so : (b : Bool) → b ≡ true → T b
-so true e = tt
-so false e = cc
 
 below_at : (x : Key) (es : List (Key × ℕ)) (i : ℕ) (d : Key × ℕ) → i < length es → T (below_all key_cmp x es) → key_cmp x (get_or es i d).0 ≡ Less
 below_at x [] i d l t = absurd (omega (arith, l))
-below_at x (e ∷ es) zero d l t = is_less _ (left_of _ _ t)
+below_at x (e ∷ es) zero d l t = less_of _ (left_of _ _ t)
 below_at x (e ∷ es) (suc i) d l t = below_at x es i d (omega (arith, l)) (right_of _ _ t)
 
 absent_by : (es : List (Key × ℕ)) (i : ℕ) (d : Key × ℕ) → i < length es → T (is_sorted key_cmp es) → find key_cmp (get_or es i d).0 (take i es) ≡ None
@@ -43,7 +26,7 @@ absent_by (e ∷ es) (suc i) d l s =
 
 -- no earlier root has the name of the i-th one
 pub absent : (es : List (Key × ℕ)) (i : ℕ) (e : Key × ℕ) → i < length es → is_sorted key_cmp es ≡ true → e ≡ get_or es i e → find key_cmp e.0 (take i es) ≡ None
-absent es i e l s is = subst (λ (z : Key × ℕ). find key_cmp z.0 (take i es) ≡ None) (sym is) (absent_by es i e l (so _ s))
+absent es i e l s is = subst (λ (z : Key × ℕ). find key_cmp z.0 (take i es) ≡ None) (sym is) (absent_by es i e l (of_true _ s))
 
 find_other : (xs : List (Key × ℕ)) (e : Key × ℕ) (u : Key) → u ≢ e.0 → find key_cmp u (xs ++ e ∷ []) ≡ find key_cmp u xs
 find_other [] e u off = go (key_cmp u e.0) refl

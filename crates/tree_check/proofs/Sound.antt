@@ -1,9 +1,10 @@
 -- What is tested of a page by itself.
-use Rattle.std.proofs.Common.{◌≡◌, ◌≢◌, ℕ, zero, suc, Bool, true, false, T, List, Some, sym, refl, ap, ◌∙◌, subst}
+use Rattle.std.proofs.Common.{◌≡◌, ◌≢◌, ℕ, zero, suc, true, T, List, Some, sym, refl, ap, ◌∙◌, subst}
 use Rattle.std.specs.List.{All}
 use Rattle.std.specs.FinMap.Entries.{is_sorted}
 use Rattle.std.specs.Cmp.Lexicographic.{slice_cmp}
 use Rattle.std.specs.Ordering.{nat_cmp}
+use Rattle.sled_nodes.proofs.Basics.{of_true}
 use Rattle.sled_nodes.specs.Node.{Within}
 use Rattle.sled_nodes.specs.Order.{Key, key_cmp}
 use Rattle.sled_nodes.specs.declared.node.Node.{Node}
@@ -12,13 +13,9 @@ use Rattle.sled_nodes.specs.declared.node.Data.TheVariants.{Leaf, Index}
 use Rattle.tree_laws.specs.Forest.{IsNodeAt, Holds, first_key}
 use Rattle.tree_check.proofs.Listed.{all_by}
 
-so : (b : Bool) → b ≡ true → T b
-so true e = tt
-so false e = cc
-
 pub sorted_keys : {X : Type 0} (es : List (Key × X)) → is_sorted (slice_cmp nat_cmp) es ≡ true → T (is_sorted key_cmp es)
 unfolding key_cmp
-sorted_keys es e = so _ e
+sorted_keys es e = of_true _ e
 
 leaf_holds : (h : ℕ) (lo hi : Key) (d : Data) (es : List (Key × Key)) → h ≡ 0 → d ≡ Leaf es → T (is_sorted key_cmp es) → All (λ e. Within lo hi e.0) es → Holds h lo hi d
 leaf_holds h lo hi d es at is sorted within = subst (λ z. Holds z lo hi d) (sym at) (subst (Holds 0 lo hi) (sym is) (sorted, all_by _ es within))

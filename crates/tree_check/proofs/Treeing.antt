@@ -7,6 +7,7 @@ use Rattle.std.specs.List.{list_any}
 use Rattle.std.specs.Map.{lookup}
 use Rattle.std.specs.Ordering.{nat_cmp}
 use Rattle.std.specs.FinMap.Entries.{find, is_sorted}
+use Rattle.sled_nodes.proofs.Basics.{none_some, some_is}
 use Rattle.sled_store.specs.In.{In}
 use Rattle.sled_nodes.specs.Node.{pointers}
 use Rattle.sled_nodes.specs.Order.{Key, key_cmp}
@@ -16,7 +17,6 @@ use Rattle.sled_store.specs.declared.page.View.{View}
 use Rattle.tree_laws.specs.Forest.{Tree, Place, place, head, first_child, Run}
 use Rattle.sled_store.specs.Store.{IsRoots}
 use Rattle.tree_laws.specs.Crashes.{IsValid}
-use Rattle.tree_laws.proofs.Replace.{some_is}
 use Rattle.tree_check.specs.declared.levels.Level.{Level}
 use Rattle.tree_check.specs.theory.Tree.{IsPointerTo, IsAtHeight, IsTreeFrom}
 use Rattle.tree_check.specs.theory.Walk.{Levels, level_of, ReadsChain, IsReceived, FindsReceived, LeadsTo, HasMergingChild, LeadsDown, pids, height_in, home_in, IsNewTree, FindsLevel, FindsTree, WalksTree, Verifies}
@@ -27,9 +27,6 @@ use Rattle.tree_check.proofs.Rooted.{absent, one_root_more}
 
 abbrev pub level_at : ℕ → ℕ → Level
 level_at tree h = record { tree = tree; height = h }
-
-none_some : {P A : Type 0} {a : A} → None ≡ Some a → P
-none_some e = cc
 
 same_number : (a b : ℕ) → nat_eq a b ≡ true → a ≡ b
 same_number a b e = grind (arith, nat_tests)
@@ -43,7 +40,7 @@ height_of tree g None e = none_some e
 height_of tree g (Some z) e = go (nat_eq z.tree tree) refl e
   where
     go : (b : Bool) → nat_eq z.tree tree ≡ b → cond b (Some z.height) None ≡ Some g → Some z ≡ Some (level_at tree g)
-    go true h e = ap (λ t. Some (level_at t z.height)) (same_number z.tree tree h) ∙ ap (λ k. Some (level_at tree k)) (some_is _ _ e)
+    go true h e = ap (λ t. Some (level_at t z.height)) (same_number z.tree tree h) ∙ ap (λ k. Some (level_at tree k)) (some_is e)
     go false h e = none_some e
 
 height_is : (tree g : ℕ) → height_in tree (Some (level_at tree g)) ≡ Some g
@@ -116,7 +113,7 @@ module _ {s : State} {tree h first : ℕ} {chain : ℕ → List ℕ} {above page
   leads : (p : ℕ) (n : Node) → In p (chain (suc h)) → nodes_of s p ≡ Some n → (k : Key) (c : ℕ) → In (k, c) (pointers n.content) → IsPointerTo (nodes_of s) (home_in tree new) n h k c
   leads p n i at k c j =
       let v = in_map (λ (x : View). x.pid) above p (subst (λ ps. In p ps) here i) in
-      let same : v.0.node ≡ n = some_is v.0.node n (sym (live v.0 v.1) ∙ (ap (nodes_of s) v.2 ∙ at)) in
+      let same : v.0.node ≡ n = some_is (sym (live v.0 v.1) ∙ (ap (nodes_of s) v.2 ∙ at)) in
       let l = lead v.0 v.1 k c (subst (λ (z : Node). In (k, c) (pointers z.content)) (sym same) j) in
       record {
         node = l.node;
@@ -138,7 +135,7 @@ leads_down : (s : State) (above : List View) (first p : ℕ) (n : Node) → Lead
     → head (pids above) ≡ Some p → nodes_of s p ≡ Some n → Some first ≡ first_child (pointers n.content)
 leads_down s [] first p n d live e at = none_some e
 leads_down s (v ∷ vs) first p n d live e at =
-    let same : v.node ≡ n = some_is v.node n (sym (live v (inl refl)) ∙ (ap (nodes_of s) (some_is _ _ e) ∙ at)) in
+    let same : v.node ≡ n = some_is (sym (live v (inl refl)) ∙ (ap (nodes_of s) (some_is e) ∙ at)) in
     sym d.is ∙ ap (λ (z : Node). first_child (pointers z.content)) same
 
 -- the uppermost pages
@@ -236,7 +233,7 @@ verify_more s roots i e levels new less sorted is v t = record {
         go None f = refl
         go (Some x) f =
             let z = v.seen p x f in
-            let same : z.0 ≡ level_at i g = some_is _ _ (sym (t.adds.kept p z.0 z.1) ∙ home_level i new p g h) in
+            let same : z.0 ≡ level_at i g = some_is (sym (t.adds.kept p z.0 z.1) ∙ home_level i new p g h) in
             let low = v.below p z.0 z.1 in
             let tree : z.0.tree ≡ i = ap (λ (y : Level). y.tree) same in
             absurd (omega (arith, low, tree))

@@ -114,13 +114,13 @@ pub fn check_tree<P: Pages>(
     ensures err { IfErr result (RefusesCheck (P.store pages.now)) }
 {
     let top = height_of(alloc, pages, root)?;
-    let none = BTreeSet::new(alloc);
+    let no_children = BTreeSet::new(alloc);
     let mut above = read_chain(
         alloc,
         pages,
         root,
         Level { tree, height: top },
-        &none,
+        &no_children,
         levels,
     )?;
     for passed in 0..top {

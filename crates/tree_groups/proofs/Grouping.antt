@@ -2,6 +2,7 @@
 use Rattle.std.proofs.Common.{◌≡◌, ◌≢◌, ℕ, ◌⊎◌, Bool, true, false, if◌then◌else◌, ◌+◌, suc, List, [], ◌∷◌, length, Option, Result, Ok, Err, OnOk, IfErr, sym, refl, ap, ◌∙◌, subst, inl, inr, arith}
 use Rattle.std.specs.Str.{bytes_eq}
 use Rattle.std.proofs.lemmas.Slice.Eq.{bytes_eq-Decides}
+use Rattle.sled_nodes.proofs.Basics.{false_true}
 use Rattle.sled_nodes.specs.declared.error.Error.{Error}
 use Rattle.sled_nodes.specs.declared.error.Error.TheVariants as error
 use Rattle.sled_store.specs.State.{GroupBegins, GroupEnds}
@@ -24,9 +25,6 @@ use Rattle.tree_groups.proofs.Writing.{often_then, keeps_first, open_law, refuse
 
 -- ---- the contents
 
-differ : false ≡ true → ⊥
-differ e = cc
-
 -- a write tells the contents of each tree
 written_each : (j : Job) (m : Snapshot) (w : Forest) (n : Snapshot) (k : WrittenAt j m w n) (operator : Option Merge) (t : Tree)
     → contents (nodes_at n) k.after t ≡ (if bytes_eq j.tree.name t then (answer_of operator j.call (contents (nodes_at m) w t)).map else contents (nodes_at m) w t)
@@ -34,7 +32,7 @@ written_each j m w n k operator t = go (bytes_eq j.tree.name t) refl
   where
     go : (b : Bool) → bytes_eq j.tree.name t ≡ b → contents (nodes_at n) k.after t ≡ (if b then (answer_of operator j.call (contents (nodes_at m) w t)).map else contents (nodes_at m) w t)
     go true e = subst (λ (u : Tree). contents (nodes_at n) k.after u ≡ (answer_of operator j.call (contents (nodes_at m) w u)).map) ((bytes_eq-Decides j.tree.name t).0 e) (k.here operator)
-    go false e = k.others t (λ same. differ (sym e ∙ (bytes_eq-Decides j.tree.name t).1 (sym same)))
+    go false e = k.others t (λ same. false_true (sym e ∙ (bytes_eq-Decides j.tree.name t).1 (sym same)))
 
 -- ---- what is left of a list
 

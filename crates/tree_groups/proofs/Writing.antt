@@ -1,6 +1,7 @@
 -- The steps of one write of a group.
 use Rattle.std.proofs.Common.{◌≡◌, ℕ, suc, ◌+◌, ◌≤◌, ◌⊎◌, Bool, true, false, List, [], length, Option, Some, None, option_map, sym, refl, ap, ◌∙◌, subst, inl, inr, arith}
 use Rattle.std.specs.declared.ops.Bound.TheVariants.{Included}
+use Rattle.sled_nodes.proofs.Basics.{none_some}
 use Rattle.sled_nodes.specs.declared.error.Error.{Error}
 use Rattle.sled_nodes.specs.declared.error.Error.TheVariants as error
 use Rattle.sled_nodes.specs.declared.node.Node.{Node}
@@ -42,9 +43,6 @@ use Rattle.sled_tree.proofs.Facts.{rests}
 use Rattle.sled_tree.proofs.Known.{known_kept, not_own, aims}
 use Rattle.tree_groups.proofs.Ways.{stays_on_way}
 use Rattle.tree_groups.specs.Writes.{IsFresh, ActsOften, NoAction, OneAction, is_write_refused_as, Keeps, WrittenAt, MakesWrite, KeepsMapsAt, StopsWriting, IsInside, OpenGroupLaw, RefusedGroupLaw, SealedGroupLaw, GroupBoundsLaw}
-
-pub none_some : {P X : Type 0} {x : X} → None ≡ Some x → P
-none_some e = cc
 
 -- ---- the store's actions
 

@@ -5,13 +5,14 @@ use Rattle.std.specs.Str.{bytes_eq}
 use Rattle.std.specs.Bool.{Decides}
 use Rattle.std.proofs.lemmas.Slice.Eq.{bytes_eq-Decides}
 use Rattle.std.proofs.lemmas.Bool.Decides.{nat_tests}
+use Rattle.sled_nodes.proofs.Basics.{some_is}
 use Rattle.sled_store.specs.In.{In}
 use Rattle.sled_nodes.specs.Node.{pointers, count}
 use Rattle.sled_nodes.specs.Order.{Key}
 use Rattle.sled_store.specs.State.{Nodes}
 use Rattle.sled_nodes.specs.declared.node.Node.{Node}
 use Rattle.tree_laws.specs.Forest.{Tree, Forest, Place, place, head, first_child, later, Run, IsHomed, IsPointer, WellFormed, IsSized}
-use Rattle.tree_laws.proofs.Replace.{place_is, some_is, head_in}
+use Rattle.tree_laws.proofs.Replace.{place_is, head_in}
 
 -- the pages of the level h, where the levels are these, the leaves first
 abbrev pub level : List (List ℕ) → ℕ → List ℕ
@@ -54,7 +55,7 @@ home_in t P (d ∷ homes) p x a e = go (nat_eq d.0 p) refl e (home_in t P homes 
     same h = grind (arith, nat_tests)
 
     go : (o : Bool) → nat_eq d.0 p ≡ o → option_map (place t) (cond o (Some d.1) (height_of homes p)) ≡ Some x → (option_map (place t) (height_of homes p) ≡ Some x → (h : ℕ) × (x ≡ place t h) × P p h) → (h : ℕ) × (x ≡ place t h) × P p h
-    go true g e more = (d.1, sym (some_is _ _ e), subst (λ q. P q d.1) (same g) a.0)
+    go true g e more = (d.1, sym (some_is e), subst (λ q. P q d.1) (same g) a.0)
     go false g e more = more e
 
 -- what is asked of a page of the level h
@@ -122,7 +123,7 @@ module _ {nodes : Nodes} {roots : Tree → Option ℕ} {t : Tree} {r : ℕ} {lev
   tree_of u h p i = ap (λ (z : Place). z.tree) (stands_in (place u h) p i).0
 
   node_is : (h p : ℕ) (n : Node) (s : IsStanding nodes w t h p) → nodes p ≡ Some n → s.node ≡ n
-  node_is h p n s live = some_is s.node n (sym s.live ∙ live)
+  node_is h p n s live = some_is (sym s.live ∙ live)
 
   pub formed : WellFormed nodes roots w
   formed = record {
@@ -157,7 +158,7 @@ module _ {nodes : Nodes} {roots : Tree → Option ℕ} {t : Tree} {r : ℕ} {lev
   sized = record {
     fits = λ x p n e live.
         let a = home_in t (IsAtHome nodes w t) homes p x f.at_home e in
-        subst (λ (z : Node). count z.content ≤ 33) (some_is a.2.node n (sym a.2.is.live ∙ live)) a.2.fits;
+        subst (λ (z : Node). count z.content ≤ 33) (some_is (sym a.2.is.live ∙ live)) a.2.fits;
     child = λ x p c n d i live e at.
         let s = (stands_in x p i).1 in
         s.small c d (ap (λ (z : Node). z.merging_child) (node_is x.height p n s live) ∙ e) at;

@@ -2,6 +2,7 @@
 use Rattle.std.proofs.Common.{◌≡◌, ◌≢◌, ℕ, suc, Bool, true, false, ◌||◌, nat_eq, List, [], ◌∷◌, ◌++◌, Some, sym, refl, ap, ◌∙◌, subst, inl, inr, append_assoc, arith}
 use Rattle.std.proofs.lemmas.Bool.Decides.{nat_tests}
 use Rattle.std.specs.List.{list_any}
+use Rattle.sled_nodes.proofs.Basics.{none_some, some_is}
 use Rattle.sled_store.specs.In.{In}
 use Rattle.sled_nodes.specs.Order.{Key, Below}
 use Rattle.sled_nodes.specs.Node.{pointers}
@@ -12,12 +13,10 @@ use Rattle.sled_nodes.specs.declared.node.Data.TheVariants.{Leaf, Index}
 use Rattle.tree_laws.specs.Forest.{place, Holds, later}
 use Rattle.tree_laws.specs.theory.StageLaws.{BeforeChildLaw, LeadsDownLaw}
 use Rattle.tree_laws.proofs.Order.{below_irrefl}
-use Rattle.tree_laws.proofs.Replace.{some_is}
 use Rattle.tree_laws.proofs.Cover.{holds_at, later_in, later_above}
 use Rattle.tree_laws.proofs.Known.{sound_at}
 use Rattle.tree_laws.proofs.Looking.{pointer_in}
 use Rattle.tree_laws.proofs.Halving.{before_child}
-use Rattle.tree_laws.proofs.Basics.{none_some}
 
 same_child : (c d : ℕ) → nat_eq d c ≡ true → d ≡ c
 same_child c d e = grind (arith, nat_tests)
@@ -83,10 +82,10 @@ before_child_law nodes roots w f t h p n c i live is = (has, λ b k. stands b k)
     first_off : (x : Key × ℕ) (es : List (Key × ℕ)) → n.content ≡ Index (x ∷ es) → x.1 ≢ c
     first_off x es e g =
         let s : Holds (suc h) n.lo n.hi (Index (x ∷ es)) = subst (λ d. Holds (suc h) n.lo n.hi d) e holds in
-        let lo_is : x.0 ≡ n.lo = some_is x.0 n.lo s.2 in
+        let lo_is : x.0 ≡ n.lo = some_is s.2 in
         let a = f.pointer t h p n i live x.0 x.1 (subst (λ d. In (x.0, x.1) (pointers d)) (sym e) (inl refl)) in
         let b = f.pointer t h p n i live child.0 c (later_in n.content child.0 c child.1) in
-        let same : x.0 ≡ child.0 = sym a.key ∙ ap (λ (z : Node). z.lo) (some_is a.node b.node (sym a.live ∙ ap nodes g ∙ b.live)) ∙ b.key in
+        let same : x.0 ≡ child.0 = sym a.key ∙ ap (λ (z : Node). z.lo) (some_is (sym a.live ∙ ap nodes g ∙ b.live)) ∙ b.key in
         below_irrefl n.lo (subst (λ z. Below n.lo z) (sym same ∙ lo_is) (later_above h n.lo n.hi n.content holds child.0 c child.1))
 
     has : (b : ℕ) × IsBefore c (pointers n.content) b
@@ -103,8 +102,8 @@ before_child_law nodes roots w f t h p n c i live is = (has, λ b k. stands b k)
         let off : b ≢ c = λ g.
         let u = f.pointer t h p n i live k.low b o.1 in
         let v = f.pointer t h p n i live k.key c o.0 in
-        below_irrefl k.low (subst (λ z. Below k.low z) (sym v.key ∙ ap (λ (z : Node). z.lo) (some_is v.node u.node (sym v.live ∙ ap nodes (sym g) ∙ u.live)) ∙ u.key) o.2) in
-        let r = pointer_in f t h p n k.low b i live o.1 (λ e. off (some_is b c (sym e ∙ is))) in
+        below_irrefl k.low (subst (λ z. Below k.low z) (sym v.key ∙ ap (λ (z : Node). z.lo) (some_is (sym v.live ∙ ap nodes (sym g) ∙ u.live)) ∙ u.key) o.2) in
+        let r = pointer_in f t h p n k.low b i live o.1 (λ e. off (some_is (sym e ∙ is))) in
         (r.0, r.1, r.2, r.3, o.2)
 
 -- an index whose lo is within the bound has a pointer within it
@@ -113,4 +112,4 @@ leads_down_law h n bound es sound index within = go es (subst (λ d. Holds (suc 
   where
     go : (es : List (Key × ℕ)) → Holds (suc h) n.lo n.hi (Index es) → list_any (λ e. is_up_to bound e.0) es ≡ true
     go [] s = none_some s.2
-    go (x ∷ es) s = ap (λ b. b || list_any (λ e. is_up_to bound e.0) es) (ap (is_up_to bound) (some_is x.0 n.lo s.2) ∙ within)
+    go (x ∷ es) s = ap (λ b. b || list_any (λ e. is_up_to bound e.0) es) (ap (is_up_to bound) (some_is s.2) ∙ within)

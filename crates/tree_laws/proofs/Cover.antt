@@ -2,6 +2,7 @@
 use Rattle.std.proofs.Common.{◌≡◌, ◌≢◌, ℕ, zero, suc, Bool, true, false, T, ◌&&◌, List, [], ◌∷◌, ◌++◌, Option, Some, None, Ordering, Less, Equal, Greater, is_lt, sym, refl, ap, ◌∙◌, subst, inl, inr, ◌⊎◌}
 use Rattle.std.specs.FinMap.Entries.{below_all}
 use Rattle.std.specs.List.{AllByRecursion}
+use Rattle.sled_nodes.proofs.Basics.{some_is, same_or_not}
 use Rattle.sled_store.specs.In.{In}
 use Rattle.sled_nodes.specs.Node.{Within, pointers}
 use Rattle.sled_nodes.specs.Order.{Key, key_cmp, Below, UpTo}
@@ -13,7 +14,7 @@ use Rattle.tree_laws.specs.Forest.{later, Holds, Forest, Place, place, Run, IsPo
 use Rattle.tree_laws.proofs.Order.{below-trans, below_irrefl, below_upto-trans}
 use Rattle.tree_laws.proofs.Pairs.{under}
 use Rattle.tree_laws.proofs.Runs.{rises_on, run_from, run_to, run_parts, In_cases}
-use Rattle.tree_laws.proofs.Replace.{place_is, same_number, some_is, false_true}
+use Rattle.tree_laws.proofs.Replace.{place_is, false_true}
 
 -- of two pages of a run, one ends at or below where the other begins
 pub run_order : (nodes : Nodes) (ps : List ℕ) (from to : Option ℕ) (lo hi : Key) → Run nodes ps from lo to hi → (p q : ℕ) (n m : Node) → In p ps → In q ps → p ≢ q → nodes p ≡ Some n → nodes q ≡ Some m
@@ -21,10 +22,10 @@ pub run_order : (nodes : Nodes) (ps : List ℕ) (from to : Option ℕ) (lo hi : 
 run_order nodes [] from to lo hi r p q n m i j off a b = absurd i
 run_order nodes (z ∷ ps) from to lo hi r p q n m (inl e) (inl g) off a b = absurd (off (e ∙ sym g))
 run_order nodes (z ∷ ps) from to lo hi r p q n m (inl e) (inr j) off a b =
-    let is : r.0 ≡ n = some_is r.0 n (sym r.1.live ∙ ap nodes (sym e) ∙ a) in
+    let is : r.0 ≡ n = some_is (sym r.1.live ∙ ap nodes (sym e) ∙ a) in
     inl (subst (λ (k : Node). Below k.lo k.hi × UpTo k.hi m.lo) is (rises_on nodes ps r.0 to hi q j r.1.rises r.2, run_from nodes ps _ to _ hi r.2 q m j b))
 run_order nodes (z ∷ ps) from to lo hi r p q n m (inr i) (inl e) off a b =
-    let is : r.0 ≡ m = some_is r.0 m (sym r.1.live ∙ ap nodes (sym e) ∙ b) in
+    let is : r.0 ≡ m = some_is (sym r.1.live ∙ ap nodes (sym e) ∙ b) in
     inr (subst (λ (k : Node). Below k.lo k.hi × UpTo k.hi n.lo) is (rises_on nodes ps r.0 to hi p i r.1.rises r.2, run_from nodes ps _ to _ hi r.2 p n i a))
 run_order nodes (z ∷ ps) from to lo hi r p q n m (inr i) (inr j) off a b = run_order nodes ps _ to _ hi r.2 p q n m i j off a b
 
@@ -64,7 +65,7 @@ later_in (Index (e ∷ es)) k d i = inr i
 pub later_above : (h : ℕ) (lo hi : Key) (c : Data) → Holds (suc h) lo hi c → (k : Key) (d : ℕ) → In (k, d) (later (pointers c)) → Below lo k
 later_above h lo hi (Leaf es) s k d i = absurd s
 later_above h lo hi (Index []) s k d i = absurd i
-later_above h lo hi (Index (e ∷ es)) s k d i = subst (λ z. Below z k) (some_is e.0 lo s.2) (above_first e es k d (first _ _ s.0) i)
+later_above h lo hi (Index (e ∷ es)) s k d i = subst (λ z. Below z k) (some_is s.2) (above_first e es k d (first _ _ s.0) i)
   where
     first : (a b : Bool) → T (a && b) → T a
     first true b p = tt
@@ -77,7 +78,7 @@ first_pointer h lo hi (Index []) s = absurd (no s.2)
   where
     no : None ≡ Some lo → ⊥
     no e = cc
-first_pointer h lo hi (Index (e ∷ es)) s = (e.1, inl (same (some_is e.0 lo s.2)))
+first_pointer h lo hi (Index (e ∷ es)) s = (e.1, inl (same (some_is s.2)))
   where
     same : e.0 ≡ lo → (lo, e.1) ≡ e
     same q = λ i. (sym q i, e.1)
@@ -91,11 +92,11 @@ module _ {nodes : Nodes} {roots : Tree → Option ℕ} {w : Forest} (f : WellFor
   chain_run x p i = elim (f.run x) [ inl e ↦ absurd (subst (λ c. In p c) e i) | inr r ↦ r ]
 
   pub holds_at : (x : Place) (p : ℕ) (n : Node) → In p (w.chain x) → nodes p ≡ Some n → Holds x.height n.lo n.hi n.content
-  holds_at x p n i live = let h = f.page x p (f.homed x p i) in subst (λ (z : Node). Holds x.height z.lo z.hi z.content) (some_is h.0 n (sym h.1.live ∙ live)) h.1.sound.holds
+  holds_at x p n i live = let h = f.page x p (f.homed x p i) in subst (λ (z : Node). Holds x.height z.lo z.hi z.content) (some_is (sym h.1.live ∙ live)) h.1.sound.holds
 
   -- of the pages of a chain one covers a key
   pub one_cover : (x : Place) (p q : ℕ) (n m : Node) (k : Key) → In p (w.chain x) → In q (w.chain x) → nodes p ≡ Some n → nodes q ≡ Some m → Within n.lo n.hi k → Within m.lo m.hi k → p ≡ q
-  one_cover x p q n m k i j a b c d = elim (same_number p q) [
+  one_cover x p q n m k i j a b c d = elim (same_or_not p q) [
     | inl e ↦ e
     | inr off ↦ elim (run_order nodes (w.chain x) _ _ _ _ (chain_run x p i) p q n m i j off a b) [
       | inl o ↦ absurd (below_irrefl k (below_upto-trans k m.lo k (below_upto-trans k n.hi m.lo (under _ _ _ o.0 c) o.1) d.0))
@@ -108,7 +109,7 @@ module _ {nodes : Nodes} {roots : Tree → Option ℕ} {w : Forest} (f : WellFor
   one_parent t h p q c n m k l i j a b u v =
       let d = f.pointer t h p n i a k c u in
       let e = f.pointer t h q m j b l c v in
-      let same : l ≡ k = sym e.key ∙ ap (λ (z : Node). z.lo) (some_is e.node d.node (sym e.live ∙ d.live)) ∙ d.key in
+      let same : l ≡ k = sym e.key ∙ ap (λ (z : Node). z.lo) (some_is (sym e.live ∙ d.live)) ∙ d.key in
       one_cover (place t (suc h)) p q n m k i j a b (pointer_within h _ _ _ (holds_at _ p n i a) k c u)
       (subst (λ z. Within m.lo m.hi z) same (pointer_within h _ _ _ (holds_at _ q m j b) l c v))
 
@@ -119,16 +120,16 @@ module _ {nodes : Nodes} {roots : Tree → Option ℕ} {w : Forest} (f : WellFor
       let s = run_parts nodes xs _ _ _ _ _ whole in
       let l = s.3 in
       let from : s.0 ≡ Some p = l.1.here in
-      let np : l.0 ≡ n = some_is l.0 n (sym l.1.live ∙ pn) in
-      let dc : l.2.0 ≡ d = some_is l.2.0 d (sym l.2.1.live ∙ cd) in
+      let np : l.0 ≡ n = some_is (sym l.1.live ∙ pn) in
+      let dc : l.2.0 ≡ d = some_is (sym l.2.1.live ∙ cd) in
       let early : Run nodes xs (head (w.chain x)) [] (Some p) s.1 = subst (λ g. Run nodes xs (head (w.chain x)) [] g s.1) from s.2 in
       let key : s.1 ≡ n.lo = l.1.lo_is ∙ ap (λ (z : Node). z.lo) np in
       elim (In_cases xs _ z i) [
         | inl a ↦ below_irrefl n.lo (below-trans n.lo e.lo n.lo above (subst (λ k. Below e.lo k) key (run_to nodes xs _ p _ _ early z e a live)))
         | inr b ↦ elim b [
-          | inl g ↦ below_irrefl n.lo (subst (λ (k : Node). Below n.lo k.lo) (some_is e n (sym live ∙ ap nodes g ∙ pn)) above)
+          | inl g ↦ below_irrefl n.lo (subst (λ (k : Node). Below n.lo k.lo) (some_is (sym live ∙ ap nodes g ∙ pn)) above)
           | inr b' ↦ elim b' [
-            | inl g ↦ below_irrefl d.lo (subst (λ (k : Node). Below k.lo d.lo) (some_is e d (sym live ∙ ap nodes g ∙ cd)) below)
+            | inl g ↦ below_irrefl d.lo (subst (λ (k : Node). Below k.lo d.lo) (some_is (sym live ∙ ap nodes g ∙ cd)) below)
             | inr g ↦
                 let up : Below d.lo d.hi = subst (λ (k : Node). Below k.lo k.hi) dc (rises_on nodes ys l.2.0 None [] z g l.2.1.rises l.2.2) in
                 let far : UpTo d.hi e.lo = subst (λ (k : Node). UpTo k.hi e.lo) dc (run_from nodes ys _ None _ [] l.2.2 z e g live) in
@@ -144,14 +145,14 @@ module _ {nodes : Nodes} {roots : Tree → Option ℕ} {w : Forest} (f : WellFor
       let p = first_pointer h _ _ _ (holds_at _ r b j rb) in
       let i = f.pointer t h r b j rb b.lo p.0 p.1 in
       let g = f.page (place t h) p.0 i.homed in
-      let same : g.0 ≡ i.node = some_is g.0 i.node (sym g.1.live ∙ i.live) in (
+      let same : g.0 ≡ i.node = some_is (sym g.1.live ∙ i.live) in (
         p.0,
         i.node,
         elim g.1.stands [
           | inl a ↦ a
           | inr m ↦
-              let k : c ≡ p.0 = some_is c p.0 (sym bc ∙ i.merged (subst (λ (z : Node). z.merging ≡ true) same m)) in
-              absurd (below_irrefl b.lo (subst (λ l. Below b.lo l) (ap (λ (z : Node). z.lo) (some_is d i.node (sym cd ∙ ap nodes k ∙ i.live)) ∙ i.key) low))
+              let k : c ≡ p.0 = some_is (sym bc ∙ i.merged (subst (λ (z : Node). z.merging ≡ true) same m)) in
+              absurd (below_irrefl b.lo (subst (λ l. Below b.lo l) (ap (λ (z : Node). z.lo) (some_is (sym cd ∙ ap nodes k ∙ i.live)) ∙ i.key) low))
         ],
         i.live,
         i.key,
@@ -164,22 +165,22 @@ module _ {nodes : Nodes} {roots : Tree → Option ℕ} {w : Forest} (f : WellFor
       let whole : Run nodes (xs ++ (p ∷ (c ∷ ys))) (head (w.chain (place t h))) [] None [] = subst (λ z. Run nodes z (head (w.chain (place t h))) [] None []) is (chain_run (place t h) p (subst (λ z. In p z) (sym is) (at xs))) in
       let s = run_parts nodes xs _ _ _ _ _ whole in
       let m = s.3 in
-      let np : m.0 ≡ n = some_is m.0 n (sym m.1.live ∙ pn) in
-      let dc : m.2.0 ≡ d = some_is m.2.0 d (sym m.2.1.live ∙ cd) in
+      let np : m.0 ≡ n = some_is (sym m.1.live ∙ pn) in
+      let dc : m.2.0 ≡ d = some_is (sym m.2.1.live ∙ cd) in
       let low : Below n.lo d.lo = subst (λ (z : Node). Below n.lo z.lo) dc (subst (λ k. Below n.lo k) m.2.1.lo_is (subst (λ (z : Node). Below z.lo m.0.hi) np (rises_on nodes (c ∷ ys) m.0 None [] c (inl refl) m.1.rises m.2))) in
       let ka : (k : Key) × In (k, p) (later (pointers a.content)) = (l, ap') in
       let kb = f.child _ r b j rb c bc in
       let ia = f.pointer t h q a i qa ka.0 p (later_in a.content ka.0 p ka.1) in
       let ib = f.pointer t h r b j rb kb.0 c (later_in b.content kb.0 c kb.1) in
-      let ea : ka.0 ≡ n.lo = sym ia.key ∙ ap (λ (z : Node). z.lo) (some_is ia.node n (sym ia.live ∙ pn)) in
-      let eb : kb.0 ≡ d.lo = sym ib.key ∙ ap (λ (z : Node). z.lo) (some_is ib.node d (sym ib.live ∙ cd)) in
+      let ea : ka.0 ≡ n.lo = sym ia.key ∙ ap (λ (z : Node). z.lo) (some_is (sym ia.live ∙ pn)) in
+      let eb : kb.0 ≡ d.lo = sym ib.key ∙ ap (λ (z : Node). z.lo) (some_is (sym ib.live ∙ cd)) in
       let ha = holds_at _ q a i qa in
       let hb = holds_at _ r b j rb in
       let la : Below a.lo n.lo = subst (λ k. Below a.lo k) ea (later_above h _ _ _ ha _ _ ka.1) in
       let lb : Below b.lo d.lo = subst (λ k. Below b.lo k) eb (later_above h _ _ _ hb _ _ kb.1) in
       let wa : Within a.lo a.hi n.lo = subst (λ k. Within a.lo a.hi k) ea (pointer_within h _ _ _ ha _ _ (later_in a.content ka.0 p ka.1)) in
       let wb : Within b.lo b.hi d.lo = subst (λ k. Within b.lo b.hi k) eb (pointer_within h _ _ _ hb _ _ (later_in b.content kb.0 c kb.1)) in
-      elim (same_number q r) [
+      elim (same_or_not q r) [
         | inl e ↦ e
         | inr off ↦ elim (run_order nodes _ _ _ _ _ (chain_run _ q i) q r a b i j off qa rb) [
           | inl o ↦
@@ -200,9 +201,9 @@ module _ {nodes : Nodes} {roots : Tree → Option ℕ} {w : Forest} (f : WellFor
   not_both_children t h xs ys p c n d is pn cd calm cap q r a b i j qa rb ap' bc =
       let k = f.child _ q a i qa p ap' in
       let e = one_later t h xs ys p c n d is pn cd q r a b k.0 i j qa rb k.1 bc in
-      let ab : a ≡ b = some_is a b (sym qa ∙ ap nodes e ∙ rb) in
-      let pc : p ≡ c = some_is p c (sym ap' ∙ ap (λ (z : Node). z.merging_child) ab ∙ bc) in
-      false_true n.merging calm (subst (λ (z : Node). z.merging ≡ true) (some_is d n (sym cd ∙ ap nodes (sym pc) ∙ pn)) cap)
+      let ab : a ≡ b = some_is (sym qa ∙ ap nodes e ∙ rb) in
+      let pc : p ≡ c = some_is (sym ap' ∙ ap (λ (z : Node). z.merging_child) ab ∙ bc) in
+      false_true n.merging calm (subst (λ (z : Node). z.merging ≡ true) (some_is (sym cd ∙ ap nodes (sym pc) ∙ pn)) cap)
 
   -- who has a merging child is an index, with a later pointer to it
   pub child_below : (x : Place) (p : ℕ) (n : Node) (c : ℕ) → In p (w.chain x) → nodes p ≡ Some n → n.merging_child ≡ Some c

@@ -1,7 +1,7 @@
 -- A store with no page and no tree.
 use Rattle.std.proofs.Common.{refl, inl}
+use Rattle.sled_nodes.proofs.Basics.{none_some}
 use Rattle.tree_laws.specs.theory.Laws.{EmptyLaw}
-use Rattle.tree_laws.proofs.Basics.{none_some}
 
 pub empty_law : EmptyLaw
 empty_law = (

@@ -1,6 +1,7 @@
 -- The images that no forest has.
 use Rattle.std.proofs.Common.{◌≡◌, ℕ, zero, suc, ◌≤◌, T, List, [], ◌∷◌, ◌++◌, Option, Some, None, sym, refl, ap, ◌∙◌, subst, inl, inr, ◌⊎◌, arith}
 use Rattle.std.specs.FinMap.{is_sorted}
+use Rattle.sled_nodes.proofs.Basics.{none_some, some_none, some_is}
 use Rattle.sled_store.specs.In.{In}
 use Rattle.sled_nodes.specs.Node.{pointers, Within}
 use Rattle.sled_nodes.specs.Order.{Key, key_cmp, Below}
@@ -10,12 +11,8 @@ use Rattle.sled_nodes.specs.declared.node.Data.{Data}
 use Rattle.sled_nodes.specs.declared.node.Data.TheVariants.{Leaf, Index}
 use Rattle.tree_laws.specs.Forest.{Tree, Forest, Place, place, head, first_child, first_key, Holds, Run, IsHomed, WellFormed}
 use Rattle.tree_laws.specs.theory.Images.{Refuses, selves, key, leaf, index, capped, merging, one_tree, other_tree, left, right, over, first_only, both, root_is_not_there, leads_to_itself, has_a_gap, ends_early, pointer_to_nothing, wrong_key, not_the_merging_child, first_is_the_merging_child, merging_with_a_merging_child, too_many, too_many_of_a_merging_child, not_ascending, begins_late, root_of_two_trees, ends_below_its_begin, leads_on_without_a_bound, merging_root, merging_without_a_pointer, two_pointers, received_by_two_trees, in_another_tree, in_another_level, pointer_out_of_the_chain, index_beside_a_leaf, merging_child_without_a_pointer, beyond_the_bounds, without_pointers, first_key_above, received_not_ascending, RefusedImages}
-use Rattle.tree_laws.proofs.Replace.{some_is, head_in}
+use Rattle.tree_laws.proofs.Replace.{head_in}
 use Rattle.tree_laws.proofs.Cover.{chain_run, holds_at}
-use Rattle.tree_laws.proofs.Basics.{none_some}
-
-some_none : {P : Type 0} {A : Type 0} {x : A} → Some x ≡ None → P
-some_none e = cc
 
 -- the first byte
 abbrev byte : Key → ℕ
@@ -26,8 +23,8 @@ byte (b ∷ bs) = b
 pub run_on : (nodes : Nodes) (ps : List ℕ) (p : ℕ) (n : Node) (lo : Key) → nodes p ≡ Some n → Run nodes ps (Some p) lo None [] → (rest : List ℕ) × (ps ≡ p ∷ rest) × (lo ≡ n.lo) × ((n.next ≡ None) ⊎ Below n.lo n.hi) × Run nodes rest n.next n.hi None []
 run_on nodes [] p n lo live r = some_none r.0
 run_on nodes (q ∷ ps) p n lo live r =
-    let same : q ≡ p = sym (some_is p q r.1.here) in
-    let is : r.0 ≡ n = some_is r.0 n (sym r.1.live ∙ ap nodes same ∙ live) in
+    let same : q ≡ p = sym (some_is r.1.here) in
+    let is : r.0 ≡ n = some_is (sym r.1.live ∙ ap nodes same ∙ live) in
     (ps, ap (λ z. z ∷ ps) same, r.1.lo_is ∙ ap (λ (z : Node). z.lo) is, subst (λ (z : Node). (z.next ≡ None) ⊎ Below z.lo z.hi) is r.1.rises, subst (λ (z : Node). Run nodes ps z.next z.hi None []) is r.2)
 
 -- and ends where it leads to none
@@ -50,7 +47,7 @@ module _ {nodes : Nodes} {roots : Tree → Option ℕ} {w : Forest} (f : WellFor
 
   -- a page with a home, as it is
   pub homed_is : (x : Place) (p : ℕ) (n : Node) → w.home p ≡ Some x → nodes p ≡ Some n → IsHomed nodes w p x n
-  homed_is x p n e live = let h = f.page x p e in subst (IsHomed nodes w p x) (some_is h.0 n (sym h.1.live ∙ live)) h.1
+  homed_is x p n e live = let h = f.page x p e in subst (IsHomed nodes w p x) (some_is (sym h.1.live ∙ live)) h.1
 
   -- of a level that begins with an index: the level below begins where its first pointer leads
   pub index_first : (t : Tree) (h p : ℕ) (n : Node) (es : List (Key × ℕ)) → head (w.chain (place t h)) ≡ Some p → nodes p ≡ Some n → n.content ≡ Index es
@@ -108,7 +105,7 @@ shared_root : Refuses root_of_two_trees
 shared_root w f z =
     let t = f.top one_tree in
     let u = f.top other_tree in
-    let e : place one_tree t.0 ≡ place other_tree u.0 = some_is _ _ (sym (f.homed _ 1 (head_in _ 1 t.1)) ∙ f.homed _ 1 (head_in _ 1 u.1)) in
+    let e : place one_tree t.0 ≡ place other_tree u.0 = some_is (sym (f.homed _ 1 (head_in _ 1 t.1)) ∙ f.homed _ 1 (head_in _ 1 u.1)) in
     no (ap (λ (z : Place). byte z.tree) e)
   where
     no : ◌≡◌ {A = ℕ} 97 98 → ⊥
@@ -164,14 +161,14 @@ key_differs w f z =
     let n : Node = over (([], 1) ∷ (key 9, 2) ∷ []) in
     let i = index_first f one_tree t.0 3 n (([], 1) ∷ (key 9, 2) ∷ []) t.1 refl refl in
     let c = f.pointer one_tree i.0 3 n i.2 refl (key 9) 2 (inr (inl refl)) in
-    key_apart (ap (λ (z : Node). z.lo) (some_is right c.node c.live) ∙ c.key)
+    key_apart (ap (λ (z : Node). z.lo) (some_is c.live) ∙ c.key)
 
 no_child : Refuses not_the_merging_child
 no_child w f z =
     let t = f.top one_tree in
     let i = index_first f one_tree t.0 3 (over both) both t.1 refl refl in
     let c = f.pointer one_tree i.0 3 (over both) i.2 refl (key 8) 2 (inr (inl refl)) in
-    none_some (c.merged (sym (ap (λ (z : Node). z.merging) (some_is (capped right) c.node c.live))))
+    none_some (c.merged (sym (ap (λ (z : Node). z.merging) (some_is c.live))))
 
 first_child_merges : Refuses first_is_the_merging_child
 first_child_merges w f z =
@@ -213,7 +210,7 @@ parentless w f z =
     let above = run_on _ _ 3 (over first_only) [] refl (run_at f (place one_tree (suc i.0)) 3 (subst (λ h. head (w.chain (place one_tree h)) ≡ Some 3) i.1 t.1)) in
     let only : w.chain (place one_tree (suc i.0)) ≡ 3 ∷ [] = above.1 ∙ ap (λ c. 3 ∷ c) (run_ends _ above.0 [] above.4).0 in
     elim (subst (λ c. In p.0 c) only p.2) [
-      | inl e ↦ none_some (ap (λ (z : Node). z.merging_child) (some_is (over first_only) p.1 (ap (nodes_of merging_without_a_pointer) (sym e) ∙ p.3)) ∙ p.4)
+      | inl e ↦ none_some (ap (λ (z : Node). z.merging_child) (some_is (ap (nodes_of merging_without_a_pointer) (sym e) ∙ p.3)) ∙ p.4)
       | inr e ↦ absurd e
     ]
 
@@ -223,7 +220,7 @@ pointed_to_twice w f z =
     let n : Node = merging 2 (over (both ++ (key 9, 2) ∷ [])) in
     let i = index_first f one_tree t.0 3 n (both ++ (key 9, 2) ∷ []) t.1 refl refl in
     let c = f.pointer one_tree i.0 3 n i.2 refl (key 9) 2 (inr (inr (inl refl))) in
-    key_apart (ap (λ (z : Node). z.lo) (some_is (capped right) c.node c.live) ∙ c.key)
+    key_apart (ap (λ (z : Node). z.lo) (some_is c.live) ∙ c.key)
 
 of_two_trees : Refuses in_another_tree
 of_two_trees w f z =
@@ -237,7 +234,7 @@ of_two_trees w f z =
     let r = run_on _ _ 4 (leaf [] (key 8) (Some 2) []) [] refl (run_at f (place other_tree j.0) 4 j.3) in
     let s = run_on _ r.0 2 (capped right) (key 8) refl r.4 in
     let here : In 2 (w.chain (place other_tree j.0)) = subst (λ c. In 2 c) (sym r.1) (inr (subst (λ c. In 2 c) (sym s.1) (inl refl))) in
-    let e : place one_tree i.0 ≡ place other_tree j.0 = some_is _ _ (sym c.homed ∙ f.homed _ 2 here) in
+    let e : place one_tree i.0 ≡ place other_tree j.0 = some_is (sym c.homed ∙ f.homed _ 2 here) in
     no (ap (λ (z : Place). byte z.tree) e)
   where
     no : ◌≡◌ {A = ℕ} 97 98 → ⊥
@@ -253,7 +250,7 @@ received_twice w f z =
     let j = index_first f other_tree u.0 5 m (([], 4) ∷ (key 8, 2) ∷ []) u.1 refl refl in
     let c = f.pointer one_tree i.0 3 n i.2 refl (key 8) 2 (inr (inl refl)) in
     let d = f.pointer other_tree j.0 5 m j.2 refl (key 8) 2 (inr (inl refl)) in
-    let e : place one_tree i.0 ≡ place other_tree j.0 = some_is _ _ (sym c.homed ∙ d.homed) in
+    let e : place one_tree i.0 ≡ place other_tree j.0 = some_is (sym c.homed ∙ d.homed) in
     no (ap (λ (z : Place). byte z.tree) e)
   where
     no : ◌≡◌ {A = ℕ} 97 98 → ⊥
@@ -268,7 +265,7 @@ of_two_levels w f z =
     let j = index_first f one_tree i.0 6 m (([], 3) ∷ (key 8, 2) ∷ []) i.3 refl refl in
     let c = f.pointer one_tree i.0 7 n i.2 refl (key 8) 2 (inr (inl refl)) in
     let d = f.pointer one_tree j.0 6 m j.2 refl (key 8) 2 (inr (inl refl)) in
-    let e : place one_tree i.0 ≡ place one_tree j.0 = some_is _ _ (sym c.homed ∙ d.homed) in
+    let e : place one_tree i.0 ≡ place one_tree j.0 = some_is (sym c.homed ∙ d.homed) in
     no i.0 j.0 (ap (λ (z : Place). z.height) e) j.1
   where
     no : (a b : ℕ) → a ≡ b → a ≡ suc b → ⊥
@@ -344,7 +341,7 @@ no_pointers w f z =
 first_above : Refuses first_key_above
 first_above w f z =
     let t = f.top one_tree in
-    no (some_is (key 4) [] (first_is t.0 [] [] ((key 4, 1) ∷ []) (holds_at f (place one_tree t.0) 3 (over ((key 4, 1) ∷ [])) (head_in _ 3 t.1) refl)))
+    no (some_is (first_is t.0 [] [] ((key 4, 1) ∷ []) (holds_at f (place one_tree t.0) 3 (over ((key 4, 1) ∷ [])) (head_in _ 3 t.1) refl)))
   where
     no : key 4 ≡ [] → ⊥
     no e = cc

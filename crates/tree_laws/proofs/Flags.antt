@@ -1,9 +1,10 @@
 -- The flags of a merge: intention, cap, confirm.
-use Rattle.std.proofs.Common.{◌≡◌, ◌≢◌, ℕ, suc, ◌≤◌, Bool, true, false, cond, not, nat_eq, T, ◌&&◌, List, [], ◌∷◌, length, Option, Some, None, sym, refl, ap, ◌∙◌, subst, inl, inr, arith, le_refl}
+use Rattle.std.proofs.Common.{◌≡◌, ◌≢◌, ℕ, suc, ◌≤◌, true, false, cond, not, nat_eq, T, List, [], ◌∷◌, length, Option, Some, None, sym, refl, ap, ◌∙◌, subst, inl, inr, arith, le_refl}
 use Rattle.std.proofs.lemmas.Bool.Decides.{nat_tests}
 use Rattle.std.specs.List.{AllByRecursion}
 use Rattle.std.specs.FinMap.{is_sorted}
 use Rattle.std.specs.FinMap.Entries.{below_all}
+use Rattle.sled_nodes.proofs.Basics.{none_some, some_is, left_of, right_of, both_of, same_or_not}
 use Rattle.sled_store.specs.In.{In}
 use Rattle.sled_nodes.specs.Node.{Within, pairs, pointers, count, unpointed, after_link, after_intention, after_confirm}
 use Rattle.sled_nodes.specs.Order.{Key, key_cmp, Below}
@@ -19,14 +20,13 @@ use Rattle.tree_laws.specs.Snapshot.{IsOrphan}
 use Rattle.tree_laws.specs.theory.PageLaws.{Unseen, CapLaw, IntentionLaw, ConfirmLaw}
 use Rattle.tree_laws.proofs.Order.{below_irrefl}
 use Rattle.tree_laws.proofs.Update.{put_here, put_there}
-use Rattle.tree_laws.proofs.Replace.{same_number, some_is, false_true}
+use Rattle.tree_laws.proofs.Replace.{false_true}
 use Rattle.tree_laws.proofs.Split.{pointer_like}
 use Rattle.tree_laws.proofs.Cover.{holds_at, later_in, later_above}
 use Rattle.tree_laws.proofs.Reflag.{Reflags, after, reflagged_kept, reflagged_keeps, reflagged_contents, reflagged_sized, reflagged_grows}
-use Rattle.tree_laws.proofs.Basics.{none_some}
 
 sound_at : {nodes : Nodes} {roots : Tree → Option ℕ} {w : Forest} (f : WellFormed nodes roots w) (x : Place) (p : ℕ) (n : Node) → In p (w.chain x) → nodes p ≡ Some n → IsNodeAt x.height n
-sound_at f x p n i live = let h = f.page x p (f.homed x p i) in subst (λ (z : Node). IsNodeAt x.height z) (some_is h.0 n (sym h.1.live ∙ live)) h.1.sound
+sound_at f x p n i live = let h = f.page x p (f.homed x p i) in subst (λ (z : Node). IsNodeAt x.height z) (some_is (sym h.1.live ∙ live)) h.1.sound
 
 pub cap_law : CapLaw
 cap_law nodes roots w f x p n o q d j up is =
@@ -85,7 +85,7 @@ intention_law nodes roots w f t h p c n k o j =
       stays = λ z y e. inl e;
       keeps_child = λ d y g e. none_some (sym free ∙ e);
       first = refl;
-      child = λ d e. (k, subst (λ z. In (k, z) (later (pointers n.content))) (some_is c d (sym child_is ∙ e)) j);
+      child = λ d e. (k, subst (λ z. In (k, z) (later (pointers n.content))) (some_is (sym child_is ∙ e)) j);
       pointer = λ u g at l d b.
           let o = f.pointer u g p n (subst (λ z. In p (w.chain z)) at i) live l d b in (
             record {
@@ -98,7 +98,7 @@ intention_law nodes roots w f t h p c n k o j =
             o.homed,
           );
     } in
-    record { after = after r f; kept = reflagged_kept r f; same = reflagged_contents r f refl; keeps = reflagged_keeps r f []; sized = λ small. reflagged_sized r f (λ d b e at. small b (ap nodes (some_is c d (sym child_is ∙ e)) ∙ at)); grows = λ small. reflagged_grows r f }
+    record { after = after r f; kept = reflagged_kept r f; same = reflagged_contents r f refl; keeps = reflagged_keeps r f []; sized = λ small. reflagged_sized r f (λ d b e at. small b (ap nodes (some_is (sym child_is ∙ e)) ∙ at)); grows = λ small. reflagged_grows r f }
 
 -- what a filter of pointers keeps
 sub_in : (c : ℕ) (es : List (Key × ℕ)) (k : Key) (d : ℕ) → In (k, d) (unpointed c es) → In (k, d) es × (d ≢ c)
@@ -136,29 +136,17 @@ each_unpointed : (P : Key → Type 0) (c : ℕ) (es : List (Key × ℕ)) → All
 each_unpointed P c [] a = tt
 each_unpointed P c (e ∷ es) a = elim (not (nat_eq e.1 c)) as (λ b. AllByRecursion (λ e. P e.0) (cond b (e ∷ unpointed c es) (unpointed c es))) [ true ↦ (a.0, each_unpointed P c es a.1) | false ↦ each_unpointed P c es a.1 ]
 
-both : (a b : Bool) → T a → T b → T (a && b)
-both true b p q = q
-both false b p q = p
-
-fst : (a b : Bool) → T (a && b) → T a
-fst true b p = tt
-fst false b p = p
-
-snd : (a b : Bool) → T (a && b) → T b
-snd true b p = p
-snd false b p = absurd p
-
 below_unpointed : (k : Key) (c : ℕ) (es : List (Key × ℕ)) → T (below_all key_cmp k es) → T (below_all key_cmp k (unpointed c es))
 below_unpointed k c [] h = tt
 below_unpointed k c (e ∷ es) h =
-    let rest = below_unpointed k c es (snd _ _ h) in
-    elim (not (nat_eq e.1 c)) as (λ b. T (below_all key_cmp k (cond b (e ∷ unpointed c es) (unpointed c es)))) [ true ↦ both _ _ (fst _ _ h) rest | false ↦ rest ]
+    let rest = below_unpointed k c es (right_of _ _ h) in
+    elim (not (nat_eq e.1 c)) as (λ b. T (below_all key_cmp k (cond b (e ∷ unpointed c es) (unpointed c es)))) [ true ↦ both_of _ _ (left_of _ _ h) rest | false ↦ rest ]
 
 sorted_unpointed : (c : ℕ) (es : List (Key × ℕ)) → T (is_sorted key_cmp es) → T (is_sorted key_cmp (unpointed c es))
 sorted_unpointed c [] h = tt
 sorted_unpointed c (e ∷ es) h =
-    let rest = sorted_unpointed c es (snd _ _ h) in
-    elim (not (nat_eq e.1 c)) as (λ b. T (is_sorted key_cmp (cond b (e ∷ unpointed c es) (unpointed c es)))) [ true ↦ both _ _ (below_unpointed e.0 c es (fst _ _ h)) rest | false ↦ rest ]
+    let rest = sorted_unpointed c es (right_of _ _ h) in
+    elim (not (nat_eq e.1 c)) as (λ b. T (is_sorted key_cmp (cond b (e ∷ unpointed c es) (unpointed c es)))) [ true ↦ both_of _ _ (below_unpointed e.0 c es (left_of _ _ h)) rest | false ↦ rest ]
 
 -- the first pointer stays, if it leads elsewhere
 first_stays : (c : ℕ) (lo : Key) (es : List (Key × ℕ)) → first_key es ≡ Some lo → ((d : ℕ) → first_child es ≡ Some d → d ≢ c) → (first_key (unpointed c es) ≡ Some lo) × (first_child (unpointed c es) ≡ first_child es)
@@ -193,12 +181,12 @@ module _ (nodes : Nodes) (roots : Tree → Option ℕ) (w : Forest) (f : WellFor
   first_off d e is =
       let j : In (n.lo, d) es = first_in es n.lo d holds.2 e in
       let a = own n.lo d j in
-      let same : n.lo ≡ at_c.0 = sym a.key ∙ ap (λ (z : Node). z.lo) (some_is a.node c_pointer.node (sym a.live ∙ ap nodes is ∙ c_pointer.live)) ∙ c_pointer.key in
+      let same : n.lo ≡ at_c.0 = sym a.key ∙ ap (λ (z : Node). z.lo) (some_is (sym a.live ∙ ap nodes is ∙ c_pointer.live)) ∙ c_pointer.key in
       below_irrefl n.lo (subst (λ z. Below n.lo z) (sym same) (later_above h n.lo n.hi (Index es) holds at_c.0 c at_c.1))
     where
       first_in : (es : List (Key × ℕ)) (k : Key) (d : ℕ) → first_key es ≡ Some k → first_child es ≡ Some d → In (k, d) es
       first_in [] k d a b = none_some a
-      first_in (e ∷ es) k d a b = inl (pair (some_is e.0 k a) (some_is e.1 d b))
+      first_in (e ∷ es) k d a b = inl (pair (some_is a) (some_is b))
         where
           pair : e.0 ≡ k → e.1 ≡ d → (k, d) ≡ e
           pair u v = λ i. (sym u i, sym v i)
@@ -231,12 +219,12 @@ module _ (nodes : Nodes) (roots : Tree → Option ℕ) (w : Forest) (f : WellFor
     not_merging = not_merging;
     calm = λ u. refl;
     parent = λ u. false_true n.merging not_merging u;
-    comes = λ q y e. elim (same_number q c) [ inl a ↦ none_some (sym (ap home a ∙ home_c) ∙ e) | inr a ↦ sym (home_other q a) ∙ e ];
-    stays = λ q y e. elim (same_number q c) [
-      | inl a ↦ inr (has ∙ ap Some (sym a), λ j. out (subst (λ z. In z (w.chain (place t h))) a (subst (λ z. In q (w.chain z)) (some_is y (place t h) (sym e ∙ ap w.home a ∙ c_pointer.homed)) j)))
+    comes = λ q y e. elim (same_or_not q c) [ inl a ↦ none_some (sym (ap home a ∙ home_c) ∙ e) | inr a ↦ sym (home_other q a) ∙ e ];
+    stays = λ q y e. elim (same_or_not q c) [
+      | inl a ↦ inr (has ∙ ap Some (sym a), λ j. out (subst (λ z. In z (w.chain (place t h))) a (subst (λ z. In q (w.chain z)) (some_is (sym e ∙ ap w.home a ∙ c_pointer.homed)) j)))
       | inr a ↦ inl (home_other q a ∙ e)
     ];
-    keeps_child = λ d y e g. none_some (sym (ap home (some_is d c (sym g ∙ has)) ∙ home_c) ∙ e);
+    keeps_child = λ d y e g. none_some (sym (ap home (some_is (sym g ∙ has)) ∙ home_c) ∙ e);
     first = (first_stays c n.lo es holds.2 first_off).1 ∙ ap (λ z. first_child (pointers z)) (sym index);
     child = λ d e. none_some e;
     pointer = λ u g at k d j.
@@ -248,7 +236,7 @@ module _ (nodes : Nodes) (roots : Tree → Option ℕ) (w : Forest) (f : WellFor
             live = a.live;
             homed = a.homed;
             key = a.key;
-            merged = λ v. absurd (o.1 (some_is d c (sym (a.merged v) ∙ has)));
+            merged = λ v. absurd (o.1 (some_is (sym (a.merged v) ∙ has)));
           },
           home_other d o.1 ∙ a.homed,
         );

@@ -3,6 +3,7 @@ use Rattle.std.proofs.Common.{◌≡◌, ◌≢◌, ℕ, zero, suc, ◌<◌, ◌
 use Rattle.std.specs.List.{AllByRecursion, IsDistinct, list_any}
 use Rattle.std.proofs.lemmas.Map.Steps.{length-le_from_distinct_below}
 use Rattle.std.proofs.lemmas.Bool.Decides.{nat_tests}
+use Rattle.sled_nodes.proofs.Basics.{none_some, some_is}
 use Rattle.sled_store.specs.In.{In}
 use Rattle.sled_nodes.specs.Node.{pointers}
 use Rattle.sled_nodes.specs.Order.{Key, Below}
@@ -16,10 +17,9 @@ use Rattle.tree_laws.specs.theory.Drops.{Different}
 use Rattle.tree_laws.specs.Contents.{page_numbers, next_of, first_of, along, first_leaf, pairs_under}
 use Rattle.tree_laws.specs.theory.Laws.{ContentsLaw}
 use Rattle.tree_laws.proofs.Order.{below_irrefl}
-use Rattle.tree_laws.proofs.Replace.{some_is, pairs_of, behind_first, head_in}
+use Rattle.tree_laws.proofs.Replace.{pairs_of, behind_first, head_in}
 use Rattle.tree_laws.proofs.Cover.{chain_run}
 use Rattle.tree_laws.proofs.Reading.{child_of}
-use Rattle.tree_laws.proofs.Basics.{none_some}
 
 pub page_numbers_is : page_numbers ≡ 2 ^ 64
 unfolding page_numbers
@@ -115,7 +115,7 @@ module _ {nodes : Nodes} {roots : Tree → Option ℕ} {w : Forest} (f : WellFor
       let here : w.home p ≡ Some (place t (suc h)) = f.homed _ p (head_in _ p e) in (
         p ∷ below.0,
         ap suc below.1,
-        (λ q i g. let b = below.3 q i in apart b.0 b.1 (ap (λ (z : Place). z.height) (some_is _ _ (sym b.2 ∙ ap w.home g ∙ here))), below.2),
+        (λ q i g. let b = below.3 q i in apart b.0 b.1 (ap (λ (z : Place). z.height) (some_is (sym b.2 ∙ ap w.home g ∙ here))), below.2),
         λ q i. elim i [ inl g ↦ (suc h, omega arith, ap w.home g ∙ here) | inr j ↦ let b = below.3 q j in (b.0, up b.0 b.1, b.2) ],
       )
     where

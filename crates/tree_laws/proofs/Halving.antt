@@ -1,9 +1,10 @@
 -- What a node's own functions make of it is what the laws ask for: halves, joined pages, pointers.
-use Rattle.std.proofs.Common.{◌≡◌, ℕ, zero, suc, ◌-◌, ◌/◌, ◌≤◌, Bool, true, false, T, ◌&&◌, List, [], ◌∷◌, ◌++◌, length, Some, sym, refl, ap, ◌∙◌, subst, inl, inr, ◌⊎◌, is_lt, Ordering, Less, Equal, Greater, arith}
+use Rattle.std.proofs.Common.{◌≡◌, ℕ, zero, suc, ◌-◌, ◌/◌, ◌≤◌, T, List, [], ◌∷◌, ◌++◌, length, Some, sym, refl, ap, ◌∙◌, subst, inl, inr, ◌⊎◌, is_lt, Ordering, Less, Equal, Greater, arith}
 use Rattle.std.proofs.lemmas.List.{take-append-drop, length-take-le, length-drop}
 use Rattle.std.specs.List.{AllByRecursion}
 use Rattle.std.specs.FinMap.{is_sorted}
 use Rattle.std.specs.FinMap.Entries.{below_all}
+use Rattle.sled_nodes.proofs.Basics.{none_some, left_of, right_of, both_of}
 use Rattle.sled_store.specs.In.{In}
 use Rattle.sled_nodes.specs.Order.{Key, key_cmp, Below, UpTo}
 use Rattle.sled_nodes.specs.Node.{Within, pointers, count}
@@ -23,19 +24,6 @@ use Rattle.tree_laws.proofs.Order.{upto-refl, upto-below, upto-trans, below-tran
 use Rattle.tree_laws.proofs.Pairs.{each_weaker, each_append, under}
 use Rattle.tree_laws.proofs.Reading.{sorted-append}
 use Rattle.tree_laws.proofs.Runs.{In-right, In-left}
-use Rattle.tree_laws.proofs.Basics.{none_some}
-
-fst : (a b : Bool) → T (a && b) → T a
-fst true b p = tt
-fst false b p = p
-
-snd : (a b : Bool) → T (a && b) → T b
-snd true b p = p
-snd false b p = absurd p
-
-both : (a b : Bool) → T a → T b → T (a && b)
-both true b p q = q
-both false b p q = p
 
 less : {o : Ordering} → T (is_lt o) → o ≡ Less
 less {o = Less} p = refl
@@ -45,7 +33,7 @@ less {o = Greater} p = absurd p
 -- what is below all of a list, one by one
 each_above : {X : Type 0} (k : Key) (es : List (Key × X)) → T (below_all key_cmp k es) → AllByRecursion (λ e. Below k e.0) es
 each_above k [] p = tt
-each_above k (e ∷ es) p = (less (fst _ _ p), each_above k es (snd _ _ p))
+each_above k (e ∷ es) p = (less (left_of _ _ p), each_above k es (right_of _ _ p))
 
 each_parts : {X : Type 0} (P : X → Type 0) (xs ys : List X) → AllByRecursion P (xs ++ ys) → AllByRecursion P xs × AllByRecursion P ys
 each_parts P [] ys a = (tt, a)
@@ -53,7 +41,7 @@ each_parts P (x ∷ xs) ys a = let r = each_parts P xs ys a.1 in ((a.0, r.0), r.
 
 below_parts : {X : Type 0} (k : Key) (xs ys : List (Key × X)) → T (below_all key_cmp k (xs ++ ys)) → T (below_all key_cmp k xs)
 below_parts k [] ys p = tt
-below_parts k (x ∷ xs) ys p = both _ _ (fst _ _ p) (below_parts k xs ys (snd _ _ p))
+below_parts k (x ∷ xs) ys p = both_of _ _ (left_of _ _ p) (below_parts k xs ys (right_of _ _ p))
 
 at_seam : {X : Type 0} (k : Key) (zs : List (Key × X)) (y : Key × X) (ys : List (Key × X)) → AllByRecursion (λ e. Below k e.0) (zs ++ y ∷ ys) → Below k y.0
 at_seam k [] y ys a = a.0
@@ -63,8 +51,8 @@ at_seam k (z ∷ zs) y ys a = at_seam k zs y ys a.1
 sorted_parts : {X : Type 0} (xs : List (Key × X)) (y : Key × X) (ys : List (Key × X)) → T (is_sorted key_cmp (xs ++ y ∷ ys)) → T (is_sorted key_cmp xs) × T (is_sorted key_cmp (y ∷ ys)) × AllByRecursion (λ e. Below e.0 y.0) xs
 sorted_parts [] y ys p = (tt, p, tt)
 sorted_parts (x ∷ xs) y ys p =
-    let r = sorted_parts xs y ys (snd _ _ p) in
-    (both _ _ (below_parts x.0 xs (y ∷ ys) (fst _ _ p)) r.0, r.1, (at_seam x.0 xs y ys (each_above x.0 (xs ++ y ∷ ys) (fst _ _ p)), r.2))
+    let r = sorted_parts xs y ys (right_of _ _ p) in
+    (both_of _ _ (below_parts x.0 xs (y ∷ ys) (left_of _ _ p)) r.0, r.1, (at_seam x.0 xs y ys (each_above x.0 (xs ++ y ∷ ys) (left_of _ _ p)), r.2))
 
 -- the halves of a sorted list of two entries or more
 record IsCut {X : Type 0} (lo hi : Key) (es : List (Key × X)) : Type 0 where
@@ -117,7 +105,7 @@ cut {X} lo hi es two sorted within =
           left_sorted = s.0;
           right_sorted = s.1;
           left_within = zip (λ e. Within lo hi e.0) (λ e. Below e.0 y.0) (λ e. Within lo y.0 e.0) (λ e a b. (a.0, inr b)) (x ∷ xs) w.0 s.2;
-          right_within = ((upto-refl y.0, w.1.0.1), zip (λ e. Within lo hi e.0) (λ e. Below y.0 e.0) (λ e. Within y.0 hi e.0) (λ e a b. (upto-below y.0 e.0 b, a.1)) ys w.1.1 (each_above y.0 ys (fst _ _ s.1)));
+          right_within = ((upto-refl y.0, w.1.0.1), zip (λ e. Within lo hi e.0) (λ e. Below y.0 e.0) (λ e. Within y.0 hi e.0) (λ e a b. (upto-below y.0 e.0 b, a.1)) ys w.1.1 (each_above y.0 ys (left_of _ _ s.1)));
           apart = upto_below-trans lo x.0 y.0 w.0.0.0 s.2.0;
           within = w.1.0;
         }

@@ -1,5 +1,6 @@
 -- A page lies within the bounds of the index above that covers its beginning.
 use Rattle.std.proofs.Common.{◌≡◌, ◌≢◌, ℕ, suc, true, List, [], ◌∷◌, ◌++◌, Option, Some, None, sym, ap, ◌∙◌, subst, inl, inr, ◌⊎◌}
+use Rattle.sled_nodes.proofs.Basics.{some_is}
 use Rattle.sled_store.specs.In.{In}
 use Rattle.sled_nodes.specs.Node.{Within}
 use Rattle.sled_nodes.specs.Order.{Below}
@@ -10,7 +11,6 @@ use Rattle.tree_laws.specs.theory.PageLaws.{InsideLaw, ReachedLaw}
 use Rattle.tree_laws.proofs.Order.{upto-refl, upto-below, upto_cases, upto-trans, below_irrefl, below-trans, below_upto-trans}
 use Rattle.tree_laws.proofs.Pairs.{under}
 use Rattle.tree_laws.proofs.Runs.{In_split, In-right, run_parts}
-use Rattle.tree_laws.proofs.Replace.{some_is}
 use Rattle.tree_laws.proofs.Cover.{chain_run, holds_at, first_pointer, later_in, later_above, run_order, one_cover}
 
 module _ {nodes : Nodes} {roots : Tree → Option ℕ} {w : Forest} (f : WellFormed nodes roots w) where
@@ -21,7 +21,7 @@ module _ {nodes : Nodes} {roots : Tree → Option ℕ} {w : Forest} (f : WellFor
       let p = first_pointer h b.lo b.hi b.content s in
       let i = f.pointer t h r b j rb b.lo p.0 p.1 in
       let g = f.page (place t h) p.0 i.homed in
-      let same : g.0 ≡ i.node = some_is g.0 i.node (sym g.1.live ∙ i.live) in (
+      let same : g.0 ≡ i.node = some_is (sym g.1.live ∙ i.live) in (
         p.0,
         i.node,
         elim g.1.stands [
@@ -29,7 +29,7 @@ module _ {nodes : Nodes} {roots : Tree → Option ℕ} {w : Forest} (f : WellFor
           | inr m ↦
               let k = f.child (place t (suc h)) r b j rb p.0 (i.merged (subst (λ (z : Node). z.merging ≡ true) same m)) in
               let o = f.pointer t h r b j rb k.0 p.0 (later_in b.content k.0 p.0 k.1) in
-              let e : k.0 ≡ b.lo = sym o.key ∙ ap (λ (z : Node). z.lo) (some_is o.node i.node (sym o.live ∙ i.live)) ∙ i.key in
+              let e : k.0 ≡ b.lo = sym o.key ∙ ap (λ (z : Node). z.lo) (some_is (sym o.live ∙ i.live)) ∙ i.key in
               absurd (below_irrefl b.lo (subst (λ z. Below b.lo z) e (later_above h b.lo b.hi b.content s k.0 p.0 k.1)))
         ],
         i.live,
@@ -42,7 +42,7 @@ module _ {nodes : Nodes} {roots : Tree → Option ℕ} {w : Forest} (f : WellFor
       let s = In_split (w.chain x) p i in
       let whole : Run nodes (s.0 ++ (p ∷ s.1)) (head (w.chain x)) [] None [] = subst (λ z. Run nodes z (head (w.chain x)) [] None []) s.2 (chain_run f x p i) in
       let r = run_parts nodes s.0 (p ∷ s.1) _ _ _ _ whole in
-      go s.0 s.1 s.2 r.3.0 (some_is r.3.0 n (sym r.3.1.live ∙ live)) r.3.2
+      go s.0 s.1 s.2 r.3.0 (some_is (sym r.3.1.live ∙ live)) r.3.2
     where
       go : (xs zs : List ℕ) → w.chain x ≡ xs ++ (p ∷ zs) → (m : Node) → m ≡ n → Run nodes zs m.next m.hi None [] → (n.hi ≡ []) ⊎ ((z : ℕ) × (e : Node) × In z (w.chain x) × (nodes z ≡ Some e) × (e.lo ≡ n.hi) × (n.next ≡ Some z))
       go xs [] e m is r = inl (ap (λ (z : Node). z.hi) (sym is) ∙ r.1)
@@ -60,7 +60,7 @@ inside_law nodes roots w f t h p q n m i pn j qm begin k here = (
           | inl e ↦ inl e
           | inr low ↦
               let low' : Below m.lo z.1.lo = subst (λ l. Below m.lo l) (sym end) low in
-              let off : q ≢ z.0 = λ e. below_irrefl m.lo (subst (λ (a : Node). Below m.lo a.lo) (some_is z.1 m (sym z.3 ∙ ap nodes (sym e) ∙ qm)) low') in
+              let off : q ≢ z.0 = λ e. below_irrefl m.lo (subst (λ (a : Node). Below m.lo a.lo) (some_is (sym z.3 ∙ ap nodes (sym e) ∙ qm)) low') in
               elim (run_order nodes (w.chain (place t h)) _ _ _ _ (chain_run f (place t h) q j) q z.0 m z.1 j z.2 off qm z.3) [
                 | inl o ↦ inr (subst (λ l. Below k l) end (below_upto-trans k m.hi z.1.lo (under m.lo m.hi k o.0 here) o.1))
                 | inr o ↦ absurd (below_irrefl m.lo (below-trans m.lo z.1.lo m.lo low' (below_upto-trans z.1.lo z.1.hi m.lo o.0 o.1)))
@@ -75,7 +75,7 @@ covers_itself {nodes = nodes} {w = w} f x p n i live =
     let s = In_split (w.chain x) p i in
     let whole : Run nodes (s.0 ++ (p ∷ s.1)) (head (w.chain x)) [] None [] = subst (λ z. Run nodes z (head (w.chain x)) [] None []) s.2 (chain_run f x p i) in
     let r = run_parts nodes s.0 (p ∷ s.1) _ _ _ _ whole in
-    let is : r.3.0 ≡ n = some_is r.3.0 n (sym r.3.1.live ∙ live) in
+    let is : r.3.0 ≡ n = some_is (sym r.3.1.live ∙ live) in
     (upto-refl n.lo, subst (λ (z : Node). (z.hi ≡ []) ⊎ Below z.lo z.hi) is (elim r.3.1.rises [ inl e ↦ inl (ends s.1 r.3.0 e r.3.2) | inr b ↦ inr b ]))
   where
     ends : (zs : List ℕ) (m : Node) → m.next ≡ None → Run nodes zs m.next m.hi None [] → m.hi ≡ []
@@ -98,4 +98,4 @@ reached_law nodes roots w f x p c n d i live there low far off j = elim far [
 ]
   where
     same : p ≡ c → ⊥
-    same e = below_irrefl n.lo (subst (λ (z : Node). Below n.lo z.lo) (some_is d n (sym there ∙ ap nodes (sym e) ∙ live)) low)
+    same e = below_irrefl n.lo (subst (λ (z : Node). Below n.lo z.lo) (some_is (sym there ∙ ap nodes (sym e) ∙ live)) low)

@@ -3,6 +3,7 @@ use Rattle.std.proofs.Common.{◌≡◌, ℕ, zero, suc, ◌+◌, ◌≤◌, Boo
 use Rattle.std.specs.FinMap.Entries.{find, put, by_order}
 use Rattle.std.specs.declared.ops.Bound.{Bound}
 use Rattle.std.specs.declared.ops.Bound.TheVariants.{Included}
+use Rattle.sled_nodes.proofs.Basics.{none_some, some_is}
 use Rattle.sled_store.specs.In.{In}
 use Rattle.sled_nodes.specs.Order.{Key, key_cmp}
 use Rattle.sled_nodes.specs.Node.{pairs, count, Covers, with_pair, value_at, without, after_link}
@@ -21,14 +22,13 @@ use Rattle.tree_laws.specs.theory.Snapshot.{Guarantee, GrowsByReceiving}
 use Rattle.tree_laws.specs.theory.Action.{put_node}
 use Rattle.tree_laws.specs.theory.Laws.{WriteLaw, EraseLaw, AnswerLaw, ActingLaw, IsAt, IsNodeNow, Changed, Written, StepsForest, after_replacement, after_allocation, after_free, after_creation, after_hoist, after_drop}
 use Rattle.tree_laws.proofs.Order.{under_covers}
-use Rattle.tree_laws.proofs.Replace.{some_is, head_in}
+use Rattle.tree_laws.proofs.Replace.{head_in}
 use Rattle.tree_laws.proofs.Cover.{holds_at}
 use Rattle.tree_laws.proofs.Stable.{view_law, stood_law, now_law}
 use Rattle.tree_laws.proofs.Leaf.{leaf_at, set_law, del_law}
 use Rattle.tree_laws.proofs.Reading.{find_law}
 use Rattle.tree_laws.proofs.States.{replace_law, nodes_replaced}
 use Rattle.sled_nodes.specs.declared.link.Link.TheVariants.{Set, Del}
-use Rattle.tree_laws.proofs.Basics.{none_some}
 
 -- a call that does nothing
 pub goes_same : (mine : List ℕ) (m : Snapshot) (w : Forest) → HasForest m w → Guarantee mine None m w m w
@@ -49,7 +49,7 @@ goes_same mine m w is = record {
     capped = λ p n live t. inl live;
     stray = λ p stray off. (refl, stray);
     left = λ x p n live t off i. off i;
-    wakes = λ x p n m i was not_merging now t. let e : n ≡ m = some_is n m (sym was ∙ now) in absurd (apart (sym (subst (λ (z : Node). z.merging ≡ false) e not_merging) ∙ t));
+    wakes = λ x p n m i was not_merging now t. let e : n ≡ m = some_is (sym was ∙ now) in absurd (apart (sym (subst (λ (z : Node). z.merging ≡ false) e not_merging) ∙ t));
     child = λ x p c n o i live is. inl (i, (n, live, is));
   };
 }
@@ -147,7 +147,7 @@ root_in {nodes} {roots} {w} f t r e =
       where
         go : (ps : List ℕ) → head ps ≡ Some r → Run nodes ps (head ps) [] None [] → n.lo ≡ []
         go [] is run = none_some is
-        go (p ∷ ps) is run = ap (λ (z : Node). z.lo) (some_is n run.0 (sym live ∙ ap nodes (sym (some_is p r is)) ∙ run.1.live)) ∙ sym run.1.lo_is
+        go (p ∷ ps) is run = ap (λ (z : Node). z.lo) (some_is (sym live ∙ ap nodes (sym (some_is is)) ∙ run.1.live)) ∙ sym run.1.lo_is
 
     not_merging : (b : Bool) → (b ≡ true → ⊥) → b ≡ false
     not_merging true off = absurd (off refl)
@@ -187,7 +187,7 @@ as_page m c n e = go (m.state.pages c) refl e
   where
     go : (o : Option Page) → m.state.pages c ≡ o → option_map (λ (z : Page). z.node) o ≡ Some n → (g : Page) × (m.state.pages c ≡ Some g) × (g.node ≡ n)
     go None a b = none_some b
-    go (Some g) a b = (g, a, some_is g.node n b)
+    go (Some g) a b = (g, a, some_is b)
 
 module _ {m : Snapshot} {w : Forest} {x : Place} {number : ℕ} {look : View} (k : SeenOpen m w x number look) where
   -- while the page has the version at which it was read, it is the node that was read
@@ -208,7 +208,7 @@ stands_here {m} is x number p n named i live =
 pub view_here : {m : Snapshot} {w : Forest} → HasForest m w → (p version : ℕ) (n : Node) → m.state.pages p ≡ Some (record { version = version; node = n }) → IsReadAs m p version n
 view_here is p version n live = record {
   given = is.versions p _ live;
-  speaks = λ g e same. ap (λ (z : Page). z.node) (some_is _ _ (sym e ∙ live));
+  speaks = λ g e same. ap (λ (z : Page). z.node) (some_is (sym e ∙ live));
 }
 
 -- an open page of a chain, as it is read

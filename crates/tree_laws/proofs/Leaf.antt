@@ -3,6 +3,7 @@ use Rattle.std.proofs.Common.{◌≡◌, ◌≢◌, ℕ, suc, ◌≤◌, true, f
 use Rattle.std.specs.List.{AllByRecursion}
 use Rattle.std.specs.Ordering.{eq_by_cmp}
 use Rattle.std.specs.FinMap.Entries.{put, by_order, is_sorted-put, is_sorted-where_key}
+use Rattle.sled_nodes.proofs.Basics.{some_is, key_total}
 use Rattle.sled_store.specs.In.{In}
 use Rattle.sled_nodes.specs.Node.{Covers, with_pair, without_key, Within, pairs, pointers, count, without}
 use Rattle.sled_nodes.specs.Order.{Key, key_cmp, Below}
@@ -14,13 +15,13 @@ use Rattle.tree_laws.specs.theory.Action.{put_node}
 use Rattle.tree_laws.specs.Forest.{IsSized, first_child, later, Holds, IsNodeAt, Forest, Place, place, IsPointer, WellFormed, contents, node_pairs, Tree}
 use Rattle.tree_laws.specs.theory.Snapshot.{GrowsByReceiving, KeepsNodes}
 use Rattle.tree_laws.specs.theory.Laws.{IsAt, Changed, SetLaw, DelLaw}
-use Rattle.tree_laws.proofs.Order.{key_total, below_upto-trans}
+use Rattle.tree_laws.proofs.Order.{below_upto-trans}
 use Rattle.tree_laws.proofs.Pairs.{each_weaker, put-middle, without-middle}
 use Rattle.tree_laws.proofs.Runs.{In_split}
 use Rattle.tree_laws.proofs.Sizes.{replaced_sized, replaced_grows}
 use Rattle.tree_laws.proofs.Cover.{holds_at}
 use Rattle.tree_laws.proofs.Update.{put_here, put_there}
-use Rattle.tree_laws.proofs.Replace.{some_is, Replaces, replaced_kept, replaced_keeps, pairs_of, pairs_else, pairs_old, pairs_new, pairs_low, pairs_high}
+use Rattle.tree_laws.proofs.Replace.{Replaces, replaced_kept, replaced_keeps, pairs_of, pairs_else, pairs_old, pairs_new, pairs_low, pairs_high}
 
 abbrev pub with_content : Node → Data → Node
 with_content n c = record n { content = c }
@@ -43,7 +44,7 @@ module _ (nodes : Nodes) (roots : Tree → Option ℕ) (w : Forest) (f : WellFor
         comes = λ q y h. inl h;
         adds = λ q h. absurd h;
         goes = λ q h. absurd h;
-        run = λ to hi r. let is : r.0 ≡ n = some_is r.0 n (sym r.1.live ∙ live) in (
+        run = λ to hi r. let is : r.0 ≡ n = some_is (sym r.1.live ∙ live) in (
           with_content n c,
           record { live = put_here nodes p (Some (with_content n c)); here = refl; lo_is = refl; rises = subst (λ (z : Node). (z.next ≡ None) ⊎ Below z.lo z.hi) is r.1.rises },
           (ap (λ (z : Node). z.next) (sym is) ∙ r.2.0, ap (λ (z : Node). z.hi) (sym is) ∙ r.2.1),

@@ -1,5 +1,6 @@
 -- The pages of a dropped tree are freed, level by level along `next`.
 use Rattle.std.proofs.Common.{◌≡◌, ◌≢◌, ℕ, List, [], ◌∷◌, Option, Some, None, sym, refl, ap, ◌∙◌, subst, inl, inr}
+use Rattle.sled_nodes.proofs.Basics.{none_some, some_is}
 use Rattle.sled_store.specs.In.{In}
 use Rattle.sled_nodes.specs.Order.{Key}
 use Rattle.sled_store.specs.State.{Nodes}
@@ -9,10 +10,8 @@ use Rattle.tree_laws.specs.Snapshot.{Snapshot, nodes_at, IsOrphan}
 use Rattle.tree_laws.specs.theory.Drops.{Leads, Different, IsLeft}
 use Rattle.tree_laws.specs.theory.Laws.{StepsForest, LeftLaw, FreesLeftLaw, after_free}
 use Rattle.tree_laws.proofs.Update.{put_there}
-use Rattle.tree_laws.proofs.Replace.{some_is}
 use Rattle.tree_laws.proofs.Fuel.{run_different}
 use Rattle.tree_laws.proofs.States.{free_law, nodes_freed}
-use Rattle.tree_laws.proofs.Basics.{none_some}
 
 run_leads : (nodes : Nodes) (ps : List ℕ) (from : Option ℕ) (lo hi : Key) → Run nodes ps from lo None hi → Leads nodes from ps
 run_leads nodes [] from lo hi r = r.0
@@ -52,7 +51,7 @@ frees_other {m} p off k = record {
 
 -- a page of another level, or of what was left before
 pub frees_level : {m : Snapshot} {w was : Forest} {t : Tree} {h : ℕ} {from : Option ℕ} {left : List ℕ} (p g : ℕ) → was.home p ≡ Some (place t g) → g ≢ h → IsLeft m w was t h from left → IsLeft (after_free m p) w was t h from left
-frees_level {was} {t} {h} p g home off k = frees_other p (λ q i e. off (sym (ap (λ (z : Place). z.height) (some_is (place t h) (place t g) (sym (k.had q i) ∙ ap was.home e ∙ home))))) k
+frees_level {was} {t} {h} p g home off k = frees_other p (λ q i e. off (sym (ap (λ (z : Place). z.height) (some_is (sym (k.had q i) ∙ ap was.home e ∙ home))))) k
 
 -- the first page that is left is freed, and the rest of the level is left
 pub frees_left_law : FreesLeftLaw
@@ -61,8 +60,8 @@ frees_left_law m w was t h p left n is live k = go left k
     go : (left : List ℕ) → IsLeft m w was t h (Some p) left → (rest : List ℕ) × (left ≡ p ∷ rest) × StepsForest (p ∷ []) None m w (after_free m p) w × IsLeft (after_free m p) w was t h n.next rest
     go [] k = none_some (sym k.leads)
     go (q ∷ rest) k =
-        let e : q ≡ p = sym (some_is p q k.leads.0) in
-        let node : k.leads.1 ≡ n = some_is k.leads.1 n (sym k.leads.2 ∙ ap (nodes_at m) e ∙ live) in
+        let e : q ≡ p = sym (some_is k.leads.0) in
+        let node : k.leads.1 ≡ n = some_is (sym k.leads.2 ∙ ap (nodes_at m) e ∙ live) in
         let stray : IsOrphan w p = subst (λ z. IsOrphan w z) e (k.stray q (inl refl)) in
         let after : IsLeft m w was t h n.next rest = record {
           leads = subst (λ (z : Node). Leads (nodes_at m) z.next rest) node k.leads.3;

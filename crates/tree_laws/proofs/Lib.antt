@@ -1,4 +1,3 @@
-pub mod Basics
 pub mod Order
 pub mod Runs
 pub mod Pairs

@@ -2,6 +2,7 @@
 use Rattle.std.proofs.Common.{◌≡◌, ◌≢◌, ℕ, zero, suc, ◌+◌, ◌<◌, ◌≤◌, ◌^◌, Bool, true, false, List, [], ◌∷◌, ◌++◌, length, length-append, Option, Some, None, MatchOption, option_map, sym, refl, ap, ◌∙◌, subst, inl, inr, append_assoc, nat_eq, ◌||◌, arith}
 use Rattle.std.specs.List.{list_any}
 use Rattle.std.specs.declared.ops.Bound.{Bound}
+use Rattle.sled_nodes.proofs.Basics.{none_some, some_is}
 use Rattle.sled_nodes.specs.Among.{IsPointer, is_up_to}
 use Rattle.sled_store.specs.In.{In}
 use Rattle.sled_nodes.specs.Node.{pointers}
@@ -17,14 +18,13 @@ use Rattle.tree_laws.specs.Paths.{NeedsNoRepair, CleanFrom, length_along, pages_
 use Rattle.tree_laws.specs.theory.PathLaws.{PointerInLaw, NextInLaw, AheadLaw, CleanStepLaw, LastPointerLaw}
 use Rattle.tree_laws.specs.theory.Laws.{PagesLaw, CleanLaw}
 use Rattle.tree_laws.proofs.Runs.{In_split, In-right, run_parts}
-use Rattle.tree_laws.proofs.Replace.{some_is, head_in}
+use Rattle.tree_laws.proofs.Replace.{head_in}
 use Rattle.tree_laws.proofs.Cover.{chain_run}
 use Rattle.tree_laws.proofs.Inside.{behind}
 use Rattle.tree_laws.proofs.Reading.{child_of}
 use Rattle.tree_laws.proofs.Cover.{holds_at}
 use Rattle.tree_laws.proofs.Known.{root_in, leaf_in, index_high}
 use Rattle.tree_laws.proofs.Fuel.{page_numbers_is, chain_few, levels_few}
-use Rattle.tree_laws.proofs.Basics.{none_some}
 
 module _ {nodes : Nodes} {roots : Tree → Option ℕ} {w : Forest} (f : WellFormed nodes roots w) where
   -- where a pointer that is not to the merging child leads stands in the chain below
@@ -33,7 +33,7 @@ module _ {nodes : Nodes} {roots : Tree → Option ℕ} {w : Forest} (f : WellFor
   pointer_in t h p n k c i live j off =
       let a = f.pointer t h p n i live k c j in
       let b = f.page (place t h) c a.homed in
-      (a.node, elim b.1.stands [ inl e ↦ e | inr m ↦ absurd (off (a.merged (subst (λ (z : Node). z.merging ≡ true) (some_is b.0 a.node (sym b.1.live ∙ a.live)) m))) ], a.live, a.key)
+      (a.node, elim b.1.stands [ inl e ↦ e | inr m ↦ absurd (off (a.merged (subst (λ (z : Node). z.merging ≡ true) (some_is (sym b.1.live ∙ a.live)) m))) ], a.live, a.key)
 
   -- the first pointer is never to the merging child
   pub first_not_child : (t : Tree) (h p : ℕ) (n : Node) → head (w.chain (place t (suc h))) ≡ Some p → nodes p ≡ Some n → (c : ℕ) → first_child (pointers n.content) ≡ Some c → head (w.chain (place t h)) ≡ Some c
@@ -45,12 +45,12 @@ module _ {nodes : Nodes} {roots : Tree → Option ℕ} {w : Forest} (f : WellFor
       let s = In_split (w.chain x) p i in
       let whole : Run nodes (s.0 ++ (p ∷ s.1)) (head (w.chain x)) [] None [] = subst (λ z. Run nodes z (head (w.chain x)) [] None []) s.2 (chain_run f x p i) in
       let r = run_parts nodes s.0 (p ∷ s.1) _ _ _ _ whole in
-      go s.0 s.1 s.2 r.3.0 (some_is r.3.0 n (sym r.3.1.live ∙ live)) r.3.2
+      go s.0 s.1 s.2 r.3.0 (some_is (sym r.3.1.live ∙ live)) r.3.2
     where
       go : (xs zs : List ℕ) → w.chain x ≡ xs ++ (p ∷ zs) → (m : Node) → m ≡ n → Run nodes zs m.next m.hi None [] → (d : Node) × In q (w.chain x) × (nodes q ≡ Some d) × (d.lo ≡ n.hi)
       go xs [] e m is r = none_some (sym r.0 ∙ ap (λ (z : Node). z.next) is ∙ next)
       go xs (z ∷ zs) e m is r =
-          let same : z ≡ q = some_is z q (sym r.1.here ∙ ap (λ (z : Node). z.next) is ∙ next) in
+          let same : z ≡ q = some_is (sym r.1.here ∙ ap (λ (z : Node). z.next) is ∙ next) in
           (r.0, subst (λ l. In q l) (sym e) (In-right xs (p ∷ (z ∷ zs)) q (inr (inl (sym same)))), ap nodes (sym same) ∙ r.1.live, sym r.1.lo_is ∙ ap (λ (z : Node). z.hi) is)
 
   -- a page with an upper bound has a next page
@@ -78,12 +78,12 @@ module _ {nodes : Nodes} {roots : Tree → Option ℕ} {w : Forest} (f : WellFor
       let i : In p (w.chain (place t h)) = subst (λ l. In p l) (sym a.is) (In-right a.before (p ∷ a.behind) p (inl refl)) in
       let whole : Run nodes (a.before ++ (p ∷ a.behind)) (head (w.chain (place t h))) [] None [] = subst (λ z. Run nodes z (head (w.chain (place t h))) [] None []) a.is (chain_run f (place t h) p i) in
       let r = run_parts nodes a.before (p ∷ a.behind) _ _ _ _ whole in
-      go a.behind a.is a.count r.3.0 (some_is r.3.0 d (sym r.3.1.live ∙ live)) r.3.2
+      go a.behind a.is a.count r.3.0 (some_is (sym r.3.1.live ∙ live)) r.3.2
     where
       go : (ys : List ℕ) → w.chain (place t h) ≡ a.before ++ (p ∷ ys) → n ≡ length (p ∷ ys) + pages_below w t h → (m : Node) → m ≡ d → Run nodes ys m.next m.hi None [] → (k : ℕ) × (k < n) × IsAhead w t h q k
       go [] e c m is r = none_some (sym r.0 ∙ ap (λ (z : Node). z.next) is ∙ next)
       go (y ∷ ys) e c m is r =
-          let same : y ≡ q = some_is y q (sym r.1.here ∙ ap (λ (z : Node). z.next) is ∙ next) in (
+          let same : y ≡ q = some_is (sym r.1.here ∙ ap (λ (z : Node). z.next) is ∙ next) in (
             length (y ∷ ys) + pages_below w t h,
             less (length (y ∷ ys)) (pages_below w t h) c,
             record { before = a.before ++ (p ∷ []); behind = ys; is = e ∙ ap (λ z. a.before ++ (p ∷ (z ∷ ys))) same ∙ sym (append_assoc a.before (p ∷ []) (q ∷ ys)); count = refl },
@@ -204,14 +204,14 @@ last_is {bound} {es} p q =
 -- the page at which a clean path stands is passed
 pub clean_page : (nodes : Nodes) (aim : Bound Key) (path : List ℕ) (p : ℕ) (first : Bool) → CleanFrom nodes aim p first path → (n : Node) → nodes p ≡ Some n → NeedsNoRepair nodes aim p first n
 clean_page nodes aim [] p first c n live = absurd c
-clean_page nodes aim (q ∷ rest) p first c n live = subst (λ (z : Node). NeedsNoRepair nodes aim p first z) (some_is c.1 n (sym c.2.live ∙ live)) c.2
+clean_page nodes aim (q ∷ rest) p first c n live = subst (λ (z : Node). NeedsNoRepair nodes aim p first z) (some_is (sym c.2.live ∙ live)) c.2
 
 -- from an index it goes one down the list
 pub clean_down : (nodes : Nodes) (aim : Bound Key) (path : List ℕ) (p : ℕ) (first : Bool) → CleanFrom nodes aim p first path → (n : Node) (es : List (Key × ℕ)) → nodes p ≡ Some n → n.content ≡ Index es → (c : ℕ) (b : Bool) → IsPointer aim es c b
     → (rest : List ℕ) × (path ≡ p ∷ rest) × CleanFrom nodes aim c b rest
 clean_down nodes aim [] p first k n es live index c b last = absurd k
 clean_down nodes aim (q ∷ rest) p first k n es live index c b last =
-    let same : k.1 ≡ n = some_is k.1 n (sym k.2.live ∙ live) in
+    let same : k.1 ≡ n = some_is (sym k.2.live ∙ live) in
     elim k.3 [
       | inl a ↦ absurd (apart (sym (ap (λ (z : Node). z.content) (sym same) ∙ a.1) ∙ index))
       | inr a ↦
@@ -230,7 +230,7 @@ clean_down nodes aim (q ∷ rest) p first k n es live index c b last =
 pub clean_leaf : (nodes : Nodes) (aim : Bound Key) (path : List ℕ) (p : ℕ) (first : Bool) → CleanFrom nodes aim p first path → (n : Node) (es : List (Key × Key)) → nodes p ≡ Some n → n.content ≡ Leaf es → path ≡ p ∷ []
 clean_leaf nodes aim [] p first k n es live leaf = absurd k
 clean_leaf nodes aim (q ∷ rest) p first k n es live leaf =
-    let same : k.1 ≡ n = some_is k.1 n (sym k.2.live ∙ live) in
+    let same : k.1 ≡ n = some_is (sym k.2.live ∙ live) in
     elim k.3 [
       | inl a ↦ ap (λ z. z ∷ rest) k.0 ∙ ap (λ z. p ∷ z) a.2
       | inr a ↦ absurd (apart (sym (ap (λ (z : Node). z.content) (sym same) ∙ a.1) ∙ leaf))

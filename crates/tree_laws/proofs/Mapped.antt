@@ -1,5 +1,6 @@
 -- What steps do to the contents of all trees, as a function of the state, and to what a crash may leave.
 use Rattle.std.proofs.Common.{◌≡◌, ℕ, suc, [], Option, Some, None, MatchOption, option_map, sym, refl, ap, ◌∙◌, subst, inl}
+use Rattle.sled_nodes.proofs.Basics.{none_some}
 use Rattle.sled_nodes.specs.declared.node.Data.TheVariants.{Leaf}
 use Rattle.tree_laws.specs.Forest.{Tree, Forest, place, head, contents}
 use Rattle.tree_laws.specs.Contents.{trees_of}
@@ -13,7 +14,6 @@ use Rattle.tree_laws.proofs.Fuel.{contents_law}
 use Rattle.tree_laws.proofs.Leaving.{left_law}
 use Rattle.tree_laws.proofs.Crashing.{adds_unseen}
 use Rattle.tree_laws.proofs.Splitting.{own_node}
-use Rattle.tree_laws.proofs.Basics.{none_some}
 
 -- the contents of all trees at a moment
 pub map_law : MapLaw

@@ -4,22 +4,13 @@ use Rattle.std.specs.Ordering.{is_lt, ordering_reverse}
 use Rattle.std.specs.declared.cmp.Ordering.{Ordering}
 use Rattle.std.specs.declared.ops.Bound.{Bound}
 use Rattle.std.specs.declared.ops.Bound.TheVariants.{Included, Excluded, Unbounded}
-use Rattle.std.specs.Cmp.{IsTotalOrder}
-use Rattle.std.specs.FinMap.{slice_cmp-IsAntisymmetric, nat_cmp-IsAntisymmetric}
-use Rattle.std.proofs.lemmas.Cmp.{nat_list_cmp_total, upto, tied_itself}
+use Rattle.std.proofs.lemmas.Cmp.{upto, tied_itself}
+use Rattle.sled_nodes.proofs.Basics.{key_total, key_same}
 use Rattle.sled_nodes.specs.Order.{Key, key_cmp, Below, UpTo}
 use Rattle.sled_nodes.specs.Among.{is_up_to}
 use Rattle.sled_nodes.specs.Node.{Covers}
 use Rattle.sled_nodes.specs.declared.node.Node.{Node}
 use Rattle.tree_laws.specs.Snapshot.{LiesUnder}
-
-pub key_total : IsTotalOrder key_cmp
-unfolding key_cmp
-key_total = nat_list_cmp_total
-
-pub key_same : (a b : Key) → key_cmp a b ≡ Equal → a ≡ b
-unfolding key_cmp
-key_same a b e = slice_cmp-IsAntisymmetric nat_cmp-IsAntisymmetric a b e
 
 pub below-trans : (a b c : Key) → Below a b → Below b c → Below a c
 below-trans a b c p q = key_total.trans a b c p q

@@ -3,6 +3,7 @@ use Rattle.std.proofs.Common.{◌≡◌, ℕ, true, false, cond, not, List, [], 
 use Rattle.std.specs.List.{AllByRecursion}
 use Rattle.std.specs.Ordering.{ordering_reverse, eq_by_cmp}
 use Rattle.std.specs.FinMap.Entries.{put, by_order}
+use Rattle.sled_nodes.proofs.Basics.{key_total}
 use Rattle.sled_store.specs.In.{In}
 use Rattle.sled_nodes.specs.Node.{Within, pairs, without}
 use Rattle.sled_nodes.specs.Order.{Key, key_cmp, Below, UpTo}
@@ -11,7 +12,7 @@ use Rattle.sled_nodes.specs.declared.node.Data.{Data}
 use Rattle.sled_nodes.specs.declared.node.Data.TheVariants.{Leaf, Index}
 use Rattle.sled_nodes.specs.declared.node.Node.{Node}
 use Rattle.tree_laws.specs.Forest.{Holds, Run, node_pairs}
-use Rattle.tree_laws.proofs.Order.{key_total, upto-trans, upto-below, below_upto-trans}
+use Rattle.tree_laws.proofs.Order.{upto-trans, upto-below, below_upto-trans}
 use Rattle.tree_laws.proofs.Runs.{rises_more, rises_on, run_le}
 
 pub each_append : {X : Type 0} (P : X → Type 0) (xs ys : List X) → AllByRecursion P xs → AllByRecursion P ys → AllByRecursion P (xs ++ ys)

@@ -5,6 +5,7 @@ use Rattle.std.specs.Str.{bytes_eq}
 use Rattle.std.specs.Bool.{Decides}
 use Rattle.std.proofs.lemmas.Slice.Eq.{bytes_eq-Decides}
 use Rattle.std.proofs.lemmas.Bool.Decides.{nat_tests}
+use Rattle.sled_nodes.proofs.Basics.{none_some, some_is}
 use mathlib.Core.List.{reverse}
 use Rattle.sled_store.specs.In.{In}
 use Rattle.sled_nodes.specs.Image.{root_in}
@@ -19,9 +20,8 @@ use Rattle.tree_laws.specs.theory.Images.{image, Accepts, selves, key, leaf, cap
 use Rattle.tree_laws.specs.Paths.{tree_pages, pages_below}
 use Rattle.tree_laws.proofs.Fuel.{contents_law}
 use Rattle.tree_laws.proofs.Looking.{pages_law}
-use Rattle.tree_laws.proofs.Replace.{false_true, some_is, head_in}
+use Rattle.tree_laws.proofs.Replace.{false_true, head_in}
 use Rattle.tree_laws.proofs.Accepted.{forest_of, IsStanding, IsAtHome, IsForest, formed, sized}
-use Rattle.tree_laws.proofs.Basics.{none_some}
 
 zero_suc : {P : Type 0} {g : ℕ} → 0 ≡ suc g → P
 zero_suc e = cc
@@ -88,7 +88,7 @@ accepts pages r levels homes es count f below is counted = record {
     high : (h : ℕ) → In r ((forest_of one_tree levels homes).chain (place one_tree h)) → h ≡ f.top.0
     high h i =
         let g = formed f in
-        let e : place one_tree h ≡ place one_tree f.top.0 = some_is _ _ (sym (g.homed (place one_tree h) r i) ∙ g.homed (place one_tree f.top.0) r (head_in _ r f.top.1)) in
+        let e : place one_tree h ≡ place one_tree f.top.0 = some_is (sym (g.homed (place one_tree h) r i) ∙ g.homed (place one_tree f.top.0) r (head_in _ r f.top.1)) in
         ap (λ (z : Place). z.height) e
 
     pages_are : tree_pages (image pages (root r)) one_tree ≡ pages_below (forest_of one_tree levels homes) one_tree (suc f.top.0)
@@ -208,8 +208,8 @@ module _ (nodes : Nodes) (w : Forest) where
     merger_stands n live lo not_merging index_live home index_home down =
         index_stands 3 (merging 2 (over both)) index_live index_home
         (pointer_open (merging 2 (over both)) n [] 1 live home lo not_merging, (record { node = record right { merging = m }; live = live_2; homed = home_2; key = refl; merged = λ e. refl }, tt))
-        (λ c e. (key 8, inl (λ i. (key 8, some_is c 2 (sym e) i)))) down
-        (λ c d e i. subst (λ (z : Node). count z.content ≤ 17) (some_is (record right { merging = m }) d (sym live_2 ∙ ap nodes (some_is 2 c e) ∙ i)) three_small)
+        (λ c e. (key 8, inl (λ i. (key 8, some_is (sym e) i)))) down
+        (λ c d e i. subst (λ (z : Node). count z.content ≤ 17) (some_is (sym live_2 ∙ ap nodes (some_is e) ∙ i)) three_small)
 
   capped_home : nodes 2 ≡ Some (capped right) → nodes 3 ≡ Some (merging 2 (over both)) → In 3 (w.chain (place one_tree 1)) → IsAtHome nodes w one_tree 2 0
   capped_home live index_live i = record {

@@ -1,6 +1,7 @@
 -- A pointer goes into an index.
 use Rattle.std.proofs.Common.{◌≡◌, ℕ, suc, ◌≤◌, false, List, [], ◌∷◌, ◌++◌, length, Option, Some, None, Less, Equal, Greater, sym, refl, ap, ◌∙◌, subst, inl, inr, ◌⊎◌, arith}
 use Rattle.std.specs.FinMap.Entries.{put, by_order, is_sorted-put}
+use Rattle.sled_nodes.proofs.Basics.{none_some, some_is, key_total, key_same}
 use Rattle.sled_store.specs.In.{In}
 use Rattle.sled_nodes.specs.Node.{Within, pairs, pointers}
 use Rattle.sled_nodes.specs.Order.{Key, key_cmp, Below}
@@ -10,14 +11,12 @@ use Rattle.sled_nodes.specs.declared.node.Node.{Node}
 use Rattle.tree_laws.specs.theory.Action.{put_node}
 use Rattle.tree_laws.specs.Forest.{IsNodeAt, later, first_key, first_child, Holds, Forest, Place, place, IsPointer, WellFormed, node_pairs, Tree}
 use Rattle.tree_laws.specs.theory.PageLaws.{IsOpenAt, Unseen, PostLaw}
-use Rattle.tree_laws.proofs.Order.{key_total, key_same}
 use Rattle.tree_laws.proofs.Pairs.{above}
 use Rattle.tree_laws.proofs.Update.{put_here}
-use Rattle.tree_laws.proofs.Replace.{some_is, false_true, replaced_kept, replaced_keeps, pairs_kept}
+use Rattle.tree_laws.proofs.Replace.{false_true, replaced_kept, replaced_keeps, pairs_kept}
 use Rattle.tree_laws.proofs.Cover.{holds_at}
 use Rattle.tree_laws.proofs.Leaf.{with_content, in_place, in_place_sized, in_place_grows, each_put}
 use Rattle.tree_laws.proofs.Split.{pointer_like}
-use Rattle.tree_laws.proofs.Basics.{none_some}
 
 put_in : (k : Key) (q : ℕ) (es : List (Key × ℕ)) (l : Key) (d : ℕ) → In (l, d) (put key_cmp k q es) → In (l, d) es ⊎ ((d ≡ q) × (l ≡ k))
 put_in k q [] l d (inl e) = inr (ap (λ (z : Key × ℕ). z.1) e, ap (λ (z : Key × ℕ). z.0) e)
@@ -32,7 +31,7 @@ put_in k q (e ∷ es) l d i =
 first_on : (lo k : Key) (q : ℕ) (es : List (Key × ℕ)) → Below lo k → first_key es ≡ Some lo → (first_key (put key_cmp k q es) ≡ Some lo) × (first_child (put key_cmp k q es) ≡ first_child es)
 first_on lo k q [] b e = none_some e
 first_on lo k q (a ∷ es) b e =
-    let g : key_cmp k a.0 ≡ Greater = above a.0 k (subst (λ z. Below z k) (some_is lo a.0 (sym e)) b) in (
+    let g : key_cmp k a.0 ≡ Greater = above a.0 k (subst (λ z. Below z k) (some_is (sym e)) b) in (
       ap (λ o. first_key (by_order o ((k, q) ∷ a ∷ es) ((a.0, q) ∷ es) (a ∷ put key_cmp k q es))) g ∙ e,
       ap (λ o. first_child (by_order o ((k, q) ∷ a ∷ es) ((a.0, q) ∷ es) (a ∷ put key_cmp k q es))) g,
     )

@@ -1,8 +1,9 @@
 -- What the pages say of a tree's pairs: at a key, in order, and that they say one thing.
-use Rattle.std.proofs.Common.{◌≢◌, ◌≡◌, ℕ, zero, suc, ◌≤◌, Bool, true, false, cond, T, ◌&&◌, List, [], ◌∷◌, ◌++◌, Option, Some, None, MatchOption, is_eq, is_lt, sym, refl, ap, ◌∙◌, subst, inl, inr, ◌⊎◌, append-nil, arith, ◌+◌, ◌-◌}
+use Rattle.std.proofs.Common.{◌≢◌, ◌≡◌, ℕ, zero, suc, ◌≤◌, cond, T, List, [], ◌∷◌, ◌++◌, Option, Some, None, MatchOption, is_eq, is_lt, sym, refl, ap, ◌∙◌, subst, inl, inr, ◌⊎◌, append-nil, arith, ◌+◌, ◌-◌}
 use Rattle.std.specs.List.{AllByRecursion}
 use Rattle.std.specs.Ordering.{eq_by_cmp}
 use Rattle.std.specs.FinMap.Entries.{find, is_sorted, below_all}
+use Rattle.sled_nodes.proofs.Basics.{some_is, left_of, right_of, both_of}
 use Rattle.sled_store.specs.In.{In}
 use Rattle.sled_nodes.specs.Node.{Within, pairs, pointers}
 use Rattle.sled_nodes.specs.Order.{Key, key_cmp, Below, UpTo}
@@ -15,7 +16,7 @@ use Rattle.tree_laws.specs.theory.Laws.{RangeLaw, FindLaw, SortedLaw, OneLaw}
 use Rattle.tree_laws.proofs.Order.{below_upto-trans}
 use Rattle.tree_laws.proofs.Pairs.{not_below_empty, leaf_within, above, each_weaker, pairs_before, pairs_above, pairs_from, Leaves}
 use Rattle.tree_laws.proofs.Runs.{rises_on, In_split, In-left, In-right, run_parts}
-use Rattle.tree_laws.proofs.Replace.{some_is, pairs_of, pairs-three, head_in}
+use Rattle.tree_laws.proofs.Replace.{pairs_of, pairs-three, head_in}
 use Rattle.tree_laws.proofs.Cover.{chain_run, holds_at, child_below, later_in}
 
 find-below : (k : Key) (xs ys : List (Key × Key)) → AllByRecursion (λ e. Below e.0 k) xs → find key_cmp k (xs ++ ys) ≡ find key_cmp k ys
@@ -35,7 +36,7 @@ find_law nodes roots w f t p n k i live within =
     let s = In_split (w.chain (place t 0)) p i in
     let whole : Run nodes (s.0 ++ (p ∷ s.1)) (head (w.chain (place t 0))) [] None [] = subst (λ z. Run nodes z (head (w.chain (place t 0))) [] None []) s.2 (chain_run f (place t 0) p i) in
     let r = run_parts nodes s.0 (p ∷ s.1) _ _ _ _ whole in
-    let is : r.3.0 ≡ n = some_is r.3.0 n (sym r.3.1.live ∙ live) in
+    let is : r.3.0 ≡ n = some_is (sym r.3.1.live ∙ live) in
     let in_xs : (q : ℕ) → In q s.0 → In q (w.chain (place t 0)) = λ q j. subst (λ c. In q c) (sym s.2) (In-left s.0 (p ∷ s.1) q j) in
     let in_ys : (q : ℕ) → In q s.1 → In q (w.chain (place t 0)) = λ q j. subst (λ c. In q c) (sym s.2) (In-right s.0 (p ∷ s.1) q (inr j)) in
     let early : Run nodes s.0 (head (w.chain (place t 0))) [] (Some p) r.1 = subst (λ g. Run nodes s.0 (head (w.chain (place t 0))) [] g r.1) r.3.1.here r.2 in
@@ -60,7 +61,7 @@ range_law nodes roots w f t p n i live =
     let s = In_split (w.chain (place t 0)) p i in
     let whole : Run nodes (s.0 ++ (p ∷ s.1)) (head (w.chain (place t 0))) [] None [] = subst (λ z. Run nodes z (head (w.chain (place t 0))) [] None []) s.2 (chain_run f (place t 0) p i) in
     let r = run_parts nodes s.0 (p ∷ s.1) _ _ _ _ whole in
-    let is : r.3.0 ≡ n = some_is r.3.0 n (sym r.3.1.live ∙ live) in
+    let is : r.3.0 ≡ n = some_is (sym r.3.1.live ∙ live) in
     let in_xs : (q : ℕ) → In q s.0 → In q (w.chain (place t 0)) = λ q j. subst (λ c. In q c) (sym s.2) (In-left s.0 (p ∷ s.1) q j) in
     let in_ys : (q : ℕ) → In q s.1 → In q (w.chain (place t 0)) = λ q j. subst (λ c. In q c) (sym s.2) (In-right s.0 (p ∷ s.1) q (inr j)) in
     let early : Run nodes s.0 (head (w.chain (place t 0))) [] (Some p) r.1 = subst (λ g. Run nodes s.0 (head (w.chain (place t 0))) [] g r.1) r.3.1.here r.2 in
@@ -73,31 +74,19 @@ range_law nodes roots w f t p n i live =
       subst (λ (z : Node). AllByRecursion (λ e. (z.hi ≢ []) × UpTo z.hi e.0) (pairs_of nodes s.1)) is (behind_end nodes r.3.0 s.1 [] (leaves f t s.1 in_ys) r.3.1.rises r.3.2),
     )
 
-both : (a b : Bool) → T a → T b → T (a && b)
-both true b p q = q
-both false b p q = p
-
-fst : (a b : Bool) → T (a && b) → T a
-fst true b p = tt
-fst false b p = p
-
-snd : (a b : Bool) → T (a && b) → T b
-snd true b p = p
-snd false b p = absurd p
-
 all_above : {X : Type 0} (a : Key) (ys : List (Key × X)) → AllByRecursion (λ e. Below a e.0) ys → T (below_all key_cmp a ys)
 all_above a [] h = tt
-all_above a (y ∷ ys) h = both _ _ (subst (λ o. T (is_lt o)) (sym h.0) tt) (all_above a ys h.1)
+all_above a (y ∷ ys) h = both_of _ _ (subst (λ o. T (is_lt o)) (sym h.0) tt) (all_above a ys h.1)
 
 below-append : {X : Type 0} (a : Key) (xs ys : List (Key × X)) → T (below_all key_cmp a xs) → T (below_all key_cmp a ys) → T (below_all key_cmp a (xs ++ ys))
 below-append a [] ys p q = q
-below-append a (x ∷ xs) ys p q = both _ _ (fst _ _ p) (below-append a xs ys (snd _ _ p) q)
+below-append a (x ∷ xs) ys p q = both_of _ _ (left_of _ _ p) (below-append a xs ys (right_of _ _ p) q)
 
 pub sorted-append : {X : Type 0} (k : Key) (xs ys : List (Key × X)) → T (is_sorted key_cmp xs) → T (is_sorted key_cmp ys) → AllByRecursion (λ e. Below e.0 k) xs → AllByRecursion (λ e. UpTo k e.0) ys → T (is_sorted key_cmp (xs ++ ys))
 sorted-append k [] ys s u a b = u
 sorted-append k (x ∷ xs) ys s u a b =
-    both _ _ (below-append x.0 xs ys (fst _ _ s) (all_above x.0 ys (each_weaker (λ e. UpTo k e.0) (λ e. Below x.0 e.0) (λ e h. below_upto-trans x.0 k e.0 a.0 h) ys b)))
-    (sorted-append k xs ys (snd _ _ s) u a.1 b)
+    both_of _ _ (below-append x.0 xs ys (left_of _ _ s) (all_above x.0 ys (each_weaker (λ e. UpTo k e.0) (λ e. Below x.0 e.0) (λ e h. below_upto-trans x.0 k e.0 a.0 h) ys b)))
+    (sorted-append k xs ys (right_of _ _ s) u a.1 b)
 
 leaf_sorted : (lo hi : Key) (c : Data) → Holds 0 lo hi c → T (is_sorted key_cmp (pairs c))
 leaf_sorted lo hi (Leaf es) h = h.0
@@ -139,8 +128,8 @@ one_run nodes (p ∷ ps) [] from lo hi lo' hi' r s = absurd (no (sym s.0 ∙ r.1
     no : None ≡ Some p → ⊥
     no e = cc
 one_run nodes (p ∷ ps) (q ∷ qs) from lo hi lo' hi' r s =
-    let e : p ≡ q = some_is p q (sym r.1.here ∙ s.1.here) in
-    let n : s.0 ≡ r.0 = some_is s.0 r.0 (sym s.1.live ∙ ap nodes (sym e) ∙ r.1.live) in
+    let e : p ≡ q = some_is (sym r.1.here ∙ s.1.here) in
+    let n : s.0 ≡ r.0 = some_is (sym s.1.live ∙ ap nodes (sym e) ∙ r.1.live) in
     let rest = one_run nodes ps qs r.0.next r.0.hi hi s.0.hi hi' r.2 (subst (λ (z : Node). Run nodes qs z.next s.0.hi None hi') n s.2) in
     λ i. e i ∷ rest i
 

@@ -1,5 +1,6 @@
 -- The merge of a capped page into its left sibling.
 use Rattle.std.proofs.Common.{◌+◌, arith, ◌≡◌, ℕ, suc, ◌≤◌, true, false, List, [], ◌∷◌, ◌++◌, Option, Some, None, sym, refl, ap, ◌∙◌, subst, inl, inr, ◌⊎◌, append_assoc}
+use Rattle.sled_nodes.proofs.Basics.{some_is}
 use Rattle.sled_store.specs.In.{In}
 use Rattle.sled_nodes.specs.Node.{pairs, pointers, count}
 use Rattle.sled_nodes.specs.Order.{Key, Below}
@@ -12,7 +13,7 @@ use Rattle.tree_laws.proofs.Order.{below-trans, below_irrefl}
 use Rattle.tree_laws.proofs.Runs.{In_split, In-right, In_cases, run_parts, run_to, rises_on}
 use Rattle.tree_laws.proofs.Update.{put_here, put_there, put_chain, chain_here, chain_there}
 use Rattle.tree_laws.proofs.Sizes.{replaced_sized, replaced_grows}
-use Rattle.tree_laws.proofs.Replace.{same_place, some_is, Replaces, replaced_kept, replaced_keeps, pairs_of, pairs_kept, behind_first}
+use Rattle.tree_laws.proofs.Replace.{same_place, Replaces, replaced_kept, replaced_keeps, pairs_of, pairs_kept, behind_first}
 use Rattle.tree_laws.proofs.Split.{halves_count, halves_pairs, halves_pointers, halves_first, pointer_like}
 use Rattle.tree_laws.proofs.Cover.{chain_run, not_both_children, holds_at}
 
@@ -23,14 +24,14 @@ module _ {nodes : Nodes} {roots : Tree → Option ℕ} {w : Forest} (f : WellFor
       let s = In_split (w.chain x) p i in
       let whole : Run nodes (s.0 ++ (p ∷ s.1)) (head (w.chain x)) [] None [] = subst (λ z. Run nodes z (head (w.chain x)) [] None []) s.2 (chain_run f x p i) in
       let r = run_parts nodes s.0 (p ∷ s.1) _ _ _ _ whole in
-      go s.0 s.1 s.2 r.3.0 r.3.2 (ap (λ (z : Node). z.next) (some_is r.3.0 n (sym r.3.1.live ∙ live)) ∙ is)
+      go s.0 s.1 s.2 r.3.0 r.3.2 (ap (λ (z : Node). z.next) (some_is (sym r.3.1.live ∙ live)) ∙ is)
     where
       go : (xs zs : List ℕ) → w.chain x ≡ xs ++ (p ∷ zs) → (m : Node) → Run nodes zs m.next m.hi None [] → m.next ≡ Some c → (xs : List ℕ) × (ys : List ℕ) × (w.chain x ≡ xs ++ (p ∷ (c ∷ ys)))
       go xs [] e m r g = absurd (no (sym r.0 ∙ g))
         where
           no : None ≡ Some c → ⊥
           no h = cc
-      go xs (z ∷ zs) e m r g = (xs, zs, e ∙ ap (λ k. xs ++ (p ∷ (k ∷ zs))) (some_is z c (sym r.1.here ∙ g)))
+      go xs (z ∷ zs) e m r g = (xs, zs, e ∙ ap (λ k. xs ++ (p ∷ (k ∷ zs))) (some_is (sym r.1.here ∙ g)))
 
 module _ (nodes : Nodes) (roots : Tree → Option ℕ) (w : Forest) (f : WellFormed nodes roots w) (x : Place) (p c : ℕ) (n d both : Node) (o : IsOpenAt nodes w x p n) (next : n.next ≡ Some c) (there : nodes c ≡ Some d) (capped : d.merging ≡ true) (s : IsReceived x.height n d both) where
   i : In p (w.chain x)
@@ -58,12 +59,12 @@ module _ (nodes : Nodes) (roots : Tree → Option ℕ) (w : Forest) (f : WellFor
   c_home = f.homed x c c_in
 
   d_calm : d.merging_child ≡ None
-  d_calm = let h = f.page x c c_home in subst (λ (z : Node). z.merging_child ≡ None) (some_is h.0 d (sym h.1.live ∙ there)) (h.1.calm (subst (λ (z : Node). z.merging ≡ true) (some_is d h.0 (sym there ∙ h.1.live)) capped))
+  d_calm = let h = f.page x c c_home in subst (λ (z : Node). z.merging_child ≡ None) (some_is (sym h.1.live ∙ there)) (h.1.calm (subst (λ (z : Node). z.merging ≡ true) (some_is (sym there ∙ h.1.live)) capped))
 
   run : (to : Option ℕ) (hi : Key) → Run nodes (p ∷ (c ∷ [])) (Some p) n.lo to hi → Run (put_node nodes p both) (p ∷ []) (Some p) n.lo to hi
   run to hi r =
-      let np : r.0 ≡ n = some_is r.0 n (sym r.1.live ∙ live) in
-      let dc : r.2.0 ≡ d = some_is r.2.0 d (sym r.2.1.live ∙ there) in
+      let np : r.0 ≡ n = some_is (sym r.1.live ∙ live) in
+      let dc : r.2.0 ≡ d = some_is (sym r.2.1.live ∙ there) in
       let up : Below n.lo d.lo = subst (λ (z : Node). Below n.lo z.lo) dc (subst (λ k. Below n.lo k) r.2.1.lo_is (subst (λ (z : Node). Below z.lo r.0.hi) np (rises_on nodes (c ∷ []) r.0 to hi c (inl refl) r.1.rises r.2))) in
       let late : (d.next ≡ None) ⊎ Below d.lo d.hi = subst (λ (z : Node). (z.next ≡ None) ⊎ Below z.lo z.hi) dc r.2.1.rises in (
         both,
@@ -120,15 +121,15 @@ module _ (nodes : Nodes) (roots : Tree → Option ℕ) (w : Forest) (f : WellFor
   c_out j =
       let whole : Run nodes (around.0 ++ (p ∷ (c ∷ around.1))) (head (w.chain x)) [] None [] = subst (λ z. Run nodes z (head (w.chain x)) [] None []) around.2 (chain_run f x p i) in
       let r = run_parts nodes around.0 _ _ _ _ _ whole in
-      let np : r.3.0 ≡ n = some_is r.3.0 n (sym r.3.1.live ∙ live) in
+      let np : r.3.0 ≡ n = some_is (sym r.3.1.live ∙ live) in
       let behind : (q : ℕ) (e : Node) → In q (c ∷ around.1) → nodes q ≡ Some e → Below r.1 e.lo = behind_first nodes p (c ∷ around.1) _ _ _ _ r.3 in
       let early : Run nodes around.0 (head (w.chain x)) [] (Some p) r.1 = subst (λ g. Run nodes around.0 (head (w.chain x)) [] g r.1) r.3.1.here r.2 in
       let low : Below r.1 d.lo = behind c d (inl refl) there in
       elim (In_cases around.0 (p ∷ around.1) c (subst (λ l. In c l) (chain_here w.chain x _) j)) [
         | inl a ↦ below_irrefl d.lo (below-trans d.lo r.1 d.lo (run_to nodes around.0 _ p _ _ early c d a there) low)
         | inr b ↦ elim b [
-          | inl e ↦ below_irrefl d.lo (subst (λ k. Below k d.lo) (r.3.1.lo_is ∙ ap (λ (z : Node). z.lo) (some_is r.3.0 d (sym r.3.1.live ∙ ap nodes (sym e) ∙ there))) low)
-          | inr g ↦ below_irrefl d.lo (subst (λ k. Below k d.lo) (r.3.2.1.lo_is ∙ ap (λ (z : Node). z.lo) (some_is r.3.2.0 d (sym r.3.2.1.live ∙ there))) (behind_first nodes c around.1 _ _ _ _ r.3.2 c d g there))
+          | inl e ↦ below_irrefl d.lo (subst (λ k. Below k d.lo) (r.3.1.lo_is ∙ ap (λ (z : Node). z.lo) (some_is (sym r.3.1.live ∙ ap nodes (sym e) ∙ there))) low)
+          | inr g ↦ below_irrefl d.lo (subst (λ k. Below k d.lo) (r.3.2.1.lo_is ∙ ap (λ (z : Node). z.lo) (some_is (sym r.3.2.1.live ∙ there))) (behind_first nodes c around.1 _ _ _ _ r.3.2 c d g there))
         ]
       ]
 
@@ -136,14 +137,14 @@ module _ (nodes : Nodes) (roots : Tree → Option ℕ) (w : Forest) (f : WellFor
   no_child : (q : ℕ) (a : Node) → In q (w.chain (place x.tree (suc x.height))) → nodes q ≡ Some a → a.merging_child ≡ Some p → ⊥
   no_child q a j qa e =
       let h = f.page x c c_home in
-      let u = h.1.parent (subst (λ (z : Node). z.merging ≡ true) (some_is d h.0 (sym there ∙ h.1.live)) capped) in
+      let u = h.1.parent (subst (λ (z : Node). z.merging ≡ true) (some_is (sym there ∙ h.1.live)) capped) in
       not_both_children f x.tree x.height around.0 around.1 p c n d around.2 live there not_merging capped q u.0 a u.1 j u.2 qa u.3 e u.4
 
   -- c was a merging child, so it has at most 17 entries
   joined_few : count n.content ≤ 16 → IsSized nodes w → count both.content ≤ 33
   joined_few fits z =
       let h = f.page x c c_home in
-      let u = h.1.parent (subst (λ (z : Node). z.merging ≡ true) (some_is d h.0 (sym there ∙ h.1.live)) capped) in
+      let u = h.1.parent (subst (λ (z : Node). z.merging ≡ true) (some_is (sym there ∙ h.1.live)) capped) in
       sum (count n.content) (count d.content) (count both.content) fits (z.child (place x.tree (suc x.height)) u.0 c u.1 d u.2 u.3 u.4 there) (halves_count both.content n.content d.content s.halves)
     where
       sum : (a b c : ℕ) → a ≤ 16 → b ≤ 17 → c ≡ a + b → c ≤ 33
@@ -162,7 +163,7 @@ module _ (nodes : Nodes) (roots : Tree → Option ℕ) (w : Forest) (f : WellFor
     },
     λ y j. elim (same_place y x) [
       | inl e ↦ c_out (subst (λ z. In c (after.chain z)) e j)
-      | inr off ↦ off (some_is y x (sym (f.homed y c (subst (λ l. In c l) (chain_there w.chain x _ y off) j)) ∙ c_home))
+      | inr off ↦ off (some_is (sym (f.homed y c (subst (λ l. In c l) (chain_there w.chain x _ y off) j)) ∙ c_home))
     ],
   )
 

@@ -1,5 +1,6 @@
 -- One page of a chain changes its flags or its pointers, and keeps its bounds and its successor. A page may lose its place.
 use Rattle.std.proofs.Common.{◌≡◌, ◌≢◌, ℕ, suc, ◌≤◌, true, false, List, [], ◌∷◌, Option, Some, None, sym, refl, ap, ◌∙◌, subst, inl, inr, ◌⊎◌, arith, le_trans, le_of_eq}
+use Rattle.sled_nodes.proofs.Basics.{some_is, same_or_not}
 use Rattle.sled_store.specs.In.{In}
 use Rattle.sled_nodes.specs.Node.{pairs, pointers, count}
 use Rattle.sled_nodes.specs.Order.{Key, Below}
@@ -7,7 +8,7 @@ use Rattle.sled_store.specs.State.{Nodes}
 use Rattle.sled_nodes.specs.declared.node.Node.{Node}
 use Rattle.tree_laws.specs.Forest.{first_child, later, IsNodeAt, Forest, Place, place, Run, IsHomed, IsPointer, WellFormed, IsSized, contents, node_pairs, head, Tree}
 use Rattle.tree_laws.specs.theory.Snapshot.{KeepsNodes, GrowsByReceiving}
-use Rattle.tree_laws.proofs.Replace.{same_number, some_is, false_true, pairs_of}
+use Rattle.tree_laws.proofs.Replace.{false_true, pairs_of}
 use Rattle.tree_laws.proofs.Cover.{later_in, one_parent, child_below}
 
 pub record Reflags (nodes new : Nodes) (w : Forest) (home : ℕ → Option Place) (x : Place) (p : ℕ) (n m : Node) : Type 0 where
@@ -42,21 +43,21 @@ module _ {nodes new : Nodes} {roots : Tree → Option ℕ} {w : Forest} {home : 
   stays_chained y q i = elim (r.stays q y (f.homed y q i)) [ inl a ↦ a | inr b ↦ absurd (b.1 i) ]
 
   is_n : (q : ℕ) (d : Node) → q ≡ p → nodes q ≡ Some d → d ≡ n
-  is_n q d e live = some_is d n (sym live ∙ ap nodes e ∙ r.was)
+  is_n q d e live = some_is (sym live ∙ ap nodes e ∙ r.was)
 
   is_m : (q : ℕ) (d : Node) → q ≡ p → new q ≡ Some d → d ≡ m
-  is_m q d e live = some_is d m (sym live ∙ ap new e ∙ r.now)
+  is_m q d e live = some_is (sym live ∙ ap new e ∙ r.now)
 
   parent_on : (q c : ℕ) (d : Node) (y : Place) → home c ≡ Some y → nodes q ≡ Some d → d.merging_child ≡ Some c → (e : Node) × (new q ≡ Some e) × (e.merging_child ≡ Some c)
-  parent_on q c d y h live is = elim (same_number q p) [
+  parent_on q c d y h live is = elim (same_or_not q p) [
     | inl e ↦ (m, ap new e ∙ r.now, r.keeps_child c y h (subst (λ (z : Node). z.merging_child ≡ Some c) (is_n q d e live) is))
     | inr e ↦ (d, r.others q e ∙ live, is)
   ]
 
   page_on : (y : Place) (q : ℕ) → home q ≡ Some y → (d : Node) × IsHomed new after q y d
-  page_on y q h = elim (same_number q p) [
+  page_on y q h = elim (same_or_not q p) [
     | inl e ↦
-        let is : x ≡ y = some_is x y (sym p_home ∙ ap w.home (sym e) ∙ r.comes q y h) in (
+        let is : x ≡ y = some_is (sym p_home ∙ ap w.home (sym e) ∙ r.comes q y h) in (
           m,
           record {
             live = ap new e ∙ r.now;
@@ -82,7 +83,7 @@ module _ {nodes new : Nodes} {roots : Tree → Option ℕ} {w : Forest} {home : 
 
   run_same : (ps : List ℕ) (from to : Option ℕ) (lo hi : Key) → Run nodes ps from lo to hi → Run new ps from lo to hi
   run_same [] from to lo hi a = a
-  run_same (q ∷ ps) from to lo hi a = elim (same_number q p) [
+  run_same (q ∷ ps) from to lo hi a = elim (same_or_not q p) [
     | inl e ↦
         let is = is_n q a.0 e a.1.live in (
           m,
@@ -105,13 +106,13 @@ module _ {nodes new : Nodes} {roots : Tree → Option ℕ} {w : Forest} {home : 
       let up : In o.0 (w.chain (place t (suc h))) = subst (λ (z : Place). In o.0 (w.chain (place z.tree (suc z.height)))) is o.2 in
       let b = f.child _ o.0 o.1 up o.3 p o.4 in
       let e : q ≡ o.0 = one_parent f t h q o.0 p d o.1 k b.0 i up live o.3 j (later_in o.1.content b.0 p b.1) in
-      subst (λ (z : Node). z.merging_child ≡ Some p) (some_is o.1 d (sym o.3 ∙ ap nodes (sym e) ∙ live)) o.4
+      subst (λ (z : Node). z.merging_child ≡ Some p) (some_is (sym o.3 ∙ ap nodes (sym e) ∙ live)) o.4
 
   pointed : (t : Tree) (h q : ℕ) (d : Node) (k : Key) (c : ℕ) → In q (w.chain (place t (suc h))) → nodes q ≡ Some d → In (k, c) (pointers d.content) → IsPointer nodes w d t h k c → home c ≡ Some (place t h) → IsPointer new after d t h k c
-  pointed t h q d k c i live j a there = elim (same_number c p) [
+  pointed t h q d k c i live j a there = elim (same_or_not c p) [
     | inl e ↦
         let is = is_n c a.node e a.live in
-        let at : x ≡ place t h = some_is x (place t h) (sym p_home ∙ ap w.home (sym e) ∙ a.homed) in
+        let at : x ≡ place t h = some_is (sym p_home ∙ ap w.home (sym e) ∙ a.homed) in
         record {
           node = m;
           live = ap new e ∙ r.now;
@@ -125,17 +126,17 @@ module _ {nodes new : Nodes} {roots : Tree → Option ℕ} {w : Forest} {home : 
   own : (t : Tree) (h : ℕ) (k : Key) (c : ℕ) → x ≡ place t (suc h) → In (k, c) (pointers m.content) → IsPointer new after m t h k c
   own t h k c is j =
       let a = r.pointer t h is k c j in
-      let e : c ≢ p = λ g. heights (ap (λ (z : Place). z.height) (sym is ∙ some_is x (place t h) (sym p_home ∙ ap w.home (sym g) ∙ a.0.homed))) in
+      let e : c ≢ p = λ g. heights (ap (λ (z : Place). z.height) (sym is ∙ some_is (sym p_home ∙ ap w.home (sym g) ∙ a.0.homed))) in
       record { node = a.0.node; live = r.others c e ∙ a.0.live; homed = a.1; key = a.0.key; merged = a.0.merged }
     where
       heights : suc h ≡ h → ⊥
       heights e = omega arith
 
   pointer_new : (t : Tree) (h q : ℕ) (d : Node) → In q (w.chain (place t (suc h))) → new q ≡ Some d → (k : Key) (c : ℕ) → In (k, c) (pointers d.content) → IsPointer new after d t h k c
-  pointer_new t h q d i live k c j = elim (same_number q p) [
+  pointer_new t h q d i live k c j = elim (same_or_not q p) [
     | inl e ↦
         let is = is_m q d e live in
-        let at : x ≡ place t (suc h) = some_is x _ (sym p_home ∙ ap w.home (sym e) ∙ f.homed _ q i) in
+        let at : x ≡ place t (suc h) = some_is (sym p_home ∙ ap w.home (sym e) ∙ f.homed _ q i) in
         subst (λ (z : Node). IsPointer new after z t h k c) (sym is) (own t h k c at (subst (λ (z : Node). In (k, c) (pointers z.content)) is j))
     | inr e ↦
         let old : nodes q ≡ Some d = sym (r.others q e) ∙ live in
@@ -153,17 +154,17 @@ module _ {nodes new : Nodes} {roots : Tree → Option ℕ} {w : Forest} {home : 
       up : (s e : ℕ) (a : Node) → a.merging_child ≡ Some e → In s (w.chain x) → nodes s ≡ Some a → w.home e ≡ Some (place t h) → In s (w.chain (place t (suc h)))
       up s e a is j b there =
           let g = child_below f x s a e j b is in
-          let same : place x.tree g.0 ≡ place t h = some_is _ _ (sym g.4.homed ∙ there) in
+          let same : place x.tree g.0 ≡ place t h = some_is (sym g.4.homed ∙ there) in
           subst (λ (z : Place). In s (w.chain (place z.tree (suc z.height)))) same (subst (λ z. In s (w.chain z)) g.1 j)
 
   child_new : (y : Place) (q : ℕ) (d : Node) → In q (w.chain y) → new q ≡ Some d → (c : ℕ) → d.merging_child ≡ Some c → (k : Key) × In (k, c) (later (pointers d.content))
-  child_new y q d i live c j = elim (same_number q p) [
+  child_new y q d i live c j = elim (same_or_not q p) [
     | inl e ↦ let is = is_m q d e live in subst (λ (z : Node). (k : Key) × In (k, c) (later (pointers z.content))) (sym is) (r.child c (subst (λ (z : Node). z.merging_child ≡ Some c) is j))
     | inr e ↦ f.child y q d i (sym (r.others q e) ∙ live) c j
   ]
 
   down_new : (t : Tree) (h q : ℕ) (d : Node) → head (w.chain (place t (suc h))) ≡ Some q → new q ≡ Some d → head (w.chain (place t h)) ≡ first_child (pointers d.content)
-  down_new t h q d i live = elim (same_number q p) [
+  down_new t h q d i live = elim (same_or_not q p) [
     | inl e ↦ f.down t h q n i (ap nodes e ∙ r.was) ∙ sym r.first ∙ ap (λ (z : Node). first_child (pointers z.content)) (sym (is_m q d e live))
     | inr e ↦ f.down t h q d i (sym (r.others q e) ∙ live)
   ]
@@ -181,22 +182,22 @@ module _ {nodes new : Nodes} {roots : Tree → Option ℕ} {w : Forest} {home : 
 
   pub reflagged_keeps : (mine : List ℕ) → KeepsNodes mine None nodes new w after
   reflagged_keeps mine = record {
-    stood = λ y q d o i live. elim (same_number q p) [
+    stood = λ y q d o i live. elim (same_or_not q p) [
       | inl e ↦ (m, ap new e ∙ r.now, r.lo ∙ ap (λ (z : Node). z.lo) (sym (is_n q d e live)), inl i)
       | inr e ↦ (d, r.others q e ∙ live, refl, inl i)
     ];
-    capped = λ q d live t. elim (same_number q p) [
+    capped = λ q d live t. elim (same_or_not q p) [
       | inl e ↦ asleep q d e live t
       | inr e ↦ inl (r.others q e ∙ live)
     ];
     stray = λ q s o. (r.others q (λ e. s x (ap w.home e ∙ p_home)), λ y h. s y (r.comes q y h));
     left = λ y q d live t o. o;
-    wakes = λ y q d e i was not_merging now t. elim (same_number q p) [
+    wakes = λ y q d e i was not_merging now t. elim (same_or_not q p) [
       | inl g ↦
-          let at : x ≡ y = some_is x y (sym p_home ∙ ap w.home (sym g) ∙ f.homed y q i) in
+          let at : x ≡ y = some_is (sym p_home ∙ ap w.home (sym g) ∙ f.homed y q i) in
           let o = r.parent (subst (λ (z : Node). z.merging ≡ true) (is_m q e g now) t) in
           (o.0, o.1, subst (λ (z : Place). In o.0 (w.chain (place z.tree (suc z.height)))) at o.2, o.3, o.4 ∙ ap Some (sym g))
-      | inr g ↦ false_true e.merging (subst (λ (z : Node). z.merging ≡ false) (some_is d e (sym was ∙ sym (r.others q g) ∙ now)) not_merging) t
+      | inr g ↦ false_true e.merging (subst (λ (z : Node). z.merging ≡ false) (some_is (sym was ∙ sym (r.others q g) ∙ now)) not_merging) t
     ];
     child = λ y q c d o i was is.
         let b = child_below f y q d c i was is in
@@ -206,7 +207,7 @@ module _ {nodes new : Nodes} {roots : Tree → Option ℕ} {w : Forest} {home : 
               let g = f.page _ c b.4.homed in
               elim g.1.stands [
                 | inl j ↦ absurd (a.1 j)
-                | inr u ↦ inr (g.0, g.1.live, u, λ z j. a.1 (subst (λ k. In c (w.chain k)) (some_is z _ (sym (f.homed z c j) ∙ b.4.homed)) j))
+                | inr u ↦ inr (g.0, g.1.live, u, λ z j. a.1 (subst (λ k. In c (w.chain k)) (some_is (sym (f.homed z c j) ∙ b.4.homed)) j))
               ]
         ];
   }
@@ -216,25 +217,25 @@ module _ {nodes new : Nodes} {roots : Tree → Option ℕ} {w : Forest} {home : 
 
   pub reflagged_grows : GrowsByReceiving nodes new w
   reflagged_grows = record {
-    grows = λ y q d e i was now. elim (same_number q p) [
+    grows = λ y q d e i was now. elim (same_or_not q p) [
       | inl g ↦ inl (subst (λ (z : Node). count e.content ≤ count z.content) (sym (is_n q d g was)) (subst (λ (z : Node). count z.content ≤ count n.content) (sym (is_m q e g now)) r.smaller))
-      | inr g ↦ inl (le_of_eq (ap (λ (z : Node). count z.content) (some_is e d (sym now ∙ r.others q g ∙ was))))
+      | inr g ↦ inl (le_of_eq (ap (λ (z : Node). count z.content) (some_is (sym now ∙ r.others q g ∙ was))))
     ];
   }
 
   -- the size is kept, where the merging child that there is now is small
   pub reflagged_sized : ((c : ℕ) (d : Node) → m.merging_child ≡ Some c → nodes c ≡ Some d → count d.content ≤ 17) → IsSized nodes w → IsSized new after
   reflagged_sized small z = record {
-    fits = λ y q d h live. elim (same_number q p) [
+    fits = λ y q d h live. elim (same_or_not q p) [
       | inl e ↦ subst (λ (k : Node). count k.content ≤ 33) (sym (is_m q d e live)) (le_trans r.smaller (z.fits x p n p_home r.was))
       | inr e ↦ z.fits y q d (r.comes q y h) (sym (r.others q e) ∙ live)
     ];
     child = λ y q c d e i live is there.
-        let was : (b : Node) → nodes c ≡ Some b → count b.content ≤ 17 = λ b at. elim (same_number q p) [
+        let was : (b : Node) → nodes c ≡ Some b → count b.content ≤ 17 = λ b at. elim (same_or_not q p) [
           | inl g ↦ small c b (sym (ap (λ (k : Node). k.merging_child) (is_m q d g live)) ∙ is) at
           | inr g ↦ z.child y q c d b i (sym (r.others q g) ∙ live) is at
         ] in
-        elim (same_number c p) [
+        elim (same_or_not c p) [
           | inl g ↦ subst (λ (k : Node). count k.content ≤ 17) (sym (is_m c e g there)) (le_trans r.smaller (was n (ap nodes g ∙ r.was)))
           | inr g ↦ was e (sym (r.others c g) ∙ there)
         ];
@@ -244,7 +245,7 @@ module _ {nodes new : Nodes} {roots : Tree → Option ℕ} {w : Forest} {home : 
   reflagged_contents same t = go (w.chain (place t 0))
     where
       one : (q : ℕ) → node_pairs (new q) ≡ node_pairs (nodes q)
-      one q = elim (same_number q p) [
+      one q = elim (same_or_not q p) [
         | inl e ↦ ap node_pairs (ap new e ∙ r.now) ∙ same ∙ sym (ap node_pairs (ap nodes e ∙ r.was))
         | inr e ↦ ap node_pairs (r.others q e)
       ]

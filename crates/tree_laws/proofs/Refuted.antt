@@ -1,5 +1,6 @@
 -- Laws that are false.
 use Rattle.std.proofs.Common.{◌≡◌, ◌≢◌, ℕ, ◌<◌, ◌≤◌, ◌^◌, true, false, [], ◌∷◌, Some, None, sym, refl, ap, ◌∙◌, subst, inl, inr, arith}
+use Rattle.sled_nodes.proofs.Basics.{none_some, some_is, same_or_not}
 use Rattle.sled_store.specs.In.{In}
 use Rattle.sled_nodes.specs.Image.{root_in}
 use Rattle.sled_nodes.specs.Node.{count, Within, after_link}
@@ -20,10 +21,8 @@ use Rattle.tree_laws.specs.theory.Snapshot.{KeepsNodes}
 use Rattle.tree_laws.proofs.Accepted.{forest_of, IsForest, formed, sized}
 use Rattle.tree_laws.proofs.Faulty.{run_on, run_at, homed_is, index_first}
 use Rattle.tree_laws.proofs.Pictures.{leaf_stands, open_home, index_stands, pointer_open, rooted, alone, left_sound, whole_sound, both_sound, left_below, intended_forest, eight, two_few}
-use Rattle.tree_laws.proofs.Replace.{some_is, same_number}
 use Rattle.tree_laws.proofs.Roots.{plant_law}
 use Rattle.tree_laws.proofs.Update.{put_there}
-use Rattle.tree_laws.proofs.Basics.{none_some}
 
 -- a merging child of 17 entries
 abbrev long : Node
@@ -46,8 +45,8 @@ large_forest = record {
     (
       (
         index_stands _ _ 3 (merging 2 (over both)) refl refl (pointer_open _ _ (merging 2 (over both)) left.1 [] 1 refl refl refl refl, (pointer_open _ _ (merging 2 (over both)) long (key 8) 2 refl refl refl refl, tt))
-            (λ c e. (key 8, inl (λ i. (key 8, some_is c 2 (sym e) i)))) refl
-            (λ c d e i. subst (λ (z : Node). count z.content ≤ 17) (some_is long d (ap (nodes_of (image large_child (root 3))) (some_is 2 c e) ∙ i)) seventeen.1),
+            (λ c e. (key 8, inl (λ i. (key 8, some_is (sym e) i)))) refl
+            (λ c d e i. subst (λ (z : Node). count z.content ≤ 17) (some_is (ap (nodes_of (image large_child (root 3))) (some_is e) ∙ i)) seventeen.1),
         tt,
       ),
       tt,
@@ -131,7 +130,7 @@ split_to_any law =
     let a = run_on _ _ 1 begin [] refl (run_at f (place one_tree t.0) 1 t.1) in
     let b = run_on _ a.0 2 end (key 8) refl a.4 in
     let here : In 2 (r.0.after.chain (place one_tree t.0)) = subst (λ c. In 2 c) (sym a.1) (inr (subst (λ c. In 2 c) (sym b.1) (inl refl))) in
-    let e : place one_tree t.0 ≡ place other_tree 0 = some_is _ _ (sym (f.homed _ 2 here) ∙ f.homed _ 2 r.1) in
+    let e : place one_tree t.0 ≡ place other_tree 0 = some_is (sym (f.homed _ 2 here) ∙ f.homed _ 2 r.1) in
     no (ap (λ (z : Place). byte z.tree) e)
   where
     no : ◌≡◌ {A = ℕ} 97 98 → ⊥
@@ -154,8 +153,8 @@ lone = record {
 }
 
 lone_page : (p : ℕ) (g : Page) → lone.state.pages p ≡ Some g → (p ≡ 1) × (page 0 ≡ g)
-lone_page p g e = elim (same_number p 1) [
-  | inl is ↦ (is, some_is _ _ (ap lone.state.pages (sym is) ∙ e))
+lone_page p g e = elim (same_or_not p 1) [
+  | inl is ↦ (is, some_is (ap lone.state.pages (sym is) ∙ e))
   | inr off ↦ none_some (sym (put_there (λ q. None) 1 (Some (page 0)) p off) ∙ e)
 ]
 
@@ -189,10 +188,10 @@ replace_of_stray : ReplaceOfStray → ⊥
 replace_of_stray law =
     let s = law [] lone no_forest no_forest 1 (page 0) (page 1) lone_is refl refl refl (λ y e. none_some e) (no_trees _) keeps in
     let e = s.goes.own 1 (λ y e. none_some e) (λ i. i) in
-    no (ap (λ (z : Page). z.version) (some_is (page 1) (page 0) e))
+    no (ap (λ (z : Page). z.version) (some_is e))
   where
     same : (p : ℕ) → put_node (nodes_of lone.state) 1 empty p ≡ nodes_of lone.state p
-    same p = elim (same_number p 1) [
+    same p = elim (same_or_not p 1) [
       | inl is ↦ subst (λ q. put_node (nodes_of lone.state) 1 empty q ≡ nodes_of lone.state q) (sym is) refl
       | inr off ↦ put_there (nodes_of lone.state) 1 (Some empty) p off
     ]

@@ -1,5 +1,5 @@
 -- One page of a chain is replaced, with pages that come behind it and pages that go.
-use Rattle.std.proofs.Common.{◌≡◌, ◌≢◌, ℕ, suc, Bool, true, false, List, [], ◌∷◌, ◌++◌, Option, Some, None, MatchOption, sym, refl, ap, ◌∙◌, subst, inl, inr, ◌⊎◌, arith, flat_map}
+use Rattle.std.proofs.Common.{◌≡◌, ◌≢◌, ℕ, suc, Bool, true, false, List, [], ◌∷◌, ◌++◌, Option, Some, None, MatchOption, sym, refl, ap, ◌∙◌, subst, inl, inr, ◌⊎◌, flat_map}
 use Rattle.std.specs.Str.{bytes_eq}
 use Rattle.std.specs.Bool.{Decides}
 use Rattle.std.proofs.lemmas.Slice.Eq.{bytes_eq-Decides}
@@ -15,10 +15,8 @@ use Rattle.tree_laws.proofs.Order.{below_irrefl, below_upto-trans}
 use Rattle.tree_laws.proofs.Pairs.{pairs_before, pairs_above, Leaves}
 use Rattle.std.specs.List.{AllByRecursion}
 use Rattle.std.proofs.lemmas.List.Concat.{flat_map-append}
+use Rattle.sled_nodes.proofs.Basics.{some_is, same_or_not}
 use Rattle.tree_laws.proofs.Runs.{In-left, In-right, In_cases, run_frame, run_parts, run_join, run_from, run_to, rises_on}
-
-pub same_number : (p q : ℕ) → (p ≡ q) ⊎ (p ≢ q)
-same_number p q = grind arith
 
 pub same_tree : (t u : Tree) → (t ≡ u) ⊎ (t ≢ u)
 same_tree t u = decided (bytes_eq t u) (bytes_eq-Decides t u)
@@ -33,12 +31,9 @@ place_is x y a b = λ i. record { tree = a i; height = b i }
 pub same_place : (x y : Place) → (x ≡ y) ⊎ (x ≢ y)
 same_place x y =
     elim (same_tree x.tree y.tree) [
-      | inl a ↦ elim (same_number x.height y.height) [ inl b ↦ inl (place_is x y a b) | inr b ↦ inr (λ e. b (ap (λ z. z.height) e)) ]
+      | inl a ↦ elim (same_or_not x.height y.height) [ inl b ↦ inl (place_is x y a b) | inr b ↦ inr (λ e. b (ap (λ z. z.height) e)) ]
       | inr a ↦ inr (λ e. a (ap (λ z. z.tree) e))
     ]
-
-pub some_is : {A : Type 0} (x y : A) → Some x ≡ Some y → x ≡ y
-some_is x y e = cc
 
 -- a page that comes into the chain: it had no place
 pub record IsAdded (nodes : Nodes) (w v : Forest) (x : Place) (q : ℕ) : Type 0 where
@@ -163,21 +158,21 @@ module _ {nodes new : Nodes} {roots : Tree → Option ℕ} {w v : Forest} {x : P
   parent_on : (y : Place) (q c : ℕ) (d : Node) → In q (w.chain y) → nodes q ≡ Some d → d.merging_child ≡ Some c → In q (v.chain y) × ((e : Node) × (new q ≡ Some e) × (e.merging_child ≡ Some c))
   parent_on y q c d i live is =
       let calm : d.merging ≡ true → In q (v.chain y) = λ t. let h = f.page y q (f.homed y q i) in
-      let same : h.0 ≡ d = some_is h.0 d (sym h.1.live ∙ live) in
+      let same : h.0 ≡ d = some_is (sym h.1.live ∙ live) in
       let none : d.merging_child ≡ None = subst (λ (z : Node). z.merging_child ≡ None) same (h.1.calm (subst (λ (z : Node). z.merging ≡ true) (sym same) t)) in
       cc in (
-        elim (chained_after y q i) [ inl a ↦ a | inr g ↦ let e = r.goes q g in calm (subst (λ (z : Node). z.merging ≡ true) (some_is e.0 d (sym e.1 ∙ live)) e.2) ],
-        elim (same_number q p) [
-          | inl e ↦ (m, ap new e ∙ r.now, r.merging_child ∙ subst (λ (z : Node). z.merging_child ≡ Some c) (some_is d n (sym live ∙ ap nodes e ∙ r.was)) is)
+        elim (chained_after y q i) [ inl a ↦ a | inr g ↦ let e = r.goes q g in calm (subst (λ (z : Node). z.merging ≡ true) (some_is (sym e.1 ∙ live)) e.2) ],
+        elim (same_or_not q p) [
+          | inl e ↦ (m, ap new e ∙ r.now, r.merging_child ∙ subst (λ (z : Node). z.merging_child ≡ Some c) (some_is (sym live ∙ ap nodes e ∙ r.was)) is)
           | inr e ↦ (d, r.others q e ∙ live, is)
         ],
       )
 
   page_on : (y : Place) (q : ℕ) → v.home q ≡ Some y → (d : Node) × IsHomed new v q y d
   page_on y q h = elim (r.comes q y h) [
-    | inl a ↦ elim (same_number q p) [
+    | inl a ↦ elim (same_or_not q p) [
       | inl e ↦
-          let is : x ≡ y = some_is x y (sym p_home ∙ ap w.home (sym e) ∙ a) in (
+          let is : x ≡ y = some_is (sym p_home ∙ ap w.home (sym e) ∙ a) in (
             m,
             record {
               live = ap new e ∙ r.now;
@@ -194,7 +189,7 @@ module _ {nodes new : Nodes} {roots : Tree → Option ℕ} {w v : Forest} {x : P
               live = r.others q e ∙ i.1.live;
               sound = i.1.sound;
               stands = elim i.1.stands [
-                | inl j ↦ elim (chained_after y q j) [ inl k ↦ inl k | inr g ↦ let d = r.goes q g in inr (subst (λ (z : Node). z.merging ≡ true) (some_is d.0 i.0 (sym d.1 ∙ i.1.live)) d.2) ]
+                | inl j ↦ elim (chained_after y q j) [ inl k ↦ inl k | inr g ↦ let d = r.goes q g in inr (subst (λ (z : Node). z.merging ≡ true) (some_is (sym d.1 ∙ i.1.live)) d.2) ]
                 | inr t ↦ inr t
               ];
               calm = i.1.calm;
@@ -223,7 +218,7 @@ module _ {nodes new : Nodes} {roots : Tree → Option ℕ} {w v : Forest} {x : P
       let a = run_parts nodes xs _ _ _ _ _ whole in
       let l = a.3.1 in
       let from : a.0 ≡ Some p = l.here in
-      let key : a.1 ≡ n.lo = l.lo_is ∙ ap (λ (z : Node). z.lo) (some_is a.3.0 n (sym l.live ∙ r.was)) in (
+      let key : a.1 ≡ n.lo = l.lo_is ∙ ap (λ (z : Node). z.lo) (some_is (sym l.live ∙ r.was)) in (
         subst (λ g. Run nodes xs (head (w.chain x)) [] g n.lo) from (subst (λ k. Run nodes xs (head (w.chain x)) [] a.0 k) key a.2),
         subst (λ g. Run nodes (p ∷ (gone ++ ys)) g n.lo None []) from (subst (λ k. Run nodes (p ∷ (gone ++ ys)) a.0 k None []) key a.3),
       )
@@ -243,7 +238,7 @@ module _ {nodes new : Nodes} {roots : Tree → Option ℕ} {w v : Forest} {x : P
       subst (λ h. Run new (v.chain x) h [] None []) (sym (heads x)) (subst (λ c. Run new c (head (w.chain x)) [] None []) (sym r.after) all)
 
   pub off_place : (y : Place) → y ≢ x → (q : ℕ) → In q (w.chain y) → q ≢ p
-  off_place y e q i is = e (some_is y x (sym (f.homed y q i) ∙ ap w.home is ∙ p_home))
+  off_place y e q i is = e (some_is (sym (f.homed y q i) ∙ ap w.home is ∙ p_home))
 
   run_on : (y : Place) → (v.chain y ≡ []) ⊎ Run new (v.chain y) (head (v.chain y)) [] None []
   run_on y = elim (same_place y x) [
@@ -257,9 +252,9 @@ module _ {nodes new : Nodes} {roots : Tree → Option ℕ} {w v : Forest} {x : P
 
   -- a pointer of any node reads the same
   pointed : (d : Node) (t : Tree) (h : ℕ) (k : Key) (c : ℕ) → IsPointer nodes w d t h k c → IsPointer new v d t h k c
-  pointed d t h k c i = elim (same_number c p) [
+  pointed d t h k c i = elim (same_or_not c p) [
     | inl e ↦
-        let is : i.node ≡ n = some_is i.node n (sym i.live ∙ ap nodes e ∙ r.was) in
+        let is : i.node ≡ n = some_is (sym i.live ∙ ap nodes e ∙ r.was) in
         record {
           node = m;
           live = ap new e ∙ r.now;
@@ -272,10 +267,10 @@ module _ {nodes new : Nodes} {roots : Tree → Option ℕ} {w v : Forest} {x : P
 
   pointer_new : (t : Tree) (h q : ℕ) (d : Node) → In q (v.chain (place t (suc h))) → new q ≡ Some d → (k : Key) (c : ℕ) → In (k, c) (pointers d.content) → IsPointer new v d t h k c
   pointer_new t h q d i live k c j = elim (chained_before _ q i) [
-    | inl a ↦ elim (same_number q p) [
+    | inl a ↦ elim (same_or_not q p) [
       | inl e ↦
-          let is : d ≡ m = some_is d m (sym live ∙ ap new e ∙ r.now) in
-          let here : x ≡ place t (suc h) = some_is x _ (sym p_home ∙ ap w.home (sym e) ∙ f.homed _ q a) in
+          let is : d ≡ m = some_is (sym live ∙ ap new e ∙ r.now) in
+          let here : x ≡ place t (suc h) = some_is (sym p_home ∙ ap w.home (sym e) ∙ f.homed _ q a) in
           subst (λ (z : Node). IsPointer new v z t h k c) (sym is) (pointed m t h k c (r.pointer t h here k c (subst (λ (z : Node). In (k, c) (pointers z.content)) is j)))
       | inr e ↦
           let old : nodes q ≡ Some d = sym (r.others q e) ∙ live in
@@ -284,22 +279,22 @@ module _ {nodes new : Nodes} {roots : Tree → Option ℕ} {w v : Forest} {x : P
     | inr b ↦
         let a = r.adds q b.0 in
         let off : q ≢ p = λ e. a.was x (ap w.home e ∙ p_home) in
-        let is : d ≡ a.node = some_is d a.node (sym live ∙ r.others q off ∙ a.live) in
+        let is : d ≡ a.node = some_is (sym live ∙ r.others q off ∙ a.live) in
         subst (λ (z : Node). IsPointer new v z t h k c) (sym is) (pointed a.node t h k c (a.pointer t h (sym b.1) k c (subst (λ (z : Node). In (k, c) (pointers z.content)) is j)))
   ]
 
   child_new : (y : Place) (q : ℕ) (d : Node) → In q (v.chain y) → new q ≡ Some d → (c : ℕ) → d.merging_child ≡ Some c → (k : Key) × In (k, c) (later (pointers d.content))
   child_new y q d i live c j = elim (chained_before y q i) [
-    | inl a ↦ elim (same_number q p) [
+    | inl a ↦ elim (same_or_not q p) [
       | inl e ↦
-          let is : d ≡ m = some_is d m (sym live ∙ ap new e ∙ r.now) in
+          let is : d ≡ m = some_is (sym live ∙ ap new e ∙ r.now) in
           subst (λ (z : Node). (k : Key) × In (k, c) (later (pointers z.content))) (sym is) (r.child c (subst (λ (z : Node). z.merging_child ≡ Some c) is j))
       | inr e ↦ f.child y q d a (sym (r.others q e) ∙ live) c j
     ]
     | inr b ↦
         let a = r.adds q b.0 in
         let off : q ≢ p = λ e. a.was x (ap w.home e ∙ p_home) in
-        let is : d ≡ a.node = some_is d a.node (sym live ∙ r.others q off ∙ a.live) in
+        let is : d ≡ a.node = some_is (sym live ∙ r.others q off ∙ a.live) in
         let none : d.merging_child ≡ None = subst (λ (z : Node). z.merging_child ≡ None) (sym is) a.child in
         absurd (apart (sym none ∙ j))
   ]
@@ -310,9 +305,9 @@ module _ {nodes new : Nodes} {roots : Tree → Option ℕ} {w v : Forest} {x : P
   down_new : (t : Tree) (h q : ℕ) (d : Node) → head (v.chain (place t (suc h))) ≡ Some q → new q ≡ Some d → head (v.chain (place t h)) ≡ first_child (pointers d.content)
   down_new t h q d i live =
       let was : head (w.chain (place t (suc h))) ≡ Some q = sym (heads _) ∙ i in
-      heads (place t h) ∙ elim (same_number q p) [
+      heads (place t h) ∙ elim (same_or_not q p) [
         | inl e ↦
-            let is : d ≡ m = some_is d m (sym live ∙ ap new e ∙ r.now) in
+            let is : d ≡ m = some_is (sym live ∙ ap new e ∙ r.now) in
             f.down t h q n was (ap nodes e ∙ r.was) ∙ sym r.first ∙ ap (λ (z : Node). first_child (pointers z.content)) (sym is)
         | inr e ↦ f.down t h q d was (sym (r.others q e) ∙ live)
       ]
@@ -361,7 +356,7 @@ module _ {nodes new : Nodes} {roots : Tree → Option ℕ} {w v : Forest} {x : P
   leaves : (t : Tree) → place t 0 ≡ x → (qs : List ℕ) → ((q : ℕ) → In q qs → In q (w.chain x)) → Leaves nodes qs
   leaves t is qs there q d i live =
       let h = f.page (place t 0) q (f.homed (place t 0) q (subst (λ z. In q (w.chain z)) (sym is) (there q i))) in
-      subst (λ (z : Node). Holds 0 z.lo z.hi z.content) (some_is h.0 d (sym h.1.live ∙ live)) h.1.sound.holds
+      subst (λ (z : Node). Holds 0 z.lo z.hi z.content) (some_is (sym h.1.live ∙ live)) h.1.sound.holds
 
   pub pairs_low : (t : Tree) → place t 0 ≡ x → AllByRecursion (λ e. Below e.0 n.lo) (pairs_of nodes xs)
   pairs_low t is = pairs_before nodes xs _ p _ _ (leaves t is xs (λ q i. subst (λ c. In q c) (sym r.before) (In-left xs _ q i))) split_run.0
@@ -369,22 +364,22 @@ module _ {nodes new : Nodes} {roots : Tree → Option ℕ} {w v : Forest} {x : P
   pub pairs_high : (t : Tree) → place t 0 ≡ x → (k : Key) → Within n.lo n.hi k → AllByRecursion (λ e. Below k e.0) (pairs_of nodes (gone ++ ys))
   pairs_high t is k h =
       let l = split_run.1 in
-      let node : l.0 ≡ n = some_is l.0 n (sym l.1.live ∙ r.was) in
+      let node : l.0 ≡ n = some_is (sym l.1.live ∙ r.was) in
       pairs_above nodes l.0 (gone ++ ys) _ _ k (leaves t is (gone ++ ys) (λ q i. subst (λ c. In q c) (sym r.before) (In-right xs _ q (inr i)))) l.1.rises l.2
       (subst (λ (z : Node). Within z.lo z.hi k) (sym node) h)
 
   off_merging : (q : ℕ) (d : Node) → nodes q ≡ Some d → d.merging ≡ true → q ≢ p
-  off_merging q d live t e = false_true d.merging (subst (λ (z : Node). z.merging ≡ false) (some_is n d (sym r.was ∙ ap nodes (sym e) ∙ live)) r.merging_was) t
+  off_merging q d live t e = false_true d.merging (subst (λ (z : Node). z.merging ≡ false) (some_is (sym r.was ∙ ap nodes (sym e) ∙ live)) r.merging_was) t
 
   stood_on : (y : Place) (q : ℕ) (d : Node) → In q (w.chain y) → nodes q ≡ Some d → IsInChain new v y d.lo q
   stood_on y q d i live = elim (chained_after y q i) [
-    | inl a ↦ elim (same_number q p) [
-      | inl e ↦ (m, ap new e ∙ r.now, r.lo ∙ ap (λ (z : Node). z.lo) (some_is n d (sym r.was ∙ ap nodes (sym e) ∙ live)), inl a)
+    | inl a ↦ elim (same_or_not q p) [
+      | inl e ↦ (m, ap new e ∙ r.now, r.lo ∙ ap (λ (z : Node). z.lo) (some_is (sym r.was ∙ ap nodes (sym e) ∙ live)), inl a)
       | inr e ↦ (d, r.others q e ∙ live, refl, inl a)
     ]
     | inr g ↦
         let c = r.goes q g in
-        let t : d.merging ≡ true = subst (λ (z : Node). z.merging ≡ true) (some_is c.0 d (sym c.1 ∙ live)) c.2 in
+        let t : d.merging ≡ true = subst (λ (z : Node). z.merging ≡ true) (some_is (sym c.1 ∙ live)) c.2 in
         (d, r.others q (off_merging q d live t) ∙ live, refl, inr t)
   ]
 
@@ -398,11 +393,11 @@ module _ {nodes new : Nodes} {roots : Tree → Option ℕ} {w v : Forest} {x : P
     );
     left = λ y q d live t out i. elim (chained_before y q i) [
       | inl a ↦ out a
-      | inr b ↦ let a = r.adds q b.0 in false_true a.node.merging a.merging (subst (λ (z : Node). z.merging ≡ true) (some_is d a.node (sym live ∙ a.live)) t)
+      | inr b ↦ let a = r.adds q b.0 in false_true a.node.merging a.merging (subst (λ (z : Node). z.merging ≡ true) (some_is (sym live ∙ a.live)) t)
     ];
-    wakes = λ y q d e i was not_merging now t. elim (same_number q p) [
-      | inl g ↦ false_true e.merging (subst (λ (z : Node). z.merging ≡ false) (some_is m e (sym r.now ∙ ap new (sym g) ∙ now)) r.merging) t
-      | inr g ↦ false_true e.merging (subst (λ (z : Node). z.merging ≡ false) (some_is d e (sym was ∙ sym (r.others q g) ∙ now)) not_merging) t
+    wakes = λ y q d e i was not_merging now t. elim (same_or_not q p) [
+      | inl g ↦ false_true e.merging (subst (λ (z : Node). z.merging ≡ false) (some_is (sym r.now ∙ ap new (sym g) ∙ now)) r.merging) t
+      | inr g ↦ false_true e.merging (subst (λ (z : Node). z.merging ≡ false) (some_is (sym was ∙ sym (r.others q g) ∙ now)) not_merging) t
     ];
     child = λ y q c d k i was is. let o = parent_on y q c d i was is in inl o;
   }

@@ -1,6 +1,7 @@
 -- A new level, a new tree, and a tree that goes.
 use Rattle.std.proofs.Common.{◌≡◌, ◌≢◌, ℕ, suc, ◌≤◌, true, false, T, ◌&&◌, is_lt, List, [], ◌∷◌, ◌++◌, Option, Some, None, MatchOption, sym, refl, ap, ◌∙◌, subst, inl, inr, ◌⊎◌, arith, length}
 use Rattle.std.specs.FinMap.{is_sorted}
+use Rattle.sled_nodes.proofs.Basics.{none_some, some_is, same_or_not}
 use Rattle.sled_store.specs.In.{In}
 use Rattle.sled_nodes.specs.Node.{pairs, pointers, count}
 use Rattle.sled_nodes.specs.Order.{Key, key_cmp, Below}
@@ -14,8 +15,7 @@ use Rattle.tree_laws.specs.Snapshot.{IsOrphan}
 use Rattle.tree_laws.specs.theory.Laws.{Rooted, HoistLaw, PlantLaw, DropLaw}
 use Rattle.tree_laws.proofs.Order.{upto-refl, upto-below}
 use Rattle.tree_laws.proofs.Update.{put_here, put_there, name_here, name_there, put_chain, chain_here, chain_there}
-use Rattle.tree_laws.proofs.Replace.{same_number, same_tree, same_place, some_is, false_true, head_in, pairs_of}
-use Rattle.tree_laws.proofs.Basics.{none_some}
+use Rattle.tree_laws.proofs.Replace.{same_tree, same_place, false_true, head_in, pairs_of}
 
 -- a page with no place becomes the one page of an empty level
 pub record Raises (nodes : Nodes) (roots : Tree → Option ℕ) (w : Forest) (t : Tree) (h r : ℕ) (n : Node) : Type 0 where
@@ -69,9 +69,9 @@ module _ {nodes : Nodes} {roots : Tree → Option ℕ} {w : Forest} {t : Tree} {
   pointer_on d u g k c i = record { node = i.node; live = i.live; homed = home_on c (place u g) i.homed; key = i.key; merged = i.merged }
 
   page_on : (y : Place) (p : ℕ) → raised.home p ≡ Some y → (d : Node) × IsHomed nodes raised p y d
-  page_on y p e = elim (same_number p r) [
+  page_on y p e = elim (same_or_not p r) [
     | inl s ↦
-        let at : place t h ≡ y = some_is (place t h) y (sym r_home ∙ ap raised.home (sym s) ∙ e) in (
+        let at : place t h ≡ y = some_is (sym r_home ∙ ap raised.home (sym s) ∙ e) in (
           n,
           record {
             live = ap nodes s ∙ a.live;
@@ -102,7 +102,7 @@ module _ {nodes : Nodes} {roots : Tree → Option ℕ} {w : Forest} {t : Tree} {
   ]
 
   is_r : (p : ℕ) (d : Node) → p ≡ r → nodes p ≡ Some d → d ≡ n
-  is_r p d e live = some_is d n (sym live ∙ ap nodes e ∙ a.live)
+  is_r p d e live = some_is (sym live ∙ ap nodes e ∙ a.live)
 
   tree_is : (u : Tree) (g : ℕ) → place u (suc g) ≡ place t h → (u ≡ t) × (h ≡ suc g)
   tree_is u g e = (ap (λ (z : Place). z.tree) e, sym (ap (λ (z : Place). z.height) e))
@@ -127,7 +127,7 @@ module _ {nodes : Nodes} {roots : Tree → Option ℕ} {w : Forest} {t : Tree} {
   down_new u g p d i live = elim (same_place (place u (suc g)) (place t h)) [
     | inl e ↦
         let at = tree_is u g e in
-        let pr : p ≡ r = some_is p r (sym i ∙ ap (λ z. head (raised.chain z)) e ∙ ap head here) in
+        let pr : p ≡ r = some_is (sym i ∙ ap (λ z. head (raised.chain z)) e ∙ ap head here) in
         ap head (there (place u g) (λ s. heights g (sym (at.1) ∙ sym (ap (λ (z : Place). z.height) s)))) ∙ ap (λ z. head (w.chain (place z g))) at.0 ∙ a.down g at.1 ∙ ap (λ (z : Node). first_child (pointers z.content)) (sym (is_r p d pr live))
     | inr e ↦ elim (same_place (place u g) (place t h)) [
       | inl s ↦
@@ -173,13 +173,13 @@ module _ {nodes : Nodes} {roots : Tree → Option ℕ} {w : Forest} {t : Tree} {
     keeps = record {
       stood = λ y p d o i live. (d, live, refl, inl (in_on y p i));
       capped = λ p d live v. inl live;
-      stray = λ p s o. (refl, λ y e. elim (same_number p r) [ inl g ↦ o (inl g) | inr g ↦ s y (sym (put_there w.home r (Some (place t h)) p g) ∙ e) ]);
+      stray = λ p s o. (refl, λ y e. elim (same_or_not p r) [ inl g ↦ o (inl g) | inr g ↦ s y (sym (put_there w.home r (Some (place t h)) p g) ∙ e) ]);
       left = λ y p d live v o i. elim (split_in y p i) [ inl b ↦ o b | inr b ↦ false_true d.merging (subst (λ (z : Node). z.merging ≡ false) (sym (is_r p d b.0 live)) a.merging) v ];
-      wakes = λ y p d e i was not_merging now v. false_true e.merging (subst (λ (z : Node). z.merging ≡ false) (some_is d e (sym was ∙ now)) not_merging) v;
+      wakes = λ y p d e i was not_merging now v. false_true e.merging (subst (λ (z : Node). z.merging ≡ false) (some_is (sym was ∙ now)) not_merging) v;
       child = λ y p c d o i was e. inl (in_on y p i, (d, was, e));
     };
     sized = λ z. record {
-      fits = λ y p d e live. elim (same_number p r) [
+      fits = λ y p d e live. elim (same_or_not p r) [
         | inl s ↦ subst (λ (k : Node). count k.content ≤ 33) (sym (is_r p d s live)) a.fits
         | inr s ↦ z.fits y p d (sym (put_there w.home r (Some (place t h)) p s) ∙ e) live
       ];
@@ -220,14 +220,14 @@ module _ {nodes : Nodes} {roots : Tree → Option ℕ} {w : Forest} (f : WellFor
   pub top_awake : (t : Tree) (h p : ℕ) (d : Node) → w.chain (place t (suc h)) ≡ [] → w.home p ≡ Some (place t h) → nodes p ≡ Some d → d.merging ≡ true → ⊥
   top_awake t h p d e i live v =
       let g = f.page (place t h) p i in
-      let q = g.1.parent (subst (λ (z : Node). z.merging ≡ true) (some_is d g.0 (sym live ∙ g.1.live)) v) in
+      let q = g.1.parent (subst (λ (z : Node). z.merging ≡ true) (some_is (sym live ∙ g.1.live)) v) in
       subst (λ c. In q.0 c) e q.2
 
   -- the level of the root is the top
   pub root_top : (t : Tree) (h r : ℕ) → roots t ≡ Some r → In r (w.chain (place t h)) → (head (w.chain (place t h)) ≡ Some r) × (w.chain (place t (suc h)) ≡ [])
   root_top t h r e i =
       let b = subst (λ o. MatchOption o ((g : ℕ) → w.chain (place t g) ≡ []) (λ q. (g : ℕ) × (head (w.chain (place t g)) ≡ Some q) × (w.chain (place t (suc g)) ≡ []))) e (f.top t) in
-      let same : place t b.0 ≡ place t h = some_is _ _ (sym (f.homed (place t b.0) r (head_in _ r b.1)) ∙ f.homed (place t h) r i) in
+      let same : place t b.0 ≡ place t h = some_is (sym (f.homed (place t b.0) r (head_in _ r b.1)) ∙ f.homed (place t h) r i) in
       (ap (λ z. head (w.chain z)) (sym same) ∙ b.1, ap (λ (z : Place). w.chain (place t (suc z.height))) (sym same) ∙ b.2)
 
   head_lo : (x : Place) (p : ℕ) (d : Node) → head (w.chain x) ≡ Some p → nodes p ≡ Some d → d.lo ≡ []
@@ -235,7 +235,7 @@ module _ {nodes : Nodes} {roots : Tree → Option ℕ} {w : Forest} (f : WellFor
     where
       go : (ps : List ℕ) → head ps ≡ Some p → Run nodes ps (head ps) [] None [] → d.lo ≡ []
       go [] g s = none_some g
-      go (q ∷ ps) g s = sym (s.1.lo_is ∙ ap (λ (z : Node). z.lo) (some_is s.0 d (sym s.1.live ∙ ap nodes (some_is q p g) ∙ live)))
+      go (q ∷ ps) g s = sym (s.1.lo_is ∙ ap (λ (z : Node). z.lo) (some_is (sym s.1.live ∙ ap nodes (some_is g) ∙ live)))
 
 sorted_two : (k : Key) (a b : ℕ) → Below [] k → T (is_sorted key_cmp (([], a) ∷ (k, b) ∷ []))
 sorted_two k a b h = subst (λ o. T ((is_lt o && true) && (true && true))) (sym h) tt
@@ -339,7 +339,7 @@ module _ (nodes : Nodes) (roots : Tree → Option ℕ) (w : Forest) (f : WellFor
       go None g h = none_some h
       go (Some z) g h = (elim (same_tree z.tree t) as (λ s. (elim s as (λ _. Option Place) [ inl e ↦ None | inr e ↦ Some z ]) ≡ Some y → (w.home p ≡ Some y) × (y.tree ≢ t)) [
         | inl u ↦ λ v. none_some v
-        | inr u ↦ λ v. (g ∙ v, λ s. u (ap (λ (k : Place). k.tree) (some_is z y v) ∙ s))
+        | inr u ↦ λ v. (g ∙ v, λ s. u (ap (λ (k : Place). k.tree) (some_is v) ∙ s))
       ]) h
 
   home_cut : (p : ℕ) (y : Place) → y.tree ≢ t → w.home p ≡ Some y → cut.home p ≡ Some y
@@ -407,7 +407,7 @@ module _ (nodes : Nodes) (roots : Tree → Option ℕ) (w : Forest) (f : WellFor
         capped = λ p d live v. inl live;
         stray = λ p s o. (refl, λ y e. s y (home_back p y e).0);
         left = λ y p d live v o i. o (in_back y p i).1;
-        wakes = λ y p d e i was not_merging now v. false_true e.merging (subst (λ (z : Node). z.merging ≡ false) (some_is d e (sym was ∙ now)) not_merging) v;
+        wakes = λ y p d e i was not_merging now v. false_true e.merging (subst (λ (z : Node). z.merging ≡ false) (some_is (sym was ∙ now)) not_merging) v;
         child = λ y p c d o i was e. inl (in_cut y p (λ g. o (ap Some (sym g))) i, (d, was, e));
       };
       sized = λ z. record {
@@ -415,7 +415,7 @@ module _ (nodes : Nodes) (roots : Tree → Option ℕ) (w : Forest) (f : WellFor
         child = λ y p c d e i live is there. z.child y p c d e (in_back y p i).1 live is there;
       };
     },
-    λ p h e y g. let b = home_back p y g in b.1 (ap (λ (z : Place). z.tree) (some_is y (place t h) (sym b.0 ∙ e))),
+    λ p h e y g. let b = home_back p y g in b.1 (ap (λ (z : Place). z.tree) (some_is (sym b.0 ∙ e))),
   )
 
 pub drop_law : DropLaw

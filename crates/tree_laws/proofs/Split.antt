@@ -1,5 +1,6 @@
 -- The split of a page, and the merge of a page into its left sibling.
 use Rattle.std.proofs.Common.{◌≡◌, ◌≢◌, ℕ, zero, suc, ◌≤◌, false, [], ◌∷◌, ◌++◌, Option, Some, None, sym, refl, ap, ◌∙◌, subst, inl, inr, ◌⊎◌, append_assoc, arith, le_trans, length, length-append, ◌+◌}
+use Rattle.sled_nodes.proofs.Basics.{some_is, same_or_not}
 use Rattle.sled_store.specs.In.{In}
 use Rattle.sled_nodes.specs.Node.{pairs, pointers, count}
 use Rattle.sled_nodes.specs.Order.{Key, Below}
@@ -16,7 +17,7 @@ use Rattle.tree_laws.proofs.Pairs.{not_below_empty}
 use Rattle.tree_laws.proofs.Runs.{In_split, In-left, In-right}
 use Rattle.tree_laws.proofs.Update.{put_here, put_there, put_chain, chain_here, chain_there}
 use Rattle.tree_laws.proofs.Sizes.{replaced_sized, replaced_grows}
-use Rattle.tree_laws.proofs.Replace.{same_number, some_is, IsAdded, Replaces, replaced_kept, replaced_keeps, pairs_of, pairs_kept}
+use Rattle.tree_laws.proofs.Replace.{IsAdded, Replaces, replaced_kept, replaced_keeps, pairs_of, pairs_kept}
 
 -- how many entries two halves have together
 pub halves_count : (c a b : Data) → AreHalvesOf c a b → count c ≡ count a + count b
@@ -92,8 +93,8 @@ module _ (nodes : Nodes) (roots : Tree → Option ℕ) (w : Forest) (f : WellFor
 
   home_off : (z : ℕ) (y : Place) → split_forest.home z ≡ Some y → (w.home z ≡ Some y) ⊎ (In z (q ∷ []) × (y ≡ x))
   unfolding split_forest
-  home_off z y e = elim (same_number z q) [
-    | inl is ↦ inr (inl is, some_is y x (sym e ∙ ap (put_at w.home q (Some x)) is ∙ put_here w.home q (Some x)))
+  home_off z y e = elim (same_or_not z q) [
+    | inl is ↦ inr (inl is, some_is (sym e ∙ ap (put_at w.home q (Some x)) is ∙ put_here w.home q (Some x)))
     | inr off ↦ inl (sym (put_there w.home q (Some x) z off) ∙ e)
   ]
 
@@ -113,7 +114,7 @@ module _ (nodes : Nodes) (roots : Tree → Option ℕ) (w : Forest) (f : WellFor
   run : (to : Option ℕ) (hi : Key) → Run nodes (p ∷ []) (Some p) n.lo to hi → Run new (p ∷ (q ∷ [])) (Some p) n.lo to hi
   unfolding new
   run to hi r =
-      let is : r.0 ≡ n = some_is r.0 n (sym r.1.live ∙ live) in
+      let is : r.0 ≡ n = some_is (sym r.1.live ∙ live) in
       let end : (n.next ≡ to) × (n.hi ≡ hi) = (ap (λ (z : Node). z.next) (sym is) ∙ r.2.0, ap (λ (z : Node). z.hi) (sym is) ∙ r.2.1) in
       let up : (n.next ≡ None) ⊎ Below n.lo n.hi = subst (λ (z : Node). (z.next ≡ None) ⊎ Below z.lo z.hi) is r.1.rises in
       let late : (right.next ≡ None) ⊎ Below right.lo right.hi = elim up [
@@ -189,7 +190,7 @@ module _ (nodes : Nodes) (roots : Tree → Option ℕ) (w : Forest) (f : WellFor
       keeps = replaced_keeps parts f (q ∷ []) (λ z h. h);
       sized = λ e z. replaced_sized parts f (record {
         fits = le_trans left_le (z.fits x p n (f.homed x p i) live);
-        added_few = λ y d h is. elim h [ inl e ↦ subst (λ (k : Node). count k.content ≤ 33) (some_is right d (sym there ∙ ap nodes (sym e) ∙ is)) (le_trans right_le (z.fits x p n (f.homed x p i) live)) | inr e ↦ absurd e ];
+        added_few = λ y d h is. elim h [ inl e ↦ subst (λ (k : Node). count k.content ≤ 33) (some_is (sym there ∙ ap nodes (sym e) ∙ is)) (le_trans right_le (z.fits x p n (f.homed x p i) live)) | inr e ↦ absurd e ];
         child = λ y d j is e. le_trans left_le (z.child (place x.tree (suc x.height)) y p d n j is e live);
       }) z;
       grows = λ e. replaced_grows parts f (inl left_le);

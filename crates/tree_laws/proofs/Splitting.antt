@@ -1,6 +1,7 @@
 -- The steps of a split, of a hoist, and of a free.
 use Rattle.std.proofs.Common.{◌≡◌, ℕ, suc, ◌+◌, ◌<◌, ◌≤◌, ◌^◌, false, List, [], ◌∷◌, length, Some, None, option_map, sym, refl, ap, ◌∙◌, subst, inl, inr, ◌⊎◌, le_of_eq, append-nil, arith}
 use Rattle.std.specs.FinMap.Entries.{put}
+use Rattle.sled_nodes.proofs.Basics.{some_is}
 use Rattle.sled_store.specs.In.{In}
 use Rattle.sled_nodes.specs.Node.{Covers, count}
 use Rattle.sled_nodes.specs.Order.{key_cmp, Below}
@@ -23,7 +24,7 @@ use Rattle.tree_laws.specs.declared.flight.Posting.TheVariants as posting
 use Rattle.tree_laws.specs.declared.flight.Stage.TheVariants as stage
 use Rattle.tree_laws.proofs.Order.{upto_below-trans}
 use Rattle.tree_laws.proofs.Update.{put_here, put_there}
-use Rattle.tree_laws.proofs.Replace.{same_tree, some_is}
+use Rattle.tree_laws.proofs.Replace.{same_tree}
 use Rattle.tree_laws.proofs.Inside.{inside_law}
 use Rattle.tree_laws.proofs.Split.{split_law}
 use Rattle.tree_laws.proofs.Post.{post_law}
@@ -213,7 +214,7 @@ crown_action m w t number aim a is named root k =
           goes = s.goes;
           fresh = λ z i. absurd i;
           sized = u.0.sized;
-          grows = record { grows = λ x p n d i was now. inl (le_of_eq (ap (λ (z : Node). count z.content) (some_is d n (sym now ∙ was)))) };
+          grows = record { grows = λ x p n d i was now. inl (le_of_eq (ap (λ (z : Node). count z.content) (some_is (sym now ∙ was)))) };
         };
         same = λ z. elim (same_tree z t) [ inl e ↦ subst (λ y. contents (nodes_at m) u.0.after y ≡ contents (nodes_at m) w y) (sym e) u.1 | inr off ↦ u.0.others z off ];
         knows = tt;

@@ -1,12 +1,12 @@
 -- What a call in flight knows survives the actions of others.
 use Rattle.std.proofs.Common.{◌≡◌, ◌≢◌, ℕ, true, false, List, Option, Some, None, option_map, sym, refl, ap, ◌∙◌, subst, inl, inr, ◌⊎◌}
+use Rattle.sled_nodes.proofs.Basics.{same_or_not}
 use Rattle.sled_nodes.specs.declared.node.Node.{Node}
 use Rattle.sled_store.specs.declared.page.Page.{Page}
 use Rattle.tree_laws.specs.Forest.{Tree, Forest}
 use Rattle.tree_laws.specs.Snapshot.{Snapshot}
 use Rattle.tree_laws.specs.theory.Snapshot.{Guarantee}
 use Rattle.tree_laws.specs.theory.Laws.{ViewLaw, StoodLaw, NowLaw}
-use Rattle.tree_laws.proofs.Replace.{same_number}
 
 pub view_law : ViewLaw
 view_law mine lost old new w v s p version n k = record {
@@ -25,7 +25,7 @@ is_none (Some a) = inr (λ e. cc)
 -- whether a number is the one that is there
 pub is_number : (o : Option ℕ) (n : ℕ) → (o ≡ Some n) ⊎ (o ≢ Some n)
 is_number None n = inr (λ e. cc)
-is_number (Some m) n = elim (same_number m n) [ inl e ↦ inl (ap Some e) | inr e ↦ inr (λ g. e (one g)) ]
+is_number (Some m) n = elim (same_or_not m n) [ inl e ↦ inl (ap Some e) | inr e ↦ inr (λ g. e (one g)) ]
   where
     one : Some m ≡ Some n → m ≡ n
     one g = cc

@@ -1,5 +1,6 @@
 -- From the nodes to the pages with versions.
 use Rattle.std.proofs.Common.{◌≡◌, ◌≢◌, ◌<◌, ◌^◌, ◌⊎◌, ℕ, Bool, true, false, cond, List, [], ◌∷◌, nat_eq, Option, Some, None, option_map, sym, refl, ap, ◌∙◌, subst, inl, inr}
+use Rattle.sled_nodes.proofs.Basics.{none_some, some_is, same_or_not}
 use Rattle.sled_store.specs.In.{In}
 use Rattle.sled_store.specs.State.{Nodes, State, RootBecomes, nodes_of, after}
 use Rattle.sled_store.specs.Update.{put_at, put_name}
@@ -12,8 +13,7 @@ use Rattle.tree_laws.specs.theory.Snapshot.{KeepsNodes, GrowsByReceiving}
 use Rattle.tree_laws.specs.theory.Laws.{ReplaceLaw, AllocateLaw, FreeLaw, PlantedLaw, HoistedLaw, DroppedLaw, Rooted, StepsForest, after_replacement, after_free, after_creation, after_hoist, after_drop}
 use Rattle.tree_laws.proofs.Update.{put_here, put_there, name_here, name_there}
 use Rattle.tree_laws.proofs.Outside.{outside_kept, outside_contents, outside_keeps, outside_sized, outside_grows}
-use Rattle.tree_laws.proofs.Replace.{same_number, same_tree, some_is}
-use Rattle.tree_laws.proofs.Basics.{none_some}
+use Rattle.tree_laws.proofs.Replace.{same_tree}
 
 -- one more page, seen as nodes
 nodes_put : (f : ℕ → Option Page) (p : ℕ) (o : Option Page) → (λ (q : ℕ). option_map (λ (g : Page). g.node) (put_at f p o q)) ≡ put_at (λ q. option_map (λ (g : Page). g.node) (f q)) p (option_map (λ (g : Page). g.node) o)
@@ -35,15 +35,15 @@ replace_law mine m w v p g new is live not_merging fresh owner formed keeps =
     let same : put_node (nodes_at m) p new.node ≡ nodes_at (after_replacement m p new) = sym (nodes_put s.pages p (Some new)) in
     record {
       is = record {
-        pids = λ q h e. elim (same_number q p) [
+        pids = λ q h e. elim (same_or_not q p) [
           | inl a ↦ ap m.pids a ∙ is.pids p g live
           | inr a ↦ is.pids q h (sym (put_there s.pages p (Some new) q a) ∙ e)
         ];
-        versions = λ q h e. elim (same_number q p) [
-          | inl a ↦ ap (λ (z : Page). put_at m.versions new.version true z.version) (some_is h new (sym e ∙ ap (put_at s.pages p (Some new)) a ∙ put_here s.pages p (Some new))) ∙ put_here m.versions new.version true
+        versions = λ q h e. elim (same_or_not q p) [
+          | inl a ↦ ap (λ (z : Page). put_at m.versions new.version true z.version) (some_is (sym e ∙ ap (put_at s.pages p (Some new)) a ∙ put_here s.pages p (Some new))) ∙ put_here m.versions new.version true
           | inr a ↦ true_on m.versions new.version h.version (is.versions q h (sym (put_there s.pages p (Some new) q a) ∙ e))
         ];
-        below = λ q h e. elim (same_number q p) [
+        below = λ q h e. elim (same_or_not q p) [
           | inl a ↦ subst (λ z. z < 2 ^ 64) (sym a) (is.below p g live)
           | inr a ↦ is.below q h (sym (put_there s.pages p (Some new) q a) ∙ e)
         ];
@@ -57,24 +57,24 @@ replace_law mine m w v p g new is live not_merging fresh owner formed keeps =
         pids = λ q e. e;
         versions = λ q e. true_on m.versions new.version q e;
         given = λ n e. e;
-        gone = λ q e none. elim (same_number q p) [
+        gone = λ q e none. elim (same_or_not q p) [
           | inl a ↦ none_some (sym none ∙ ap s.pages a ∙ live)
           | inr a ↦ put_there s.pages p (Some new) q a ∙ none
         ];
-        fresh = λ q h e. elim (same_number q p) [
-          | inl a ↦ inr (ap (λ (z : Page). m.versions z.version) (some_is h new (sym e ∙ ap (put_at s.pages p (Some new)) a ∙ put_here s.pages p (Some new))) ∙ fresh)
+        fresh = λ q h e. elim (same_or_not q p) [
+          | inl a ↦ inr (ap (λ (z : Page). m.versions z.version) (some_is (sym e ∙ ap (put_at s.pages p (Some new)) a ∙ put_here s.pages p (Some new))) ∙ fresh)
           | inr a ↦ inl (sym (put_there s.pages p (Some new) q a) ∙ e)
         ];
         lasts = λ t n o e. e;
         dropped = λ t n e no. no;
         loses = λ t e. none_some e;
         rooted = λ t r e. inl e;
-        own = λ q stray off. elim (same_number q p) [
+        own = λ q stray off. elim (same_or_not q p) [
           | inl a ↦ elim owner [ inl b ↦ absurd (stray b.0 (ap w.home a ∙ b.1)) | inr b ↦ absurd (off (subst (λ z. In z mine) (sym a) b)) ]
           | inr a ↦ put_there s.pages p (Some new) q a
         ];
-        frozen = λ q h e t. elim (same_number q p) [
-          | inl a ↦ not_both g.node.merging (ap (λ (z : Page). z.node.merging) (some_is g h (sym live ∙ ap s.pages (sym a) ∙ e)) ∙ t) not_merging
+        frozen = λ q h e t. elim (same_or_not q p) [
+          | inl a ↦ not_both g.node.merging (ap (λ (z : Page). z.node.merging) (some_is (sym live ∙ ap s.pages (sym a) ∙ e)) ∙ t) not_merging
           | inr a ↦ inl (put_there s.pages p (Some new) q a ∙ e)
         ];
         keeps = subst (λ (z : Nodes). KeepsNodes mine None (nodes_at m) z w v) same keeps;
@@ -106,8 +106,8 @@ module _ (m : Snapshot) (w : Forest) (p : ℕ) (o : Option Page) (is : HasForest
       → KeepsNodes mine None (nodes_at m) nodes_then w w
   put_keeps mine own gone = subst (λ (z : Nodes). KeepsNodes mine None (nodes_at m) z w w) (sym (nodes_put m.state.pages p o))
       (outside_keeps (nodes_at m) _ m.state.roots w off is.formed mine None
-      (λ q u k. elim (same_number q p) [ inl a ↦ own q a k | inr a ↦ put_there (nodes_at m) p _ q a ])
-      (λ q n live. elim (same_number q p) [
+      (λ q u k. elim (same_or_not q p) [ inl a ↦ own q a k | inr a ↦ put_there (nodes_at m) p _ q a ])
+      (λ q n live. elim (same_or_not q p) [
         | inl a ↦ inr (ap (put_at (nodes_at m) p _) a ∙ put_here (nodes_at m) p _ ∙ gone n (ap (nodes_at m) (sym a) ∙ live))
         | inr a ↦ inl (put_there (nodes_at m) p _ q a ∙ live)
       ]))
@@ -127,15 +127,15 @@ allocate_law m w p g is new fresh small =
     let stray : IsOrphan w p = λ x e. let h = is.formed.page x p e in none_some (sym none_node ∙ h.1.live) in (
       record {
         is = record {
-          pids = λ q h e. elim (same_number q p) [
+          pids = λ q h e. elim (same_or_not q p) [
             | inl a ↦ ap (put_at m.pids p true) a ∙ put_here m.pids p true
             | inr a ↦ true_on m.pids p q (is.pids q h (sym (put_there s.pages p (Some g) q a) ∙ e))
           ];
-          versions = λ q h e. elim (same_number q p) [
-            | inl a ↦ ap (λ (z : Page). put_at m.versions g.version true z.version) (some_is h g (sym e ∙ ap (put_at s.pages p (Some g)) a ∙ put_here s.pages p (Some g))) ∙ put_here m.versions g.version true
+          versions = λ q h e. elim (same_or_not q p) [
+            | inl a ↦ ap (λ (z : Page). put_at m.versions g.version true z.version) (some_is (sym e ∙ ap (put_at s.pages p (Some g)) a ∙ put_here s.pages p (Some g))) ∙ put_here m.versions g.version true
             | inr a ↦ true_on m.versions g.version h.version (is.versions q h (sym (put_there s.pages p (Some g) q a) ∙ e))
           ];
-          below = λ q h e. elim (same_number q p) [
+          below = λ q h e. elim (same_or_not q p) [
             | inl a ↦ subst (λ z. z < 2 ^ 64) (sym a) small
             | inr a ↦ is.below q h (sym (put_there s.pages p (Some g) q a) ∙ e)
           ];
@@ -149,20 +149,20 @@ allocate_law m w p g is new fresh small =
           pids = λ q e. true_on m.pids p q e;
           versions = λ q e. true_on m.versions g.version q e;
           given = λ n e. e;
-          gone = λ q e no. elim (same_number q p) [
+          gone = λ q e no. elim (same_or_not q p) [
             | inl a ↦ not_both (m.pids p) (ap m.pids (sym a) ∙ e) new
             | inr a ↦ put_there s.pages p (Some g) q a ∙ no
           ];
-          fresh = λ q h e. elim (same_number q p) [
-            | inl a ↦ inr (ap (λ (z : Page). m.versions z.version) (some_is h g (sym e ∙ ap (put_at s.pages p (Some g)) a ∙ put_here s.pages p (Some g))) ∙ fresh)
+          fresh = λ q h e. elim (same_or_not q p) [
+            | inl a ↦ inr (ap (λ (z : Page). m.versions z.version) (some_is (sym e ∙ ap (put_at s.pages p (Some g)) a ∙ put_here s.pages p (Some g))) ∙ fresh)
             | inr a ↦ inl (sym (put_there s.pages p (Some g) q a) ∙ e)
           ];
           lasts = λ t n o e. e;
           dropped = λ t n e no. no;
           loses = λ t e. none_some e;
           rooted = λ t r e. inl e;
-          own = λ q u k. elim (same_number q p) [ inl a ↦ absurd (k (inl a)) | inr a ↦ put_there s.pages p (Some g) q a ];
-          frozen = λ q h e t. elim (same_number q p) [ inl a ↦ none_some (sym none ∙ ap s.pages (sym a) ∙ e) | inr a ↦ inl (put_there s.pages p (Some g) q a ∙ e) ];
+          own = λ q u k. elim (same_or_not q p) [ inl a ↦ absurd (k (inl a)) | inr a ↦ put_there s.pages p (Some g) q a ];
+          frozen = λ q h e t. elim (same_or_not q p) [ inl a ↦ none_some (sym none ∙ ap s.pages (sym a) ∙ e) | inr a ↦ inl (put_there s.pages p (Some g) q a ∙ e) ];
           keeps = put_keeps m w p (Some g) is stray (p ∷ []) (λ q a k. absurd (k (inl a))) (λ n live. none_some (sym none_node ∙ live));
         };
       },
@@ -177,15 +177,15 @@ free_law m w p is stray =
     let s = m.state in (
       record {
         is = record {
-          pids = λ q h e. elim (same_number q p) [
+          pids = λ q h e. elim (same_or_not q p) [
             | inl a ↦ none_some (sym (ap (put_at s.pages p None) a ∙ put_here s.pages p None) ∙ e)
             | inr a ↦ is.pids q h (sym (put_there s.pages p None q a) ∙ e)
           ];
-          versions = λ q h e. elim (same_number q p) [
+          versions = λ q h e. elim (same_or_not q p) [
             | inl a ↦ none_some (sym (ap (put_at s.pages p None) a ∙ put_here s.pages p None) ∙ e)
             | inr a ↦ is.versions q h (sym (put_there s.pages p None q a) ∙ e)
           ];
-          below = λ q h e. elim (same_number q p) [
+          below = λ q h e. elim (same_or_not q p) [
             | inl a ↦ none_some (sym (ap (put_at s.pages p None) a ∙ put_here s.pages p None) ∙ e)
             | inr a ↦ is.below q h (sym (put_there s.pages p None q a) ∙ e)
           ];
@@ -199,8 +199,8 @@ free_law m w p is stray =
           pids = λ q e. e;
           versions = λ q e. e;
           given = λ n e. e;
-          gone = λ q e no. elim (same_number q p) [ inl a ↦ ap (put_at s.pages p None) a ∙ put_here s.pages p None | inr a ↦ put_there s.pages p None q a ∙ no ];
-          fresh = λ q h e. elim (same_number q p) [
+          gone = λ q e no. elim (same_or_not q p) [ inl a ↦ ap (put_at s.pages p None) a ∙ put_here s.pages p None | inr a ↦ put_there s.pages p None q a ∙ no ];
+          fresh = λ q h e. elim (same_or_not q p) [
             | inl a ↦ none_some (sym (ap (put_at s.pages p None) a ∙ put_here s.pages p None) ∙ e)
             | inr a ↦ inl (sym (put_there s.pages p None q a) ∙ e)
           ];
@@ -208,8 +208,8 @@ free_law m w p is stray =
           dropped = λ t n e no. no;
           loses = λ t e. none_some e;
           rooted = λ t r e. inl e;
-          own = λ q u k. elim (same_number q p) [ inl a ↦ absurd (k (inl a)) | inr a ↦ put_there s.pages p None q a ];
-          frozen = λ q h e t. elim (same_number q p) [ inl a ↦ inr (ap (put_at s.pages p None) a ∙ put_here s.pages p None) | inr a ↦ inl (put_there s.pages p None q a ∙ e) ];
+          own = λ q u k. elim (same_or_not q p) [ inl a ↦ absurd (k (inl a)) | inr a ↦ put_there s.pages p None q a ];
+          frozen = λ q h e t. elim (same_or_not q p) [ inl a ↦ inr (ap (put_at s.pages p None) a ∙ put_here s.pages p None) | inr a ↦ inl (put_there s.pages p None q a ∙ e) ];
           keeps = put_keeps m w p None is stray (p ∷ []) (λ q a k. absurd (k (inl a))) (λ n live. refl);
         };
       },
@@ -271,7 +271,7 @@ planted_law m w t r number n is none free stray not_merging live u =
     let fresh : (z : Tree) (k : ℕ) → m.numbers z ≡ Some k → k ≢ number = λ z k e a. not_both (m.given number) (ap m.given (sym a) ∙ is.given z k e) free in
     let old : (z : Tree) (k : ℕ) → put_name m.numbers t (Some number) z ≡ Some k → ((z ≡ t) × (k ≡ number)) ⊎ ((z ≢ t) × (m.numbers z ≡ Some k)) =
     λ z k e. elim (same_tree z t) [
-      | inl a ↦ inl (a, some_is k number (sym e ∙ ap (put_name m.numbers t (Some number)) a ∙ name_here m.numbers t (Some number)))
+      | inl a ↦ inl (a, some_is (sym e ∙ ap (put_name m.numbers t (Some number)) a ∙ name_here m.numbers t (Some number)))
       | inr a ↦ inr (a, sym (name_there m.numbers t (Some number) z a) ∙ e)
     ] in
     rooted_steps (r ∷ []) None m (after_creation m t r number) w t (Some r) is u refl refl refl
@@ -298,7 +298,7 @@ planted_law m w t r number n is none free stray not_merging live u =
       | inr a ↦ no a.1
     ])
     (λ z e. none_some e)
-    (λ q e. (subst (λ z. IsOrphan w z) (some_is r q e) stray, (n, ap (nodes_at m) (sym (some_is r q e)) ∙ live, not_merging)))
+    (λ q e. (subst (λ z. IsOrphan w z) (some_is e) stray, (n, ap (nodes_at m) (sym (some_is e)) ∙ live, not_merging)))
   where
     no_number : (o : Option ℕ) → m.numbers t ≡ o → o ≡ None
     no_number None e = refl
@@ -320,7 +320,7 @@ hoisted_law m w t left r n is root stray not_merging live u =
     (λ z k o e. e)
     (λ z k given no e. no e)
     (λ z e. none_some e)
-    (λ q e. (subst (λ z. IsOrphan w z) (some_is r q e) stray, (n, ap (nodes_at m) (sym (some_is r q e)) ∙ live, not_merging)))
+    (λ q e. (subst (λ z. IsOrphan w z) (some_is e) stray, (n, ap (nodes_at m) (sym (some_is e)) ∙ live, not_merging)))
 
 pub dropped_law : DroppedLaw
 dropped_law m w t is u =
@@ -340,7 +340,7 @@ dropped_law m w t is u =
     (λ z y k e g. is.apart z y k (old z k e).1 (old y k g).1)
     (λ z k o e. name_there m.numbers t None z (λ a. o (ap Some (sym a))) ∙ e)
     (λ z k given no e. no (old z k e).1)
-    (λ z e. ap (put_name m.numbers t None) (sym (some_is t z e)) ∙ name_here m.numbers t None)
+    (λ z e. ap (put_name m.numbers t None) (sym (some_is e)) ∙ name_here m.numbers t None)
     (λ q e. none_some e)
 
 pub nodes_replaced : (m : Snapshot) (p : ℕ) (g : Page) → nodes_at (after_replacement m p g) ≡ put_node (nodes_at m) p g.node

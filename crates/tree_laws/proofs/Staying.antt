@@ -1,6 +1,7 @@
 -- What a call in flight knows of its stage survives the actions of others.
 use Rattle.std.proofs.Common.{◌≡◌, ◌≢◌, ◌≤◌, ℕ, suc, Bool, true, false, List, [], ◌∷◌, ◌++◌, Option, Some, None, MatchOption, option_map, sym, refl, ap, ◌∙◌, subst, inl, inr, ◌⊎◌, le_trans}
 use Rattle.std.specs.declared.ops.Bound.{Bound}
+use Rattle.sled_nodes.proofs.Basics.{none_some, some_is}
 use Rattle.sled_store.specs.In.{In}
 use Rattle.sled_nodes.specs.Node.{Within, count}
 use Rattle.sled_nodes.specs.Order.{Key}
@@ -30,13 +31,12 @@ use Rattle.tree_laws.specs.declared.flight.Seek.{Seek}
 use Rattle.tree_laws.specs.declared.flight.Receive.{Receive}
 use Rattle.tree_laws.specs.declared.flight.Confirm.{Confirm}
 use Rattle.tree_laws.specs.declared.flight.Stage.TheVariants as stage
-use Rattle.tree_laws.proofs.Replace.{some_is, false_true, head_in}
+use Rattle.tree_laws.proofs.Replace.{false_true, head_in}
 use Rattle.tree_laws.proofs.Cover.{one_cover, one_later, later_in, pointer_within, holds_at}
 use Rattle.tree_laws.proofs.Receive.{followed}
 use Rattle.tree_laws.proofs.Roots.{top_awake}
 use Rattle.tree_laws.proofs.Stable.{view_law, stood_law, now_law, had_number, not_lost, is_number}
 use Rattle.tree_laws.proofs.Known.{fresh_node, fresh_in, seen_kept, acting_kept}
-use Rattle.tree_laws.proofs.Basics.{none_some}
 
 pub not_true : (b : Bool) → (b ≡ true → ⊥) → b ≡ false
 not_true true not_so = absurd (not_so refl)
@@ -52,7 +52,7 @@ parent_covers f t h r q d e i live is there =
     let b = f.child (place t (suc h)) r d i live q is in
     let j = later_in d.content b.0 q b.1 in
     let a = f.pointer t h r d i live b.0 q j in
-    subst (λ k. Within d.lo d.hi k) (sym a.key ∙ ap (λ (z : Node). z.lo) (some_is a.node e (sym a.live ∙ there)))
+    subst (λ k. Within d.lo d.hi k) (sym a.key ∙ ap (λ (z : Node). z.lo) (some_is (sym a.live ∙ there)))
     (pointer_within h d.lo d.hi d.content (holds_at f (place t (suc h)) r d i live) b.0 q j)
 
 module _ {mine : List ℕ} {lost : Option Tree} {old new : Snapshot} {w v : Forest} (is : HasForest old w) (g : Guarantee mine lost old w new v) where
@@ -93,7 +93,7 @@ module _ {mine : List ℕ} {lost : Option Tree} {old new : Snapshot} {w v : Fore
       let r = g.keeps.wakes (place t h) q u.node m.0 u.chained u.live u.not_merging m.1 y in
       let same : parent.pid ≡ r.0 = one_cover is.formed (place t (suc h)) parent.pid r.0 parent.node r.1 at p_in r.2 p_is r.3 u.covers
       (subst (λ z. Within r.1.lo r.1.hi z) u.lo (parent_covers is.formed t h r.0 q r.1 u.node r.2 r.3 r.4 u.live)) in
-      let n_is : r.1 ≡ parent.node = some_is r.1 parent.node (sym r.3 ∙ ap (nodes_at old) (sym same) ∙ p_is) in
+      let n_is : r.1 ≡ parent.node = some_is (sym r.3 ∙ ap (nodes_at old) (sym same) ∙ p_is) in
       none_some (sym (subst (λ (z : Node). z.merging_child ≡ None) (sym n_is) seen.is_open.free) ∙ r.4) in
       record { covers = u.covers; node = m.0; chained = elim m.3 [ inl i ↦ i | inr y ↦ absurd (up y) ]; live = m.1; lo = m.2 ∙ u.lo; not_merging = not_true m.0.merging up }
 
@@ -156,7 +156,7 @@ module _ {mine : List ℕ} {lost : Option Tree} {old new : Snapshot} {w v : Fore
               let home = f.homed (place t top.0) a.left (head_in _ a.left top.1) in
               let n = f.page (place t top.0) a.left home in
               let asleep : n.0.merging ≡ true → ⊥ = λ y. top_awake f t top.0 a.left n.0 top.2 home n.1.live y in
-              let same : place t top.0 ≡ place t k.height = some_is _ _ (sym home ∙ f.homed (place t k.height) a.left (now_law old w (place t k.height) number [] a.left k.stood before n.0 n.1.live (not_true n.0.merging asleep)).0) in
+              let same : place t top.0 ≡ place t k.height = some_is (sym home ∙ f.homed (place t k.height) a.left (now_law old w (place t k.height) number [] a.left k.stood before n.0 n.1.live (not_true n.0.merging asleep)).0) in
               let over : w.chain (place t (suc k.height)) ≡ [] = ap (λ (z : Place). w.chain (place t (suc z.height))) (sym same) ∙ top.2 in
               let b = k.beside before was in
               let m = g.keeps.stood (place t k.height) a.right b.0 (not_lost g t number named) b.1 b.2 in
@@ -167,7 +167,7 @@ module _ {mine : List ℕ} {lost : Option Tree} {old new : Snapshot} {w v : Fore
               | inl e ↦ none_some (sym e ∙ fresh.1.1)
               | inr b ↦ elim b.3 [
                 | inl i ↦ absurd (fresh.0 (place t k.height) (is.formed.homed (place t k.height) a.left i))
-                | inr y ↦ false_true b.0.merging (subst (λ (z : Node). z.merging ≡ false) (some_is fresh.1.0 b.0 (sym fresh.1.1 ∙ b.1)) fresh.1.2) y
+                | inr y ↦ false_true b.0.merging (subst (λ (z : Node). z.merging ≡ false) (some_is (sym fresh.1.1 ∙ b.1)) fresh.1.2) y
               ]
             ]
           ]
@@ -212,9 +212,9 @@ module _ {mine : List ℕ} {lost : Option Tree} {old new : Snapshot} {w v : Fore
           let z = followed f (place t h) a.child e d c_in c_is next in
           let e_in : In e (w.chain (place t h)) = subst (λ l. In e l) (sym z.2) (at z.0 z.1) in
           let i = f.page (place t h) e (f.homed (place t h) e e_in) in
-          let r = i.1.parent (subst (λ (z : Node). z.merging ≡ true) (some_is b i.0 (sym e_is ∙ i.1.live)) capped) in
+          let r = i.1.parent (subst (λ (z : Node). z.merging ≡ true) (some_is (sym e_is ∙ i.1.live)) capped) in
           let same = one_later f t h z.0 z.1 a.child e d b z.2 c_is e_is a.parent.pid r.0 a.parent.node r.1 k.key p_in r.2 p_is r.3 k.pointer r.4 in
-          none_some (sym (subst (λ (y : Node). y.merging_child ≡ None) (some_is a.parent.node r.1 (sym p_is ∙ ap (nodes_at old) same ∙ r.3)) k.above.seen.is_open.free) ∙ r.4)
+          none_some (sym (subst (λ (y : Node). y.merging_child ≡ None) (some_is (sym p_is ∙ ap (nodes_at old) same ∙ r.3)) k.above.seen.is_open.free) ∙ r.4)
         where
           at : (xs ys : List ℕ) → In e (xs ++ (a.child ∷ (e ∷ ys)))
           at [] ys = inr (inl refl)
@@ -325,7 +325,7 @@ module _ {mine : List ℕ} {lost : Option Tree} {old new : Snapshot} {w v : Fore
         let before = had_number g t number k.tree named in
         let fresh = was_fresh (child_of a) k.view f in
         elim (child_kept t k.height a.merge.child (not_lost g t number named) (k.wanted before fresh)) [
-          | inl c ↦ false_true a.node.merging k.is_open.not_merging (subst (λ (z : Node). z.merging ≡ true) (some_is c.0 a.node (sym c.1 ∙ fresh_was (child_of a) k.view fresh)) c.2)
+          | inl c ↦ false_true a.node.merging k.is_open.not_merging (subst (λ (z : Node). z.merging ≡ true) (some_is (sym c.1 ∙ fresh_was (child_of a) k.view fresh)) c.2)
           | inr c ↦ c
         ];
   }

@@ -2,6 +2,7 @@
 use Rattle.std.proofs.Common.{◌≡◌, ◌≢◌, ℕ, suc, ◌≤◌, Bool, true, false, List, [], ◌∷◌, ◌++◌, Option, Some, None, option_map, sym, refl, ap, ◌∙◌, subst, inl, inr, ◌⊎◌}
 use Rattle.std.specs.FinMap.Entries.{find}
 use Rattle.std.specs.declared.ops.Bound.{Bound}
+use Rattle.sled_nodes.proofs.Basics.{none_some, some_is}
 use Rattle.sled_store.specs.In.{In}
 use Rattle.sled_nodes.specs.Among.{IsBefore, is_up_to}
 use Rattle.sled_nodes.specs.Node.{Covers, pairs, pointers, count, value_at}
@@ -21,13 +22,11 @@ use Rattle.tree_laws.specs.declared.flight.Walk.{Walk}
 use Rattle.tree_laws.specs.declared.flight.Posting.TheVariants as posting
 use Rattle.tree_laws.proofs.Order.{upto-below, upto_below-trans, within_below}
 use Rattle.tree_laws.proofs.Runs.{In_split, run_parts}
-use Rattle.tree_laws.proofs.Replace.{some_is}
 use Rattle.tree_laws.proofs.Cover.{chain_run, pointer_within, holds_at}
 use Rattle.tree_laws.proofs.Inside.{behind}
 use Rattle.tree_laws.proofs.Reading.{find_law}
 use Rattle.tree_laws.proofs.Stable.{now_law}
 use Rattle.tree_laws.proofs.Known.{as_page, stands_here, view_here, seen_here, root_in, leaf_low, index_high}
-use Rattle.tree_laws.proofs.Basics.{none_some}
 
 -- a page with a next page has rising bounds
 pub rises_at : {nodes : Nodes} {roots : Tree → Option ℕ} {w : Forest} (f : WellFormed nodes roots w) (x : Place) (p q : ℕ) (n : Node) → In p (w.chain x) → nodes p ≡ Some n → n.next ≡ Some q → Below n.lo n.hi
@@ -35,7 +34,7 @@ rises_at {nodes} {roots} {w} f x p q n i live next =
     let s = In_split (w.chain x) p i in
     let whole : Run nodes (s.0 ++ (p ∷ s.1)) (head (w.chain x)) [] None [] = subst (λ z. Run nodes z (head (w.chain x)) [] None []) s.2 (chain_run f x p i) in
     let r = run_parts nodes s.0 (p ∷ s.1) _ _ _ _ whole in
-    elim (subst (λ (z : Node). (z.next ≡ None) ⊎ Below z.lo z.hi) (some_is r.3.0 n (sym r.3.1.live ∙ live)) r.3.1.rises) [
+    elim (subst (λ (z : Node). (z.next ≡ None) ⊎ Below z.lo z.hi) (some_is (sym r.3.1.live ∙ live)) r.3.1.rises) [
       | inl e ↦ none_some (sym e ∙ next)
       | inr b ↦ b
     ]
@@ -47,13 +46,13 @@ pointer_stood {m} is t number h p n k c named i live j =
     let a = f.pointer t h p n i live k c j in
     let b = f.page (place t h) c a.homed in
     let g = as_page m c b.0 b.1.live in
-    record { page = is.pids c g.0 g.1; tree = is.given t number named; now = inr (inr (b.0, b.1.live, ap (λ (z : Node). z.lo) (some_is b.0 a.node (sym b.1.live ∙ a.live)) ∙ a.key, b.1.stands)) }
+    record { page = is.pids c g.0 g.1; tree = is.given t number named; now = inr (inr (b.0, b.1.live, ap (λ (z : Node). z.lo) (some_is (sym b.1.live ∙ a.live)) ∙ a.key, b.1.stands)) }
 
 -- a page that stood with this lo and is live has it
 pub lo_now : {m : Snapshot} {w : Forest} {x : Place} {number p : ℕ} {lo : Key} → StoodInChain m w x number lo p → m.numbers x.tree ≡ Some number → (n : Node) → nodes_at m p ≡ Some n → lo ≡ n.lo
 lo_now k named n live = elim k.now [
   | inl e ↦ absurd (e named)
-  | inr b ↦ elim b [ inl e ↦ none_some (sym e ∙ live) | inr a ↦ sym a.2 ∙ ap (λ (z : Node). z.lo) (some_is a.0 n (sym a.1 ∙ live)) ]
+  | inr b ↦ elim b [ inl e ↦ none_some (sym e ∙ live) | inr a ↦ sym a.2 ∙ ap (λ (z : Node). z.lo) (some_is (sym a.1 ∙ live)) ]
 ]
 
 -- the root, as it is read
@@ -61,7 +60,7 @@ pub root_here : {m : Snapshot} {w : Forest} → HasForest m w → (t : Tree) (nu
     → IsHere m w t number aim look reached.Root
 root_here {m} {w} is t number aim look named root live =
     let r = root_in is.formed t look.pid root in
-    let node_is : r.1 ≡ look.node = some_is r.1 look.node (sym r.3 ∙ ap (option_map (λ (z : Page). z.node)) live) in
+    let node_is : r.1 ≡ look.node = some_is (sym r.3 ∙ ap (option_map (λ (z : Page). z.node)) live) in
     let lo_is : r.1.lo ≡ look.node.lo = ap (λ (z : Node). z.lo) node_is in
     record {
       height = r.0;
@@ -128,7 +127,7 @@ module _ {m : Snapshot} {w : Forest} {t : Tree} {number : ℕ} {aim : Bound Key}
   here_next q more next = elim (behind is.formed (place t here.height) look.pid look.node here_in here_node) [
     | inl e ↦ absurd (more e)
     | inr a ↦
-        let same : a.0 ≡ q = some_is a.0 q (sym a.5 ∙ next) in
+        let same : a.0 ≡ q = some_is (sym a.5 ∙ next) in
         (a.1, subst (λ z. In z (w.chain (place t here.height))) same a.2, ap (nodes_at m) (sym same) ∙ a.3, a.4)
   ]
 
@@ -138,9 +137,9 @@ module _ {m : Snapshot} {w : Forest} {t : Tree} {number : ℕ} {aim : Bound Key}
   -- it lies below the parent through which it was reached
   here_below : (by : Reached) (p : View) → parent_of by ≡ Some p → IsReached m w t number here.height aim by look.node.lo look.pid → IsBelowParent m w t number here.height aim p look.node.lo
   here_below reached.Root p e k = none_some e
-  here_below (reached.FirstPointer parent) p e k = subst (λ z. IsBelowParent m w t number here.height aim z look.node.lo) (some_is parent p e) k
-  here_below (reached.LaterPointer parent) p e k = subst (λ z. IsBelowParent m w t number here.height aim z look.node.lo) (some_is parent p e) k.0
-  here_below (reached.Next parent) p e k = subst (λ z. IsBelowParent m w t number here.height aim z look.node.lo) (some_is parent p e) k.0
+  here_below (reached.FirstPointer parent) p e k = subst (λ z. IsBelowParent m w t number here.height aim z look.node.lo) (some_is e) k
+  here_below (reached.LaterPointer parent) p e k = subst (λ z. IsBelowParent m w t number here.height aim z look.node.lo) (some_is e) k.0
+  here_below (reached.Next parent) p e k = subst (λ z. IsBelowParent m w t number here.height aim z look.node.lo) (some_is e) k.0
 
   -- or is the root
   here_root : (by : Reached) → parent_of by ≡ None → IsReached m w t number here.height aim by look.node.lo look.pid → look.node.lo ≡ []
@@ -206,7 +205,7 @@ module _ {m : Snapshot} {w : Forest} {t : Tree} {number : ℕ} {aim : Bound Key}
         key = look.node.lo;
         pointer = b.1;
         under = λ named fresh. here_under parent b.0.within;
-        small = λ named fresh d live. subst (λ (z : Node). count z.content ≤ 17) (some_is look.node d (sym here_node ∙ live)) fits;
+        small = λ named fresh d live. subst (λ (z : Node). count z.content ≤ 17) (some_is (sym here_node ∙ live)) fits;
         before = is_before;
       }
 

@@ -1,6 +1,7 @@
 -- Clean paths of images, and ways that are not clean.
 use Rattle.std.proofs.Common.{◌≡◌, ℕ, ◌≤◌, true, false, List, [], ◌∷◌, Some, None, sym, refl, ◌∙◌, subst, inl, inr, arith}
 use Rattle.std.specs.declared.ops.Bound.TheVariants.{Included}
+use Rattle.sled_nodes.proofs.Basics.{some_none, some_is, false_true, true_false}
 use Rattle.sled_nodes.specs.Among.{IsPointer}
 use Rattle.sled_nodes.specs.Node.{count, Covers}
 use Rattle.sled_nodes.specs.Order.{Key, key_cmp}
@@ -12,7 +13,6 @@ use Rattle.tree_laws.specs.Paths.{NeedsNoRepair, CleanFrom, IsClean}
 use Rattle.tree_laws.specs.theory.PathLaws.{CleanStep}
 use Rattle.tree_laws.proofs.Looking.{clean_step_law}
 use Rattle.tree_laws.proofs.Order.{covers_under, under_covers}
-use Rattle.tree_laws.proofs.Replace.{some_is}
 
 -- the pointers that lead to a key
 to_first : IsPointer (Included (key 0)) both 1 true
@@ -43,20 +43,11 @@ fits : (0 ≤ 16) × (2 ≤ 16) × (3 ≤ 16) × (8 ≤ 16) × (16 ≤ 16)
 fits = (omega arith, omega arith, omega arith, omega arith, omega arith)
 
 clean_at : (s : State) (t : Tree) (k : Key) (path : List ℕ) (r : ℕ) → s.roots t ≡ Some r → IsClean s t (Included k) path → CleanFrom (nodes_of s) (Included k) r true path
-clean_at s t k path r e c = subst (λ p. CleanFrom (nodes_of s) (Included k) p true path) (some_is c.root r (sym c.is_root ∙ e)) c.clean
+clean_at s t k path r e c = subst (λ p. CleanFrom (nodes_of s) (Included k) p true path) (some_is (sym c.is_root ∙ e)) c.clean
 
 -- the first step of a clean path of an image
 first_step : (pages : Pages) (r : ℕ) (k : Key) (path : List ℕ) (n : Node) → nodes_of (image pages (root r)) r ≡ Some n → IsClean (image pages (root r)) one_tree (Included k) path → CleanStep (nodes_of (image pages (root r))) (Included k) path r true n
 first_step pages r k path n live c = clean_step_law _ (Included k) path r true n (clean_at (image pages (root r)) one_tree k path r refl c) live
-
-true_false : {P : Type 0} → true ≡ false → P
-true_false e = cc
-
-false_true : {P : Type 0} → false ≡ true → P
-false_true e = cc
-
-some_none : {P : Type 0} {A : Type 0} {x : A} → Some x ≡ None → P
-some_none e = cc
 
 beyond_left : Covers left.1 (key 9) → ⊥
 unfolding key_cmp

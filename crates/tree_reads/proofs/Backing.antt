@@ -8,6 +8,7 @@ use Rattle.std.specs.declared.cmp.Ordering.{Ordering}
 use Rattle.std.specs.declared.cmp.Ordering.TheVariants.{Less, Equal, Greater}
 use Rattle.std.specs.declared.ops.Bound.{Bound}
 use Rattle.std.specs.declared.ops.Bound.TheVariants.{Excluded}
+use Rattle.sled_nodes.proofs.Basics.{some_is, true_false, not_true, is_less, key_total}
 use Rattle.sled_nodes.specs.Order.{Key, key_cmp, Below, UpTo}
 use Rattle.sled_store.specs.In.{In}
 use Rattle.sled_nodes.specs.Among.{is_up_to, IsLast, IsPredecessor}
@@ -21,8 +22,7 @@ use Rattle.sled_nodes.specs.declared.error.Error.TheVariants.{CollectionNotFound
 use Rattle.tree_laws.specs.Forest.{Tree, Forest, place, head, Run, WellFormed, contents}
 use Rattle.tree_laws.specs.Paths.{tree_pages, pages_below}
 use Rattle.tree_laws.proofs.Cover.{chain_run}
-use Rattle.tree_laws.proofs.Order.{key_total, upto_cases, upto-trans, below_not_upto}
-use Rattle.tree_laws.proofs.Replace.{some_is}
+use Rattle.tree_laws.proofs.Order.{upto_cases, upto-trans, below_not_upto}
 use Rattle.tree_laws.proofs.Runs.{In-right, run_parts, run_from}
 use Rattle.tree_laws.proofs.Looking.{pages_law}
 use Rattle.tree_laws.proofs.Reading.{range_law}
@@ -31,13 +31,6 @@ use Rattle.tree_reads.specs.Leaves.{OfContents, SeeksBack}
 use Rattle.tree_reads.specs.declared.TheConstants.{MOST_PAGES}
 use Rattle.tree_reads.proofs.Turning.{lower}
 use Rattle.tree_reads.proofs.Seeking.{node_at, in_join, none_of, none_at, all_at, none_join, empty_least}
-
-true_false : {P : Type 0} → true ≡ false → P
-true_false e = cc
-
-not_true : (b : Bool) → not b ≡ true → b ≡ false
-not_true true e = cc
-not_true false e = refl
 
 -- above what is without an upper bound all is
 pub beyond : (hi : Bound Key) (a b : Key) → UpTo a b → is_up_to hi a ≡ false → is_up_to hi b ≡ false
@@ -67,11 +60,6 @@ not_below a b off = go (key_cmp b a) refl
     go Less e = ap is_gt e
     go Equal e = ap is_gt e
     go Greater e = true_false (sym (ap is_lt (key_total.antisymm a b ∙ ap ordering_reverse e)) ∙ off)
-
-less : (o : Ordering) → is_lt o ≡ true → o ≡ Less
-less Less e = refl
-less Equal e = cc
-less Greater e = cc
 
 more_below : (w : Forest) (t : Tree) (h : ℕ) → length (w.chain (place t 0)) ≤ pages_below w t (suc h)
 more_below w t zero = step (length (w.chain (place t 0)))
@@ -159,14 +147,14 @@ chain_at w t p xs ys e = subst (λ l. In p l) (sym e) (In-right xs (p ∷ ys) p 
 from_here : (nodes : Nodes) (roots : Tree → Option ℕ) (w : Forest) → WellFormed nodes roots w → (t : Tree) (p : ℕ) (n : Node) (xs ys : List ℕ) → w.chain (place t 0) ≡ xs ++ p ∷ ys → nodes p ≡ Some n → (q : ℕ) (m : Node) → In q (p ∷ ys) → nodes q ≡ Some m → UpTo n.lo m.lo
 from_here nodes roots w f t p n xs ys e live q m i there =
     let r = run_parts nodes xs (p ∷ ys) _ _ _ _ (subst (λ z. Run nodes z (head (w.chain (place t 0))) [] None []) e (chain_run f (place t 0) p (chain_at w t p xs ys e))) in
-    let key : r.1 ≡ n.lo = r.3.1.lo_is ∙ ap (λ (z : Node). z.lo) (some_is r.3.0 n (sym r.3.1.live ∙ live)) in
+    let key : r.1 ≡ n.lo = r.3.1.lo_is ∙ ap (λ (z : Node). z.lo) (some_is (sym r.3.1.live ∙ live)) in
     subst (λ k. UpTo k m.lo) key (run_from nodes (p ∷ ys) _ _ _ _ r.3 q m i there)
 
 -- the first leaf has no lo
 first_low : (nodes : Nodes) (roots : Tree → Option ℕ) (w : Forest) → WellFormed nodes roots w → (t : Tree) (p : ℕ) (n : Node) (ys : List ℕ) → w.chain (place t 0) ≡ p ∷ ys → nodes p ≡ Some n → n.lo ≡ []
 first_low nodes roots w f t p n ys e live =
     let r = subst (λ z. Run nodes z (head (w.chain (place t 0))) [] None []) e (chain_run f (place t 0) p (chain_at w t p [] ys e)) in
-    sym (r.1.lo_is ∙ ap (λ (z : Node). z.lo) (some_is r.0 n (sym r.1.live ∙ live)))
+    sym (r.1.lo_is ∙ ap (λ (z : Node). z.lo) (some_is (sym r.1.live ∙ live)))
 
 pub refuses_more : (of up : ℕ → ℕ) (s : Store) (root : ℕ) (e : Error) → ((w : Forest) → WellFormed (nodes_of (now s)) (now s).roots w → (t : Tree) → (now s).roots t ≡ Some root → of (tree_pages (now s) t) ≤ up (tree_pages (now s) t)) → RefusesWalk of s root e → RefusesWalk up s root e
 refuses_more of up s root e more r = record { is = go e r.is }
@@ -239,7 +227,7 @@ module _ (s : State) (root : ℕ) (hi : Bound Key) (v : View) (looked : ℕ) (k 
     is = λ w f t is.
         let a = k.is w f t is in
         let b = leaf.is w f t is in
-        let off : In u.pid (v.pid ∷ a.1) → ⊥ = λ i. below_not_upto u.node.lo v.node.lo (less _ b.0.begins) (from_here (nodes_of s) s.roots w f t v.pid v.node a.0 a.1 a.2 (node_at s v k.read.live) u.pid u.node i (node_at s u leaf.live)) in
+        let off : In u.pid (v.pid ∷ a.1) → ⊥ = λ i. below_not_upto u.node.lo v.node.lo (is_less _ b.0.begins) (from_here (nodes_of s) s.roots w f t v.pid v.node a.0 a.1 a.2 (node_at s v k.read.live) u.pid u.node i (node_at s u leaf.live)) in
         let c = shorter a.0 b.2.before v.pid u.pid a.1 b.2.behind (sym a.2 ∙ b.2.is) off in (
           b.2.before,
           b.2.behind,

@@ -1,6 +1,7 @@
 -- How many pairs stand before a leaf.
 use Rattle.std.proofs.Common.{◌≡◌, ℕ, suc, ◌+◌, ◌≤◌, true, List, [], ◌∷◌, ◌++◌, length, flat_map, Option, Some, None, option_map, sym, refl, ap, ◌∙◌, subst, inl, inr, append_assoc, append-nil, length-append, arith}
 use Rattle.std.specs.declared.ops.Bound.TheVariants.{Included}
+use Rattle.sled_nodes.proofs.Basics.{none_some, some_is, not_true}
 use Rattle.sled_nodes.specs.Order.{Key, Below}
 use Rattle.sled_store.specs.In.{In}
 use Rattle.sled_nodes.specs.Among.{is_up_to}
@@ -14,7 +15,6 @@ use Rattle.tree_laws.specs.Forest.{Tree, Forest, place, head, Run, WellFormed, n
 use Rattle.tree_laws.specs.Paths.{tree_pages}
 use Rattle.tree_laws.proofs.Cover.{chain_run}
 use Rattle.tree_laws.proofs.Order.{upto_cases}
-use Rattle.tree_laws.proofs.Replace.{some_is}
 use Rattle.tree_laws.proofs.Runs.{In-right, run_parts, run_to}
 use Rattle.tree_laws.proofs.Looking.{next_in}
 use Rattle.tree_reads.specs.Walk.{IsLeafFor, HasTooMany, once}
@@ -22,10 +22,7 @@ use Rattle.tree_reads.specs.Leaves.{OfContents}
 use Rattle.tree_reads.specs.theory.Leaves.{Counts}
 use Rattle.tree_reads.specs.declared.TheConstants.{MOST_PAGES}
 use Rattle.tree_reads.proofs.Walking.{viewed, gone}
-use Rattle.tree_reads.proofs.Seeking.{node_at, nothing_below, not_true}
-
-none_some : {P X : Type 0} {x : X} → None ≡ Some x → P
-none_some e = cc
+use Rattle.tree_reads.proofs.Seeking.{node_at, nothing_below}
 
 chain_at : (w : Forest) (t : Tree) (p : ℕ) (xs ys : List ℕ) → w.chain (place t 0) ≡ xs ++ p ∷ ys → In p (w.chain (place t 0))
 chain_at w t p xs ys e = subst (λ l. In p l) (sym e) (In-right xs (p ∷ ys) p (inl refl))
@@ -41,7 +38,7 @@ none_before nodes roots w f t p n [] ys e live low = refl
 none_before nodes roots w f t p n (x ∷ xs) ys e live low =
     let r = parts nodes roots w f t p (x ∷ xs) ys e in
     let early = subst (λ g. Run nodes (x ∷ xs) (head (w.chain (place t 0))) [] g r.1) r.3.1.here r.2 in
-    let key : r.1 ≡ [] = r.3.1.lo_is ∙ ap (λ (z : Node). z.lo) (some_is r.3.0 n (sym r.3.1.live ∙ live)) ∙ low in
+    let key : r.1 ≡ [] = r.3.1.lo_is ∙ ap (λ (z : Node). z.lo) (some_is (sym r.3.1.live ∙ live)) ∙ low in
     absurd (nothing_below r.2.0.lo (subst (λ k. Below r.2.0.lo k) key (run_to nodes (x ∷ xs) _ p _ _ early x r.2.0 (inl refl) r.2.1.live)))
 
 -- the pairs of one page more
@@ -80,7 +77,7 @@ module _ (s : State) (root : ℕ) (v : View) (looked total : ℕ) (k : Counts s 
     is = λ w f t is.
         let a = k.is w f t is in
         let r = parts (nodes_of s) s.roots w f t v.pid a.0 a.1 a.2 in
-        all_here a.0 a.4 ∙ ap (λ z. length (flat_map (λ p. node_pairs (nodes_of s p)) z)) (ap (λ z. a.0 ++ v.pid ∷ z) (sym (none a.1 r.3.0 (some_is r.3.0 v.node (sym r.3.1.live ∙ node_at s v k.read.live)) r.3.2)) ∙ sym a.2);
+        all_here a.0 a.4 ∙ ap (λ z. length (flat_map (λ p. node_pairs (nodes_of s p)) z)) (ap (λ z. a.0 ++ v.pid ∷ z) (sym (none a.1 r.3.0 (some_is (sym r.3.1.live ∙ node_at s v k.read.live)) r.3.2)) ∙ sym a.2);
   }
     where
       none : (ys : List ℕ) (d : Node) → d ≡ v.node → Run (nodes_of s) ys d.next d.hi None [] → ys ≡ []
@@ -94,13 +91,13 @@ module _ (s : State) (root : ℕ) (v : View) (looked total : ℕ) (k : Counts s 
         is = λ w f t is.
             let a = k.is w f t is in
             let r = parts (nodes_of s) s.roots w f t v.pid a.0 a.1 a.2 in
-            let b = behind a.1 r.3.0 (some_is r.3.0 v.node (sym r.3.1.live ∙ node_at s v k.read.live)) r.3.2 in
+            let b = behind a.1 r.3.0 (some_is (sym r.3.1.live ∙ node_at s v k.read.live)) r.3.2 in
             (a.0 ++ v.pid ∷ [], b.0, a.2 ∙ ap (λ z. a.0 ++ v.pid ∷ z) (b.1 ∙ ap (λ p. p ∷ b.0) (sym x.0)) ∙ sym (append_assoc a.0 (v.pid ∷ []) (u.pid ∷ b.0)), fewer looked (length a.1) (length b.0) (tree_pages s t) a.3 (ap length b.1), all_here a.0 a.4);
       }
     where
       behind : (ys : List ℕ) (d : Node) → d ≡ v.node → Run (nodes_of s) ys d.next d.hi None [] → (zs : List ℕ) × (ys ≡ q ∷ zs)
       behind [] d e r = none_some (sym r.0 ∙ ap (λ (z : Node). z.next) (e ∙ sym at) ∙ next)
-      behind (y ∷ ys) d e r = (ys, ap (λ p. p ∷ ys) (some_is y q (sym r.1.here ∙ ap (λ (z : Node). z.next) (e ∙ sym at) ∙ next)))
+      behind (y ∷ ys) d e r = (ys, ap (λ p. p ∷ ys) (some_is (sym r.1.here ∙ ap (λ (z : Node). z.next) (e ∙ sym at) ∙ next)))
 
       fewer : (l b c n : ℕ) → l + b ≤ n → b ≡ suc c → (l + 1) + c ≤ n
       fewer l b c n h e = omega arith

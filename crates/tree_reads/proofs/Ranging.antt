@@ -7,6 +7,7 @@ use Rattle.std.specs.declared.cmp.Ordering.{Ordering}
 use Rattle.std.specs.declared.cmp.Ordering.TheVariants.{Less, Equal, Greater}
 use Rattle.std.specs.declared.ops.Bound.{Bound}
 use Rattle.std.specs.declared.ops.Bound.TheVariants.{Included, Excluded, Unbounded}
+use Rattle.sled_nodes.proofs.Basics.{false_true, not_true, left_of, right_of, is_less, key_total}
 use Rattle.sled_nodes.specs.Order.{Key, key_cmp, Below}
 use Rattle.sled_store.specs.In.{In}
 use Rattle.sled_nodes.specs.Among.{is_up_to, is_from, IsFirst, IsLast, IsSuccessor, IsPredecessor}
@@ -16,7 +17,7 @@ use Rattle.sled_store.specs.Store.{Store, now, AreGiven}
 use Rattle.sled_store.specs.declared.page.View.{View}
 use Rattle.tree_laws.specs.Forest.{contents}
 use Rattle.tree_laws.specs.Contents.{pairs_under}
-use Rattle.tree_laws.proofs.Order.{key_total, below_irrefl, below_upto-trans, upto_below-trans, upto-trans}
+use Rattle.tree_laws.proofs.Order.{below_irrefl, below_upto-trans, upto_below-trans, upto-trans}
 use Rattle.tree_laws.proofs.Fuel.{contents_law}
 use Rattle.tree_laws.proofs.Reading.{sorted_law}
 use Rattle.tree_reads.specs.Leaves.{OfContents, SeeksAt, SeeksBackAt}
@@ -26,17 +27,6 @@ use Rattle.tree_reads.proofs.Turning.{lower}
 use Rattle.tree_reads.proofs.Seeking.{none_at, all_at, in_join, higher, above, under, nothing_below, seeks_on}
 use Rattle.tree_reads.proofs.Backing.{back_on}
 
-false_true : {P : Type 0} → false ≡ true → P
-false_true e = cc
-
-fst : (a b : Bool) → T (a && b) → T a
-fst true b p = tt
-fst false b p = p
-
-snd : (a b : Bool) → T (a && b) → T b
-snd true b p = p
-snd false b p = absurd p
-
 less : {o : Ordering} → T (is_lt o) → o ≡ Less
 less {o = Less} p = refl
 less {o = Equal} p = absurd p
@@ -44,7 +34,7 @@ less {o = Greater} p = absurd p
 
 each_above : (k : Key) (es : List (Key × Key)) → T (below_all key_cmp k es) → AllByRecursion (λ e. Below k e.0) es
 each_above k [] p = tt
-each_above k (e ∷ es) p = (less (fst _ _ p), each_above k es (snd _ _ p))
+each_above k (e ∷ es) p = (less (left_of _ _ p), each_above k es (right_of _ _ p))
 
 at_seam : (k : Key) (zs : List (Key × Key)) (y : Key × Key) (ys : List (Key × Key)) → AllByRecursion (λ e. Below k e.0) (zs ++ y ∷ ys) → Below k y.0
 at_seam k [] y ys a = a.0
@@ -52,8 +42,8 @@ at_seam k (z ∷ zs) y ys a = at_seam k zs y ys a.1
 
 -- what stands before an entry of a sorted list is below it, and what stands behind it above
 around : (xs : List (Key × Key)) (y : Key × Key) (ys : List (Key × Key)) → T (is_sorted key_cmp (xs ++ y ∷ ys)) → AllByRecursion (λ e. Below e.0 y.0) xs × AllByRecursion (λ e. Below y.0 e.0) ys
-around [] y ys p = (tt, each_above y.0 ys (fst _ _ p))
-around (x ∷ xs) y ys p = let r = around xs y ys (snd _ _ p) in ((at_seam x.0 xs y ys (each_above x.0 (xs ++ y ∷ ys) (fst _ _ p)), r.0), r.1)
+around [] y ys p = (tt, each_above y.0 ys (left_of _ _ p))
+around (x ∷ xs) y ys p = let r = around xs y ys (right_of _ _ p) in ((at_seam x.0 xs y ys (each_above x.0 (xs ++ y ∷ ys) (left_of _ _ p)), r.0), r.1)
 
 -- filters
 filter_none : {X : Type 0} (test : X → Bool) (xs : List X) → ((x : X) → In x xs → test x ≡ false) → filter test xs ≡ []
@@ -223,24 +213,15 @@ not_lt a b h = go (key_cmp b a) refl
     go Equal e = ap is_gt e
     go Greater e = false_true (sym (ap (λ o. not (is_lt o)) (key_total.antisymm a b ∙ ap ordering_reverse e)) ∙ h)
 
-is_less : (o : Ordering) → is_lt o ≡ true → o ≡ Less
-is_less Less e = refl
-is_less Equal e = cc
-is_less Greater e = cc
-
-untrue : (b : Bool) → not b ≡ true → b ≡ false
-untrue true e = cc
-untrue false e = refl
-
 greatest : (o : Ordering) → is_gt o ≡ true → o ≡ Greater
 greatest Less e = cc
 greatest Equal e = cc
 greatest Greater e = refl
 
 none_from : (lo hi : Bound Key) → is_reversed lo hi ≡ true → (k : Key) → is_up_to hi k ≡ true → is_from lo k ≡ false
-none_from (Included a) (Included b) r k u = ap (λ o. not (is_lt o)) (upto_below-trans k b a (untrue _ u) (under a b (greatest _ r)))
+none_from (Included a) (Included b) r k u = ap (λ o. not (is_lt o)) (upto_below-trans k b a (not_true _ u) (under a b (greatest _ r)))
 none_from (Included a) (Excluded b) r k u = ap (λ o. not (is_lt o)) (below_upto-trans k b a (is_less _ u) (not_lt a b r))
-none_from (Excluded a) (Included b) r k u = upto-trans k b a (untrue _ u) (not_lt a b r)
+none_from (Excluded a) (Included b) r k u = upto-trans k b a (not_true _ u) (not_lt a b r)
 none_from (Excluded a) (Excluded b) r k u = ap is_gt (below_upto-trans k b a (is_less _ u) (not_lt a b r))
 none_from Unbounded (Excluded b) r k u = absurd (nothing_below k (below_upto-trans k b [] (is_less _ u) (not_lt [] b r)))
 none_from Unbounded (Included b) r k u = false_true r

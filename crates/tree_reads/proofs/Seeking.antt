@@ -1,5 +1,5 @@
 -- From leaf to leaf, to the right.
-use Rattle.std.proofs.Common.{◌≡◌, ◌≢◌, ◌⊎◌, ℕ, suc, ◌+◌, ◌<◌, ◌≤◌, Bool, true, false, not, ◌||◌, List, [], ◌∷◌, ◌++◌, length, Option, Some, None, option_map, sym, refl, ap, ◌∙◌, subst, inl, inr, append_assoc, arith}
+use Rattle.std.proofs.Common.{◌≡◌, ◌≢◌, ◌⊎◌, ℕ, suc, ◌+◌, ◌<◌, ◌≤◌, Bool, true, false, not, List, [], ◌∷◌, ◌++◌, length, Option, Some, None, option_map, sym, refl, ap, ◌∙◌, subst, inl, inr, append_assoc, arith}
 use Rattle.std.specs.List.{list_any, AllByRecursion}
 use Rattle.std.specs.Ordering.{is_lt, is_gt, ordering_reverse}
 use Rattle.std.specs.declared.cmp.Ordering.{Ordering}
@@ -10,6 +10,7 @@ use Rattle.sled_nodes.specs.Order.{Key, key_cmp, Below, UpTo}
 use Rattle.sled_store.specs.In.{In}
 use Rattle.sled_nodes.specs.Among.{is_up_to, is_from, IsFirst, IsSuccessor}
 use Rattle.std.specs.FinMap.Entries.{find}
+use Rattle.sled_nodes.proofs.Basics.{none_some, false_true, not_true, first_false, second_false, or_false, key_total}
 use Rattle.sled_nodes.specs.Node.{pairs, value_at, Covers}
 use Rattle.sled_nodes.specs.declared.node.Data.{Data}
 use Rattle.sled_nodes.specs.declared.node.Data.TheVariants.{Leaf, Index}
@@ -20,7 +21,7 @@ use Rattle.sled_store.specs.declared.page.Page.{Page}
 use Rattle.sled_store.specs.declared.page.View.{View}
 use Rattle.tree_laws.specs.Forest.{Tree, Forest, place, contents}
 use Rattle.tree_laws.specs.Paths.{IsAhead, tree_pages}
-use Rattle.tree_laws.proofs.Order.{key_total, upto-refl, below_upto-trans, below_not_upto, below-trans}
+use Rattle.tree_laws.proofs.Order.{upto-refl, below_upto-trans, below_not_upto, below-trans}
 use Rattle.tree_laws.proofs.Runs.{In-right}
 use Rattle.tree_laws.proofs.Looking.{next_in, next_some, ahead_next}
 use Rattle.tree_laws.proofs.Reading.{range_law, find_law}
@@ -29,16 +30,6 @@ use Rattle.tree_reads.specs.Leaves.{OfContents, Seeks}
 use Rattle.tree_reads.specs.theory.Leaves.{StartsAt}
 use Rattle.tree_reads.specs.declared.TheConstants.{MOST_PAGES}
 use Rattle.tree_reads.proofs.Walking.{viewed, gone}
-
-none_some : {P X : Type 0} {x : X} → None ≡ Some x → P
-none_some e = cc
-
-pub not_true : (b : Bool) → not b ≡ true → b ≡ false
-not_true true e = cc
-not_true false e = refl
-
-false_true : {P : Type 0} → false ≡ true → P
-false_true e = cc
 
 pub above : (a b : Key) → Below a b → key_cmp b a ≡ Greater
 above a b h = key_total.antisymm b a ∙ ap ordering_reverse h
@@ -94,30 +85,18 @@ in_left [] ys x i = absurd i
 in_left (z ∷ xs) ys x (inl e) = inl e
 in_left (z ∷ xs) ys x (inr i) = inr (in_left xs ys x i)
 
-or_false : (a b : Bool) → a ≡ false → b ≡ false → (a || b) ≡ false
-or_false true b e f = e
-or_false false b e f = f
-
-or_left : (a b : Bool) → (a || b) ≡ false → a ≡ false
-or_left true b e = e
-or_left false b e = refl
-
-or_right : (a b : Bool) → (a || b) ≡ false → b ≡ false
-or_right true b e = cc
-or_right false b e = e
-
 pub none_of : {X : Type 0} (test : X → Bool) (xs : List X) → ((x : X) → In x xs → test x ≡ false) → list_any test xs ≡ false
 none_of test [] k = refl
 none_of test (x ∷ xs) k = or_false (test x) (list_any test xs) (k x (inl refl)) (none_of test xs (λ y i. k y (inr i)))
 
 pub none_at : {X : Type 0} (test : X → Bool) (xs : List X) (x : X) → In x xs → list_any test xs ≡ false → test x ≡ false
 none_at test [] x i e = absurd i
-none_at test (y ∷ ys) x (inl e) f = ap test e ∙ or_left (test y) (list_any test ys) f
-none_at test (y ∷ ys) x (inr i) f = none_at test ys x i (or_right (test y) (list_any test ys) f)
+none_at test (y ∷ ys) x (inl e) f = ap test e ∙ first_false (test y) (list_any test ys) f
+none_at test (y ∷ ys) x (inr i) f = none_at test ys x i (second_false (test y) (list_any test ys) f)
 
 pub none_join : {X : Type 0} (test : X → Bool) (xs ys : List X) → list_any test xs ≡ false → list_any test ys ≡ false → list_any test (xs ++ ys) ≡ false
 none_join test [] ys e f = f
-none_join test (x ∷ xs) ys e f = or_false (test x) (list_any test (xs ++ ys)) (or_left (test x) (list_any test xs) e) (none_join test xs ys (or_right (test x) (list_any test xs) e) f)
+none_join test (x ∷ xs) ys e f = or_false (test x) (list_any test (xs ++ ys)) (first_false (test x) (list_any test xs) e) (none_join test xs ys (second_false (test x) (list_any test xs) e) f)
 
 pub all_at : {X : Type 0} (Q : X → Type 0) (xs : List X) (x : X) → In x xs → AllByRecursion Q xs → Q x
 all_at Q [] x i a = absurd i

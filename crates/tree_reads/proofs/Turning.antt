@@ -2,10 +2,9 @@
 use Rattle.std.proofs.Common.{◌≡◌, ◌≢◌, ◌⊎◌, ℕ, suc, ◌<◌, ◌↔◌, IsTrue, Bool, true, false, not, List, [], ◌∷◌, length, Option, Some, None, sym, refl, ap, ◌∙◌, subst, inl, inr}
 use Rattle.std.specs.List.{list_any}
 use Rattle.std.specs.Ordering.{is_lt, is_gt}
-use Rattle.std.specs.declared.cmp.Ordering.{Ordering}
-use Rattle.std.specs.declared.cmp.Ordering.TheVariants.{Less, Equal, Greater}
 use Rattle.std.specs.declared.ops.Bound.{Bound}
 use Rattle.std.specs.declared.ops.Bound.TheVariants.{Included, Excluded, Unbounded}
+use Rattle.sled_nodes.proofs.Basics.{some_is, not_true, is_less}
 use Rattle.sled_nodes.specs.Order.{Key, key_cmp, Below}
 use Rattle.sled_store.specs.In.{In}
 use Rattle.sled_nodes.specs.Among.{is_up_to, IsPointer, IsPointerFor, IsBefore, IsPointerBefore}
@@ -18,7 +17,6 @@ use Rattle.tree_laws.specs.Forest.{Tree, Forest, place, WellFormed, Holds}
 use Rattle.tree_laws.specs.Paths.{NeedsNoRepair, IsAhead}
 use Rattle.tree_laws.proofs.Order.{upto-below, below_upto-trans, below-trans}
 use Rattle.tree_laws.proofs.Runs.{In-right}
-use Rattle.tree_laws.proofs.Replace.{some_is}
 use Rattle.tree_laws.proofs.Cover.{holds_at}
 use Rattle.tree_laws.proofs.Known.{leaf_in, index_high, sound_at}
 use Rattle.tree_laws.proofs.Looking.{next_in, next_some, ahead_next, ahead_down, pointer_in, last_in, clean_page, clean_down}
@@ -27,16 +25,9 @@ use Rattle.tree_laws.proofs.Before.{before_child_law, leads_down_law}
 use Rattle.tree_reads.specs.Walk.{IsUnder}
 use Rattle.tree_reads.specs.theory.Walk.{IsIndex, LiesBehind, Stands, turns_as, Turns}
 
-none_some : {P X : Type 0} {x : X} → None ≡ Some x → P
-none_some e = cc
-
 -- the page stands in its chain
 standing : {nodes : Nodes} {w : Forest} {t : Tree} {target : Bound Key} {p ahead : ℕ} → (s : Stands nodes w t target p ahead) → In p (w.chain (place t s.height))
 standing {p = p} s = subst (λ l. In p l) (sym s.is.is) (In-right s.is.before (p ∷ s.is.behind) p (inl refl))
-
-not_true : (b : Bool) → not b ≡ true → b ≡ false
-not_true true e = cc
-not_true false e = refl
 
 -- the key of a page that is passed does not lie behind it
 not_behind : (target : Bound Key) (nodes : Nodes) (key : Key) (p : ℕ) (first : Bool) (n : Node) → target ≡ Included key → NeedsNoRepair nodes (Included key) p first n → LiesBehind target n → ⊥
@@ -86,7 +77,7 @@ untrue b told e p = apart b e (told.1 p)
 pub turns_leaf : (target : Bound Key) (n : Node) (es : List (Key × Key)) (b : Bool) → IsTrue b ↔ LiesBehind target n → b ≡ false → n.content ≡ Leaf es → Turns target n None
 turns_leaf target n es b told off leaf = record {
   is = λ nodes roots w f t p ahead live s. (
-    under target n s.node (untrue b told off) (some_is s.node n (sym s.live ∙ live)) s.begins,
+    under target n s.node (untrue b told off) (some_is (sym s.live ∙ live)) s.begins,
     subst (λ h. In p (w.chain (place t h))) (leaf_in f t s.height p n es (standing s) live leaf) (standing s),
   );
   clean = λ nodes key p first path is live c. tt;
@@ -112,7 +103,7 @@ turns_nowhere target n index none = record {
       let es = index_of n.content index in
       let g = above f t s.height p n es.0 (standing s) live es.1 in
       let i : In p (w.chain (place t (suc g.0))) = subst (λ h. In p (w.chain (place t h))) g.1 (standing s) in
-      let same : s.node ≡ n = some_is s.node n (sym s.live ∙ live) in
+      let same : s.node ≡ n = some_is (sym s.live ∙ live) in
       absurd (apart (sym (leads_down_law g.0 n target es.0 (sound_at f (place t (suc g.0)) p n i live) es.1 (ap (λ (z : Node). is_up_to target z.lo) (sym same) ∙ s.begins)) ∙ ap (λ d. list_any (λ e. is_up_to target e.0) (pointers d)) (sym es.1) ∙ none));
   clean = λ nodes key p first path is live c. tt;
 }
@@ -136,15 +127,10 @@ turns_down target n c b index k off = record {
       (b, d.0, ap length d.1, d.2);
 }
 
-less : (o : Ordering) → is_lt o ≡ true → o ≡ Less
-less Less e = refl
-less Equal e = cc
-less Greater e = cc
-
 -- what is below a key within the bound is within it
 pub lower : (target : Bound Key) (a b : Key) → Below a b → is_up_to target b ≡ true → is_up_to target a ≡ true
 lower (Included e) a b l u = ap not (upto-below a e (below_upto-trans a b e l (not_true (is_gt (key_cmp b e)) u)))
-lower (Excluded e) a b l u = ap is_lt (below-trans a b e l (less (key_cmp b e) u))
+lower (Excluded e) a b l u = ap is_lt (below-trans a b e l (is_less (key_cmp b e) u))
 lower Unbounded a b l u = refl
 
 -- or by the one before it,
@@ -171,5 +157,5 @@ turns_before target n c first found index last child before = record {
         let o = before_law (suc g) n c b (sound_at f (place t (suc g)) p n i live) k in
         let u = f.pointer t g p n i live k.key c o.0 in
         let v = f.pointer t g p n i live last.key c (last_in last).0 in
-        let same : k.key ≡ last.key = sym u.key ∙ ap (λ (z : Node). z.lo) (some_is u.node v.node (sym u.live ∙ v.live)) ∙ v.key in
+        let same : k.key ≡ last.key = sym u.key ∙ ap (λ (z : Node). z.lo) (some_is (sym u.live ∙ v.live)) ∙ v.key in
         steps_down f t target g p b ahead d.0 a d.1 d.2 (ap (is_up_to target) d.3 ∙ lower target k.low k.key d.4 (ap (is_up_to target) same ∙ last.last.passed))

@@ -2,6 +2,7 @@
 use Rattle.std.proofs.Common.{◌≡◌, ℕ, suc, ◌+◌, ◌<◌, ◌≤◌, Bool, true, List, [], ◌∷◌, length, Option, Some, None, option_map, sym, refl, ap, ◌∙◌, subst, inl, arith}
 use Rattle.std.specs.declared.ops.Bound.{Bound}
 use Rattle.std.specs.declared.ops.Bound.TheVariants.{Included}
+use Rattle.sled_nodes.proofs.Basics.{none_some, some_is}
 use Rattle.sled_nodes.specs.Order.{Key}
 use Rattle.sled_store.specs.In.{In}
 use Rattle.sled_nodes.specs.Among.{is_up_to}
@@ -14,13 +15,9 @@ use Rattle.tree_laws.specs.Paths.{CleanFrom, IsAhead, tree_pages}
 use Rattle.tree_laws.proofs.Known.{root_in}
 use Rattle.tree_laws.proofs.Runs.{In-right}
 use Rattle.tree_laws.proofs.Looking.{ahead_at, ahead_few, pages_law}
-use Rattle.tree_laws.proofs.Replace.{some_is}
 use Rattle.tree_reads.specs.Walk.{IsLeafFor, HasTooMany}
 use Rattle.tree_reads.specs.theory.Walk.{Stands, Turns}
 use Rattle.tree_reads.specs.declared.TheConstants.{MOST_PAGES}
-
-none_some : {P X : Type 0} {x : X} → None ≡ Some x → P
-none_some e = cc
 
 -- A walk stands at the page, at every forest, and all the pages that it looked at and that are ahead are the tree's; and along
 -- a clean path so many are left of the path
@@ -52,7 +49,7 @@ walk_first s root target from k begins = record {
 
 pub viewed : (pid : ℕ) (page : Option Page) (v : View) → Some v ≡ view_of pid page → (v.pid ≡ pid) × (page ≡ Some (record { version = v.version; node = v.node }))
 viewed pid None v e = none_some (sym e)
-viewed pid (Some g) v e = let is = some_is v (record { pid = pid; version = g.version; node = g.node }) e in (ap (λ (z : View). z.pid) is, ap (λ (z : View). Some (record { version = z.version; node = z.node })) (sym is))
+viewed pid (Some g) v e = let is = some_is e in (ap (λ (z : View). z.pid) is, ap (λ (z : View). Some (record { version = z.version; node = z.node })) (sym is))
 
 pub gone : (pid : ℕ) (page : Option Page) → None ≡ view_of pid page → page ≡ None
 gone pid None e = refl
@@ -115,7 +112,7 @@ module _ (s : State) (root : ℕ) (target : Bound Key) (from pid looked : ℕ) (
       lower w f t p ahead stands i = (ahead, subst (λ h. IsAhead w t h p ahead) (same_height w f t p stands.height 0 stands.is i) stands.is, no_less ahead)
         where
           same_height : (w : Forest) → WellFormed (nodes_of s) s.roots w → (t : Tree) (p h g : ℕ) → IsAhead w t h p ahead → In p (w.chain (place t g)) → h ≡ g
-          same_height w f t p h g a i = ap (λ (x : Place). x.height) (some_is (place t h) (place t g) (sym (f.homed (place t h) p (in_chain a)) ∙ f.homed (place t g) p i))
+          same_height w f t p h g a i = ap (λ (x : Place). x.height) (some_is (sym (f.homed (place t h) p (in_chain a)) ∙ f.homed (place t g) p i))
             where
               in_chain : IsAhead w t h p ahead → In p (w.chain (place t h))
               in_chain a = subst (λ l. In p l) (sym a.is) (In-right a.before (p ∷ a.behind) p (inl refl))

@@ -7,6 +7,7 @@ use Rattle.std.proofs.Common.{cond, append-nil, ◌≡◌, ℕ, zero, suc, ◌+�
 use Rattle.std.specs.List.{AllByRecursion}
 use Rattle.std.specs.declared.ops.Bound.{Bound}
 use Rattle.std.specs.declared.ops.Bound.TheVariants.{Included, Excluded, Unbounded}
+use Rattle.sled_nodes.proofs.Basics.{none_some, some_is, false_true, true_false, second_true}
 use Rattle.sled_nodes.specs.Among.{is_from, is_up_to}
 use Rattle.sled_nodes.specs.Node.{pairs, Covers}
 use Rattle.sled_nodes.specs.Order.{Key, key_cmp, Below, UpTo}
@@ -23,24 +24,8 @@ use Rattle.sled_tree.specs.declared.flight.Aim.TheVariants.{Own, At}
 use Rattle.sled_tree.specs.declared.flight.InFlight.{InFlight}
 use Rattle.tree_scans.specs.Scans.{range_from, range_up, range_down, range_behind, rest_in, rest_of, waiting_in, waiting_of, aim_behind, behind}
 
-true_false : {X : Type 0} → true ≡ false → X
-true_false e = cc
-
-false_true : {X : Type 0} → false ≡ true → X
-false_true e = cc
-
-some_is : {X : Type 0} {x y : X} → Some x ≡ Some y → x ≡ y
-some_is e = cc
-
-none_some : {P X : Type 0} {x : X} → None ≡ Some x → P
-none_some e = cc
-
 cons_none : {P X : Type 0} {x : X} {xs : List X} → x ∷ xs ≡ [] → P
 cons_none e = cc
-
-second : (a b : Bool) → (a && b) ≡ true → b ≡ true
-second true b e = e
-second false b e = false_true e
 
 -- a scan that begins has all of its range to read, and nothing waits
 pub rest_begun : (o : Option Range) → rest_in stage.Root Own o ≡ o
@@ -281,7 +266,7 @@ module _ (n : Node) (lo hi : Bound Key) (k : Key) (start : IsStart lo k) (begins
             (λ u. rest_alone _ _ _ (and_false (is_from lo j) _ (not_below j h u)) (ap (λ x. x && is_up_to hi j) (in_rest j u ∙ sym (from_end j u))));
         before = λ i j in_part in_other. below_or_upto j h
             (λ l. absurd (false_true (sym (false_and _ (is_up_to hi j) (off_rest j l)) ∙ in_other)))
-            (λ u. below_upto-trans i h j (lt_below i h (second (is_from lo i) _ in_part)) u);
+            (λ u. below_upto-trans i h j (lt_below i h (second_true (is_from lo i) _ in_part)) u);
       }
 
       same_up : (before es behind all : List (Key × Key)) → all ≡ before ++ (es ++ behind) → AllByRecursion (λ e. Below e.0 n.lo) before → AllByRecursion (λ e. Below e.0 h) es → AllByRecursion (λ e. UpTo h e.0) behind → pairs_in up es ≡ pairs_in part_up all
@@ -372,7 +357,7 @@ module _ (n : Node) (lo hi : Bound Key) (begins : is_up_to hi n.lo ≡ true) whe
             (λ u. part_alone _ _ _ (ap (λ x. x && is_up_to hi j) (in_part j u ∙ sym (from_start j u))) (and_false (is_from lo j) _ (not_below j n.lo u)));
         before = λ i j in_it in_other. below_or_upto i n.lo
             (λ l. absurd (false_true (sym (false_and _ (is_up_to hi i) (off_part i l)) ∙ in_it)))
-            (λ u. below_upto-trans j n.lo i (lt_below j n.lo (second (is_from lo j) _ in_other)) u);
+            (λ u. below_upto-trans j n.lo i (lt_below j n.lo (second_true (is_from lo j) _ in_other)) u);
       }
 
       same_down : (before es behind all : List (Key × Key)) → all ≡ before ++ (es ++ behind) → AllByRecursion (λ e. Below e.0 n.lo) before → AllByRecursion (λ e. UpTo n.lo e.0) es → AllByRecursion (λ e. IsBehind e.0) behind → pairs_in down es ≡ pairs_in part_down all

@@ -1,5 +1,6 @@
 -- Attempts, one after the other.
-use Rattle.std.proofs.Common.{◌≡◌, ℕ, ◌+◌, ◌≤◌, nat_lt, Bool, true, false, ◌&&◌, List, [], ◌∷◌, inl, inr, Err, Result, add-one, refl, sym, ap, subst, ◌∙◌, arith}
+use Rattle.std.proofs.Common.{◌≡◌, ℕ, ◌+◌, ◌≤◌, nat_lt, Bool, true, false, List, [], ◌∷◌, inl, inr, Err, Result, add-one, refl, sym, ap, subst, ◌∙◌, arith}
+use Rattle.sled_nodes.proofs.Basics.{second_true}
 use Rattle.sled_nodes.specs.declared.error.Error.{Error}
 use Rattle.sled_nodes.specs.declared.error.Error.TheVariants.{CollectionNotFound, Unsupported, ReportableBug, Io, Corruption, NoMemory, Closed}
 use Rattle.sled_store.specs.Store.{Store, is_refused_as}
@@ -33,13 +34,9 @@ refused_only Closed old new h = absurd h
 raised_above : (mark : ℕ) → nat_lt mark greatest_of_all ≡ true → mark ≤ raised mark
 raised_above mark h = grind arith
 
-second_of : (a b : Bool) → a && b ≡ true → b ≡ true
-second_of true b e = e
-second_of false b e = cc
-
 aside_only : (greatest : ℕ) (old new : Store) (b : Bool) → is_short greatest old.mark ≡ b → sets_aside_as b old new → OnlyRaises old new
 aside_only greatest old new false e h = subst (OnlyRaises old) (sym h) (only_same old)
-aside_only greatest old new true e (inl h) = subst (OnlyRaises old) (sym h) (record { is = refl; mark = raised_above old.mark (second_of _ _ e); faults = omega arith })
+aside_only greatest old new true e (inl h) = subst (OnlyRaises old) (sym h) (record { is = refl; mark = raised_above old.mark (second_true _ _ e); faults = omega arith })
 aside_only greatest old new true e (inr h) = refused_only h.0 old new h.1.is
 
 pub sets_only : (greatest : ℕ) (old new : Store) → SetsAside greatest old new → OnlyRaises old new

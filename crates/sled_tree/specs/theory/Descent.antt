@@ -75,7 +75,7 @@ descends_as s j a descent.Lost b = Leads s j a (Go stage.Root)
 descends_as s j a (descent.Refused e) b = Leads s j a (Refused e)
 
 -- a step that reads a page, up to what comes next; or the stage stays, and its leaf may have been read, or a page where something is to be
--- repaired
+-- repaired or which does not lie under the aim
 pub record Descends (s : Store) (j : Course) (a : Stage) (d : Descent) (b : Stage) : Type 0 where
   pub is : descends_as s j a d b
 

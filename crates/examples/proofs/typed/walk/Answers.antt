@@ -1,17 +1,10 @@
-use Rattle.std.proofs.Common.{◌∙◌, Result, Ok, Err, IfOk, IfErr}
+use Rattle.std.proofs.Common.{◌∙◌, Ok}
+use Rattle.sled_nodes.proofs.Basics.{ok_weaker, err_weaker}
 use Rattle.examples.proofs.Walking.{walks, walks_foreign, ends_empty}
 use Rattle.examples.proofs.typed.walk.Goals as goal
 
 pub all_of-pairs-requires-after_bounds : goal.all_of-pairs-requires-after_bounds
 all_of-pairs-requires-after_bounds g c = λ κs lives. ends_empty g.P.Pages.store g.M.MergeOperator.meant _ _ g.K.Spelled.spelling g.V.Spelled.spelling g.met.K.Spelled.keeps_order _ _ _ c.in-Ok-range.ensures.ok
-
-ok_weaker : {A E : Type 0} (p q : A → Type 0) → ((a : A) → p a → q a) → (r : Result A E) → IfOk r p → IfOk r q
-ok_weaker p q h (Ok a) k = h a k
-ok_weaker p q h (Err e) k = tt
-
-err_weaker : {A E : Type 0} (p q : E → Type 0) → ((e : E) → p e → q e) → (r : Result A E) → IfErr r p → IfErr r q
-err_weaker p q h (Ok a) k = tt
-err_weaker p q h (Err e) k = h e k
 
 pub returns-clause-ok : goal.returns-clause-ok
 returns-clause-ok g c = ok_weaker _ _ (λ found is. walks g.P.Pages.store g.M.MergeOperator.meant _ _ g.K.Spelled.spelling g.V.Spelled.spelling g.met.K.Spelled.keeps_order _ _ _ _ c.in-Ok.ensures.are_values.0 c.in-Ok.ensures.are_values.1 (c.borrowed.ensures ∙ c.in-Ok.ensures.lo) (c.borrowed-2.ensures ∙ c.in-Ok.ensures.hi)

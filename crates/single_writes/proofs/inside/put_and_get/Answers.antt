@@ -1,10 +1,10 @@
 use Rattle.std.proofs.Common.{◌≡◌, Option, Some, Result, Ok, Err, IfOk, sym, ap, subst, ◌∙◌, cond, is_eq}
 use Rattle.std.proofs.lemmas.Cmp.{tied_itself}
 use Rattle.std.specs.FinMap.Entries.{find, put, find-put}
+use Rattle.sled_nodes.proofs.Basics.{key_total}
 use Rattle.sled_nodes.specs.Order.{Key, key_cmp}
 use Rattle.sled_batch.specs.Batch.{Writes}
 use Rattle.sled_store.specs.Store.{Store}
-use Rattle.tree_laws.proofs.Order.{key_total}
 use Rattle.tree_transactions.specs.Trees.{Shows, Records}
 use Rattle.tree_transactions.specs.declared.tree.TransactionalTree.{TransactionalTree}
 use Rattle.single_writes.proofs.inside.put_and_get.Goals as goal

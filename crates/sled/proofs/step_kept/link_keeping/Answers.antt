@@ -1,13 +1,13 @@
+use Rattle.sled_tree.proofs.Linking.{leaf_of}
 use Rattle.std.proofs.Common.{Some, sym, refl, ap, ◌∙◌, subst}
 use Rattle.sled_tree.specs.theory.Linking.{replies_with}
 use Rattle.sled.specs.theory.Watched.{TellsPrepared}
-use Rattle.sled.proofs.Watching.{at_link}
 use Rattle.sled.proofs.KeptSteps.{told_short, keeps_none}
 use Rattle.sled.proofs.step_kept.link_keeping.Goals as goal
 
 pub returns-in-Err-clause-links : goal.returns-in-Err-clause-links
 returns-in-Err-clause-links g c =
-    let at = at_link c.args.flight.now.stage c.requires.here in
+    let at = leaf_of c.args.flight.now.stage c.requires.here in
     told_short c.args.change (g.P.Pages.store c.args.pages.now) c.args.flight.now at.0 at.1 c.in-Err.e c.in-Err.ensures.err.0 c.args.queues.now c.args.queues.now refl
 
 pub returns-in-Decided-clause-links : goal.returns-in-Decided-clause-links

@@ -1,12 +1,10 @@
-use Rattle.std.proofs.Common.{rules, ◌≡◌, sym, ◌∙◌, None, Some}
+use Rattle.std.proofs.Common.{rules, ◌≡◌, sym, ◌∙◌}
 use Rattle.std.specs.List.{insert}
+use Rattle.sled_nodes.proofs.Basics.{none_some}
 use Rattle.sled_nodes.specs.Order.{key_cmp}
 use Rattle.sled_nodes.specs.theory.Rising.{IsHit, IsGap}
 use Rattle.sled_nodes.proofs.Rising.{hit_found, gap_goes}
 use Rattle.sled.proofs.tree_list.put_tree.Goals as goal
-
-none_some : {X : Type 0} {x : X} → None ≡ Some x → ⊥
-none_some e = cc
 
 pub unreachable-requires : goal.unreachable-requires
 unreachable-requires c =

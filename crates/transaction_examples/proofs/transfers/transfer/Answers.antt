@@ -1,5 +1,6 @@
 use Rattle.std.proofs.Common.{rules}
-use Rattle.transaction_examples.proofs.Attempted.{on_ok, if_err}
+use Rattle.sled_nodes.proofs.Basics.{err_weaker}
+use Rattle.transaction_examples.proofs.Attempted.{on_ok}
 use Rattle.transaction_examples.proofs.Transferring.{transfer_made, transfer_not_made, transfer_keeps}
 use Rattle.transaction_examples.proofs.transfers.transfer.Goals as goal
 
@@ -8,7 +9,7 @@ returns-clause-ok g c = on_ok _ _ (λ a made. transfer_made g.P.Pages.store g.P.
     a made (λ shown left answer k. search rules)) c.transaction.result c.transaction.ensures.ok
 
 pub returns-clause-err : goal.returns-clause-err
-returns-clause-err g c = if_err _ _ (λ e not. transfer_not_made g.P.Pages.store g.P.Pages.flush_number g.M.MergeOperator.meant _ _ _ c.args.db.now c.transaction.new.self c.args.tree.now c.args.from.now c.args.to.now c.args.amount c.law_shows.ensures.tree c.audit.ensures.sound
+returns-clause-err g c = err_weaker _ _ (λ e not. transfer_not_made g.P.Pages.store g.P.Pages.flush_number g.M.MergeOperator.meant _ _ _ c.args.db.now c.transaction.new.self c.args.tree.now c.args.from.now c.args.to.now c.args.amount c.law_shows.ensures.tree c.audit.ensures.sound
     e not (λ shown left answer k. search rules)) c.transaction.result c.transaction.ensures.err
 
 pub returns-clause-kept : goal.returns-clause-kept

@@ -1,5 +1,6 @@
 use Rattle.std.proofs.Common.{refl}
-use Rattle.sled_calls.proofs.Machines.{untested_as, caused_as, memory_as, err_weaker}
+use Rattle.sled_nodes.proofs.Basics.{err_weaker}
+use Rattle.sled_calls.proofs.Machines.{untested_as, caused_as, memory_as}
 use Rattle.sled_calls.proofs.machine.Machine.admit.Goals as goal
 
 pub returns-in-Err-clause-err : goal.returns-in-Err-clause-err
