@@ -16,12 +16,12 @@ use Rattle.tree_laws.proofs.Crashing.{extends_same}
 use Rattle.sled.specs.Groups.{GroupDecided, GroupRefused}
 use Rattle.sled.specs.Sound.{MapsAscend}
 use Rattle.sled.specs.Values.{DbValue, db_state}
+use Rattle.sled.proofs.Written.{after_both}
 use Rattle.examples.specs.Batches.{batch_size, with_pairs, LeavesBatches, written, LoadsBatch, StopsBatch}
 use Rattle.examples.specs.Reads.{maps_now}
 use Rattle.examples.proofs.Leaving.{left_by}
 use Rattle.examples.proofs.Loading.{with_none, with_more, batch_puts, next_taken, next_left}
 use Rattle.examples.proofs.Stocking.{first_there}
-use Rattle.examples.proofs.Written.{writes_then}
 
 pub none_left : (rest : Map) → length rest ≡ 0 → rest ≡ []
 none_left [] e = refl
@@ -36,7 +36,7 @@ module _ {P M : Type 0} (store : P → Store) (meant : M → Merge) where
         let made = d.decides (λ n. None) 0 in
         let n = first_there (db_state store meant old) tree [] made.free in
         record {
-          maps = batch_puts tree pairs (db_state store meant old) (db_state store meant new) n.0 n.1 (made.is ∙ writes_then (writes_on tree (written pairs [])) [] (db_state store meant old))
+          maps = batch_puts tree pairs (db_state store meant old) (db_state store meant new) n.0 n.1 (made.is ∙ after_both (writes_on tree (written pairs [])) [] (db_state store meant old))
               (subst T (sym (before.is tree.name n.0.map (ap (option_map (λ (t : NamedTree). t.map)) n.1))) tt) (λ name map there. subst T (sym (after.is name map there)) tt);
           adds = subst (λ l. AddsCrashStates l (store old.pages) (store new.pages)) made.added d.leaves.extends;
         }

@@ -14,7 +14,7 @@ use Rattle.examples.specs.Stock.{entry_key, Agree, item_taken, entry_taken, item
 
 -- ---- keys
 
-apart : (q k : Key) → is_eq (key_cmp q k) ≡ false → q ≢ k
+pub apart : (q k : Key) → is_eq (key_cmp q k) ≡ false → q ≢ k
 apart q k off same = false_true (sym off ∙ ap (λ x. is_eq (key_cmp x k)) same ∙ ap is_eq (tied_itself key_total k))
 
 pub same_or_apart : (q k : Key) → (q ≡ k) ⊎ (q ≢ k)

@@ -317,7 +317,7 @@ module _ {P M : Type 0} (store : P → Store) (meant : M → Merge) (d : DbValue
       record { tested = r.tested; named = r.named; there = r.there; is = copies_prefix prefix es r.named.map (record { has = λ q. h.has q ∙ ap (find key_cmp q) (is ∙ r.is) }) }
 
 -- a tree that passes the tests has its number
-second_none : (a b : Option MustRefuse) → first_of a b ≡ None → b ≡ None
+pub second_none : (a b : Option MustRefuse) → first_of a b ≡ None → b ≡ None
 second_none None b e = e
 second_none (Some m) b e = absurd cc
 

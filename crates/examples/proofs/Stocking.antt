@@ -30,13 +30,16 @@ use Rattle.sled.specs.Opens.{or_empty, with_tree, with_default, Opens}
 use Rattle.sled.specs.Reads.{ReadsMap}
 use Rattle.sled.specs.Sound.{IsDb}
 use Rattle.sled.specs.Values.{DbValue, db_state, numbers_of}
+use Rattle.sled.proofs.Grouped.{tested_open}
+use Rattle.sled.proofs.Written.{after_both}
 use Rattle.examples.specs.Reads.{found_in, maps_now}
 use Rattle.examples.specs.Stock.{entry_key, AgreeIn, Agrees, Moves, Stays, item_taken, entry_taken, item_put, entry_put}
 use Rattle.examples.proofs.Entering.{items_rise, entries_rise, lies, others, still_agree}
 use Rattle.examples.proofs.Leaving.{left_by, kept_all}
 use Rattle.examples.proofs.Opened.{map_of_named, numbered}
 use Rattle.examples.proofs.Streams.{opens}
-use Rattle.examples.proofs.Written.{Holds, batch_there, batch_elsewhere, writes_then}
+use Rattle.examples.proofs.Written.{Holds, batch_there, batch_elsewhere}
+use Rattle.examples.proofs.Following.{second_none}
 
 -- ---- two trees in maps
 
@@ -65,22 +68,9 @@ none_agree maps table index none = record {
 
 -- ---- tests
 
--- where the tests pass the database is open
-was_open : (s : State) (trees : List Tree) → must_refuse_of s trees ≡ None → s.is_open ≡ true
-was_open s trees e = go s.is_open (first_of (foreign_test s.name trees) (dropped_test s trees)) e
-  where
-    go : (b : Bool) (later : Option MustRefuse) → first_of (cond b None (Some IsClosed)) later ≡ None → b ≡ true
-    go true later e = refl
-    go false later e = none_some (sym e)
-
 first_free : (a b : Option MustRefuse) → first_of a b ≡ None → a ≡ None
 first_free None b e = refl
 first_free (Some m) b e = none_some (sym e)
-
--- .. and each tree is there
-last_of : (a b : Option MustRefuse) → first_of a b ≡ None → b ≡ None
-last_of None b e = e
-last_of (Some m) b e = none_some (sym e)
 
 numbered_tree : (n : ℕ) (o : Option NamedTree) (name : Key) (later : Option MustRefuse) → cond (is_number n o) later (Some (IsDropped name)) ≡ None → ((t : NamedTree) × (o ≡ Some t)) × (later ≡ None)
 numbered_tree n None name later e = none_some (sym e)
@@ -91,7 +81,7 @@ numbered_tree n (Some t) name later e = go (is_number n (Some t)) e
     go false e = none_some (sym e)
 
 not_dropped : (s : State) (trees : List Tree) → must_refuse_of s trees ≡ None → dropped_test s trees ≡ None
-not_dropped s trees e = last_of (foreign_test s.name trees) (dropped_test s trees) (last_of (cond s.is_open None (Some IsClosed)) _ e)
+not_dropped s trees e = second_none (foreign_test s.name trees) (dropped_test s trees) (second_none (cond s.is_open None (Some IsClosed)) _ e)
 
 pub first_there : (s : State) (t : Tree) (more : List Tree) → must_refuse_of s (t ∷ more) ≡ None → (n : NamedTree) × (s.trees t.name ≡ Some n)
 first_there s t more e = (numbered_tree t.number (s.trees t.name) t.name (dropped_test s more) (not_dropped s (t ∷ more) e)).0
@@ -113,7 +103,7 @@ module _ {P M : Type 0} (store : P → Store) (meant : M → Merge) where
 
   -- where the tests pass no group is open
   pub open_now : (d : DbValue P M) (trees : List Tree) → must_refuse_of (db_state store meant d) trees ≡ None → (now (store d.pages)).in_group ≡ false
-  open_now d trees free = not_true (now (store d.pages)).in_group (was_open (db_state store meant d) trees free)
+  open_now d trees free = not_true (now (store d.pages)).in_group (tested_open (db_state store meant d) trees free)
 
   module _ (old new : DbValue P M) (sound : IsDb store old) where
     pub open_before : (db_state store meant new).is_open ≡ (db_state store meant old).is_open → (now (store new.pages)).in_group ≡ false → (now (store old.pages)).in_group ≡ false
@@ -211,7 +201,7 @@ module _ {P M : Type 0} (store : P → Store) (meant : M → Merge) where
       made = d.decides (λ n. None) 0
 
       is_now : db_state store meant new ≡ after_writes (writes_on u entries) middle
-      is_now = made.is ∙ writes_then (writes_on t items) (writes_on u entries ++ []) before ∙ writes_then (writes_on u entries) [] middle
+      is_now = made.is ∙ after_both (writes_on t items) (writes_on u entries ++ []) before ∙ after_both (writes_on u entries) [] middle
 
       -- what the keys of the two have now
       table_holds : (n : NamedTree) → before.trees t.name ≡ Some n → Holds (db_state store meant new) t.name (λ q. unwrap_or (find key_cmp q items) (find key_cmp q n.map))

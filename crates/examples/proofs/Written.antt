@@ -1,10 +1,9 @@
 -- What the writes of a batch make of a tree.
-use Rattle.std.proofs.Common.{◌≡◌, ◌≢◌, Bool, true, false, not, cond, ◌&&◌, T, List, [], ◌∷◌, ◌++◌, Option, Some, None, is_some, unwrap_or, Less, Equal, Greater, is_eq, sym, refl, ap, ◌∙◌}
+use Rattle.std.proofs.Common.{◌≡◌, ◌≢◌, Bool, true, false, not, cond, ◌&&◌, T, [], ◌∷◌, Option, Some, None, is_some, unwrap_or, Less, Equal, Greater, is_eq, sym, refl, ap, ◌∙◌}
 use Rattle.std.specs.FinMap.Entries.{find, is_sorted, below_all, find-where_key}
 use Rattle.std.specs.Ordering.{is_lt, ordering_reverse, eq_by_cmp}
 use Rattle.std.specs.declared.cmp.Ordering.{Ordering}
-use Rattle.std.proofs.lemmas.Cmp.{tied_itself}
-use Rattle.sled_nodes.proofs.Basics.{false_true, key_total, key_same}
+use Rattle.sled_nodes.proofs.Basics.{key_total, key_same}
 use Rattle.sled_nodes.specs.Order.{Key, key_cmp}
 use Rattle.sled_nodes.specs.Node.{without}
 use Rattle.sled_batch.specs.Batch.{Writes}
@@ -16,14 +15,11 @@ use Rattle.sled_model.specs.State.{State, NamedTree}
 use Rattle.sled_model.specs.declared.decision.Effect.TheVariants as effect
 use Rattle.sled_model.specs.declared.tree.Tree.{Tree}
 use Rattle.examples.proofs.Keys.{insert_here, insert_there}
+use Rattle.examples.proofs.Entering.{apart}
 
 -- ---- one write
 
--- keys that are not tied are two
-apart : (q k : Key) → is_eq (key_cmp q k) ≡ false → q ≢ k
-apart q k off same = false_true (sym off ∙ ap (λ x. is_eq (key_cmp x k)) same ∙ ap is_eq (tied_itself key_total k))
-
-tied_back : (q k : Key) (o : Ordering) → key_cmp q k ≡ o → eq_by_cmp key_cmp k q ≡ is_eq o
+pub tied_back : (q k : Key) (o : Ordering) → key_cmp q k ≡ o → eq_by_cmp key_cmp k q ≡ is_eq o
 tied_back q k Less e = ap is_eq (key_total.antisymm k q ∙ ap ordering_reverse e)
 tied_back q k Equal e = ap is_eq (key_total.antisymm k q ∙ ap ordering_reverse e)
 tied_back q k Greater e = ap is_eq (key_total.antisymm k q ∙ ap ordering_reverse e)
@@ -128,8 +124,3 @@ batch_elsewhere tree [] s other off = refl
 batch_elsewhere tree (w ∷ ws) s other off =
     batch_elsewhere tree ws (after_write (record { tree = tree; key = w.0; value = w.1 }) s) other off
     ∙ write_elsewhere (s.trees tree.name) (record { tree = tree; key = w.0; value = w.1 }) s other off
-
--- writes and then more
-pub writes_then : (a b : List Write) (s : State) → after_writes (a ++ b) s ≡ after_writes b (after_writes a s)
-writes_then [] b s = refl
-writes_then (w ∷ a) b s = writes_then a b (after_write w s)

@@ -1,6 +1,5 @@
 -- What is spelled alike is alike, since the order tells values apart.
 use Rattle.std.proofs.Common.{◌≡◌, ℕ, List, [], ◌∷◌, ◌++◌, refl, sym, ap, ◌∙◌, append_assoc}
-use Rattle.std.proofs.lemmas.Cmp.{nat_list_cmp_total, tied_itself}
 use Rattle.std.proofs.lemmas.List.Concat.{flat_map-append}
 use Rattle.std.proofs.lemmas.Map.Lookups.{exact_unsigned, exact_bytes}
 use Rattle.std.specs.Ordering.{ordering_then, nat_cmp}
@@ -11,7 +10,7 @@ use Rattle.ordered_keys.specs.declared.part.Kind.{Kind}
 use Rattle.ordered_keys.specs.declared.part.Part.{Part}
 use Rattle.ordered_keys.specs.declared.part.Part.TheVariants.{Number, Text}
 use Rattle.ordered_keys.specs.Keys.{spelled_byte, spelled_part, spelled, part_cmp, IsOfKind, BeginsWith, IsOneToOne, KeepsPrefixes}
-use Rattle.sled_nodes.proofs.Fronts.{bytes_cmp}
+use Rattle.sled_nodes.proofs.Fronts.{bytes_cmp, tied_same}
 use Rattle.ordered_keys.proofs.Bytes.{byte_then, end_before}
 use Rattle.ordered_keys.proofs.Order.{Fits, begins_fits, part_some, part_then}
 
@@ -20,17 +19,14 @@ then_equal Less r e = absurd cc
 then_equal Equal r e = (refl, e)
 then_equal Greater r e = absurd cc
 
-same_cmp : (x y : Key) → x ≡ y → bytes_cmp x y ≡ Equal
-same_cmp x y e = ap (bytes_cmp x) (sym e) ∙ tied_itself nat_list_cmp_total x
-
 pub byte_apart : (b c : ℕ) (x y : Key) → spelled_byte b ++ x ≡ spelled_byte c ++ y → (b ≡ c) × (x ≡ y)
 byte_apart b c x y e =
-    let both = then_equal (nat_cmp b c) (bytes_cmp x y) (sym (byte_then b c x y) ∙ same_cmp (spelled_byte b ++ x) (spelled_byte c ++ y) e) in
+    let both = then_equal (nat_cmp b c) (bytes_cmp x y) (sym (byte_then b c x y) ∙ tied_same (spelled_byte b ++ x) (spelled_byte c ++ y) e) in
     (exact_unsigned b c both.0, exact_bytes x y both.1)
 
 -- a byte is not the end
 pub end_apart : (c : ℕ) (x z : Key) → 0 ∷ 0 ∷ x ≡ spelled_byte c ++ z → ⊥
-end_apart c x z e = let less : Less ≡ Equal = sym (end_before c x z) ∙ same_cmp (0 ∷ 0 ∷ x) (spelled_byte c ++ z) e in cc
+end_apart c x z e = let less : Less ≡ Equal = sym (end_before c x z) ∙ tied_same (0 ∷ 0 ∷ x) (spelled_byte c ++ z) e in cc
 
 part_exact : (p q : Part) → part_cmp p q ≡ Equal → p ≡ q
 unfolding key_cmp
@@ -41,7 +37,7 @@ part_exact (Text s) (Number n) e = absurd cc
 
 pub part_apart : (kind : Kind) (p q : Part) (x y : Key) → IsOfKind kind p → IsOfKind kind q → spelled_part p ++ x ≡ spelled_part q ++ y → (p ≡ q) × (x ≡ y)
 part_apart kind p q x y h i e =
-    let both = then_equal (part_cmp p q) (bytes_cmp x y) (sym (part_then kind p q x y h i) ∙ same_cmp (spelled_part p ++ x) (spelled_part q ++ y) e) in
+    let both = then_equal (part_cmp p q) (bytes_cmp x y) (sym (part_then kind p q x y h i) ∙ tied_same (spelled_part p ++ x) (spelled_part q ++ y) e) in
     (part_exact p q both.0, exact_bytes x y both.1)
 
 pub one_to_one : IsOneToOne

@@ -13,6 +13,7 @@ use Rattle.sled_model.specs.declared.reply.CompareAndSwapError.{CompareAndSwapEr
 use Rattle.sled_model.specs.declared.reply.Reply.{Reply}
 use Rattle.sled_model.specs.declared.reply.Reply.TheVariants as told
 use Rattle.sled_model.specs.declared.tree.Tree.{Tree}
+use Rattle.tree_laws.proofs.Pairs.{each_append}
 use Rattle.sled_shared.specs.Made.{MadeValue, PointMade}
 use Rattle.sled_shared.specs.Notes.{noted_of}
 use Rattle.examples.specs.Counters.{number_in}
@@ -22,10 +23,6 @@ use Rattle.shared_examples.specs.declared.raising.Raised.TheVariants as raised
 use Rattle.shared_examples.proofs.Keys.{at_itself}
 
 -- ---- lists
-
-pub all_of_both : {X : Type 0} (P : X → Type 0) (xs ys : List X) → AllByRecursion P xs → AllByRecursion P ys → AllByRecursion P (xs ++ ys)
-all_of_both P [] ys a b = b
-all_of_both P (x ∷ xs) ys a b = (a.0, all_of_both P xs ys a.1 b)
 
 swapped_on : (tree key : Key) (xs ys : List MadeValue) → swapped tree key (xs ++ ys) ≡ swapped tree key xs ++ swapped tree key ys
 swapped_on tree key [] ys = refl
@@ -42,7 +39,7 @@ pub raises_on : (tree : Tree) (key : Key) (n : Option ℕ) (a b c : List MadeVal
 raises_on tree key n a b c r s = record {
   added = r.added ++ s.added;
   adds = s.adds ∙ ap (λ l. l ++ s.added) r.adds ∙ append_assoc a r.added s.added;
-  parts = all_of_both (is_part tree key) r.added s.added r.parts s.parts;
+  parts = each_append (is_part tree key) r.added s.added r.parts s.parts;
   wrote =
       ap (map (λ (s : Option Key × Option Key). number_in s.1)) (swapped_on tree.name key r.added s.added)
       ∙ map-append (λ (s : Option Key × Option Key). number_in s.1) (swapped tree.name key r.added) (swapped tree.name key s.added)

@@ -1,7 +1,7 @@
 -- What stands at a key of a map after an effect.
 use Rattle.std.proofs.Common.{◌≡◌, ◌≢◌, ◌∙◌, Bool, true, false, not, cond, ◌&&◌, Option, Some, None, Less, Equal, Greater, is_eq, sym, refl, ap}
-use Rattle.std.specs.FinMap.Entries.{put, find, find-put, find-where_key}
-use Rattle.std.specs.Ordering.{ordering_reverse, eq_by_cmp}
+use Rattle.std.specs.FinMap.Entries.{find, find-where_key}
+use Rattle.std.specs.Ordering.{eq_by_cmp}
 use Rattle.std.specs.Str.{bytes_eq}
 use Rattle.std.specs.declared.cmp.Ordering.{Ordering}
 use Rattle.std.proofs.lemmas.Cmp.{tied_itself}
@@ -15,22 +15,8 @@ use Rattle.sled_model.specs.declared.decision.Effect.{Effect}
 use Rattle.sled_model.specs.declared.decision.Effect.TheVariants as effect
 use Rattle.sled_model.specs.declared.tree.Tree.{Tree}
 use Rattle.shared_examples.specs.Places.{is_at}
-
-put_here : (k v : Key) (m : Map) → find key_cmp k (put key_cmp k v m) ≡ Some v
-put_here k v m = find-put key_cmp key_total k k v m ∙ ap (λ o. cond (is_eq o) (Some v) (find key_cmp k m)) (tied_itself key_total k)
-
-put_there : (q k v : Key) (m : Map) → q ≢ k → find key_cmp q (put key_cmp k v m) ≡ find key_cmp q m
-put_there q k v m off = find-put key_cmp key_total q k v m ∙ go (key_cmp q k) refl
-  where
-    go : (o : Ordering) → key_cmp q k ≡ o → cond (is_eq o) (Some v) (find key_cmp q m) ≡ find key_cmp q m
-    go Less e = refl
-    go Equal e = absurd (off (key_same q k e))
-    go Greater e = refl
-
-tied_back : (q k : Key) (o : Ordering) → key_cmp q k ≡ o → eq_by_cmp key_cmp k q ≡ is_eq o
-tied_back q k Less e = ap is_eq (key_total.antisymm k q ∙ ap ordering_reverse e)
-tied_back q k Equal e = ap is_eq (key_total.antisymm k q ∙ ap ordering_reverse e)
-tied_back q k Greater e = ap is_eq (key_total.antisymm k q ∙ ap ordering_reverse e)
+use Rattle.examples.proofs.Keys.{put_here, put_there}
+use Rattle.examples.proofs.Written.{tied_back}
 
 turned : (b : Bool) (value : Option Key) → cond (not b) value None ≡ cond b None value
 turned true value = refl

@@ -9,6 +9,7 @@ use Rattle.sled_model.specs.declared.call.Call.TheVariants.{Get, CompareAndSwap}
 use Rattle.sled_model.specs.declared.reply.Reply.{Reply}
 use Rattle.sled_model.specs.declared.reply.Reply.TheVariants.{Swapped}
 use Rattle.sled_model.specs.declared.tree.Tree.{Tree}
+use Rattle.tree_laws.proofs.Pairs.{each_append}
 use Rattle.sled_shared.specs.Gathered.{IsGiven, IsMadeIn, IsOfGiven}
 use Rattle.sled_shared.specs.History.{made_by}
 use Rattle.sled_shared.specs.Made.{MadeValue, PointMade, EntryValue}
@@ -16,7 +17,6 @@ use Rattle.sled_shared.specs.Values.{CallerValue}
 use Rattle.shared_examples.specs.Places.{value_at, made_in, is_at, Leaves}
 use Rattle.examples.specs.Counters.{number_in}
 use Rattle.shared_examples.specs.Raising.{IsSwapAt, swapped_by, swapped, IsRaise, is_part, RaisedLaw}
-use Rattle.shared_examples.proofs.Attempts.{all_of_both}
 use Rattle.shared_examples.proofs.Leaving.{leaves}
 use Rattle.shared_examples.proofs.Sharing.{first_of_all, rest_of_all, shares_law}
 use Rattle.shared_examples.proofs.Swapping.{raises_law}
@@ -85,7 +85,7 @@ module _ (tree : Tree) (key : Key) where
 
   parts_raise : (made : List MadeValue) → AllByRecursion (is_part tree key) made → AllByRecursion IsRaise (swapped tree.name key made)
   parts_raise [] all = tt
-  parts_raise (m ∷ made) all = all_of_both IsRaise (swapped_by tree.name key m) (swapped tree.name key made) (part_raises m all.0) (parts_raise made all.1)
+  parts_raise (m ∷ made) all = each_append IsRaise (swapped_by tree.name key m) (swapped tree.name key made) (part_raises m all.0) (parts_raise made all.1)
 
 pub raised_law : RaisedLaw
 raised_law old new tree key history given callers legal made once all raises =

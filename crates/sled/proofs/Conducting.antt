@@ -33,7 +33,8 @@ use Rattle.sled_tree.proofs.Known.{known_new, aims}
 use Rattle.sled.specs.Values.{DbValue, state_of, db_state, snapshot_of_db}
 use Rattle.sled.specs.Sound.{IsDb}
 use Rattle.sled.specs.Calls.{MustBeRefused, must_be_refused_as}
-use Rattle.tree_groups.specs.Writes.{PagesLast, ActsOften, NoAction, OneAction}
+use Rattle.tree_groups.specs.Writes.{PagesLast, ActsOften, NoAction}
+use Rattle.tree_groups.proofs.Writing.{often_then, often_once, number_given}
 use Rattle.sled.specs.Flights.{call_in_flight_of, maps_added, KeepsTreePages, effect_of_step, IsStepRefused, DbStepContract, DbSteps, Ends, GoesOn, DbRunsToEnd}
 use Rattle.sled.specs.Direct.{effects_until, StaysInChainOrWent, KeepsOrFreesTreePages, Conducts, begun_flight, PointDecided, PointRefused, LeavesAll}
 use Rattle.sled.proofs.Operating.{fails_first, passes_plain}
@@ -47,14 +48,6 @@ error_of Moved = None
 error_of (Yielded key value) = None
 error_of (Decided reply) = None
 error_of (Refused e) = Some e
-
-often_then : {a b c : Store} → ActsOften a b → ActsOften b c → ActsOften a c
-often_then NoAction rest = rest
-often_then (OneAction one more) rest = OneAction one (often_then more rest)
-
-often_once : (a b : Store) → ActsAtMostOnce a b → ActsOften a b
-often_once a b (inl e) = subst (λ (s : Store). ActsOften a s) (sym e) NoAction
-often_once a b (inr o) = OneAction o NoAction
 
 pub acts_then : (r : Option Error) (a b c : Store) → ActsOften a b → effects_until r b c → effects_until r a c
 acts_then None a b c first rest = often_then first rest
@@ -74,10 +67,6 @@ page_there s p n e = go (s.pages p) refl e
     go : (o : Option Page) → s.pages p ≡ o → option_map (λ (g : Page). g.node) o ≡ Some n → (g : Page) × (s.pages p ≡ Some g)
     go None is e = none_some e
     go (Some g) is e = (g, is)
-
--- a page that is there has a number that was given
-number_given : (m : Snapshot) (w : Forest) → HasForest m w → (p : ℕ) (n : Node) → nodes_at m p ≡ Some n → m.pids p ≡ true
-number_given m w is p n live = let g = page_there m.state p n live in is.pids p g.0 g.1
 
 module _ (m n o : Snapshot) (w : Forest) (was : HasForest m w) where
   lasts_then : PagesLast m n → PagesLast n o → PagesLast m o

@@ -28,24 +28,19 @@ use Rattle.tree_laws.proofs.Runs.{In-right, run_parts}
 use Rattle.tree_laws.proofs.Cover.{chain_run}
 use Rattle.tree_laws.proofs.Fuel.{page_numbers_is, levels_few}
 use Rattle.tree_laws.proofs.Staged.{apart_law}
+use Rattle.tree_laws.proofs.Replace.{head_in}
 use Rattle.sled_tree.specs.Course.{aim_of, course_of}
 use Rattle.sled_tree.specs.Stages.{Knows}
 use Rattle.sled_tree.specs.Known.{IsKnown}
 use Rattle.sled_tree.specs.declared.flight.InFlight.{InFlight}
 use Rattle.sled_tree.proofs.Known.{stage_kept}
 use Rattle.tree_groups.specs.Writes.{PagesLast}
+use Rattle.tree_groups.proofs.Writing.{page_gone}
 use Rattle.sled.specs.Drops.{IsBeginning}
 use Rattle.sled.specs.theory.Drops.{first_pages_down, CountsFaults, FreesPage, FreesPages, FreesNone, FreesOne, Counts, KeepsOrFrees, AreFirsts, FreesLevel, FreesLevels, FreesFrom, DropsRoot}
+use Rattle.sled.proofs.Walks.{no_level}
 
 -- ---- the first pages of the levels
-
-head_in : (ps : List ℕ) (p : ℕ) → head ps ≡ Some p → In p ps
-head_in [] p e = none_some e
-head_in (q ∷ ps) p e = inl (sym (some_is e))
-
-no_level : (n : ℕ) (nodes : Nodes) → first_pages_down n nodes None ≡ []
-no_level zero nodes = refl
-no_level (suc n) nodes = refl
 
 leaf_first : (lo hi : Key) (d : Data) → Holds zero lo hi d → first_child (pointers d) ≡ None
 leaf_first lo hi (kind.Leaf es) h = refl
@@ -249,13 +244,6 @@ page_there s p n e = go (s.pages p) refl e
     go : (o : Option Page) → s.pages p ≡ o → option_map (λ (g : Page). g.node) o ≡ Some n → (g : Page) × (s.pages p ≡ Some g)
     go None is e = none_some e
     go (Some g) is e = (g, is)
-
-page_gone : (s : State) (p : ℕ) → nodes_of s p ≡ None → s.pages p ≡ None
-page_gone s p e = go (s.pages p) e
-  where
-    go : (o : Option Page) → option_map (λ (g : Page). g.node) o ≡ None → o ≡ None
-    go None e = refl
-    go (Some g) e = none_some (sym e)
 
 pub number_given : {m : Snapshot} {w : Forest} → HasForest m w → (p : ℕ) (n : Node) → nodes_at m p ≡ Some n → m.pids p ≡ true
 number_given {m} is p n live = let g = page_there m.state p n live in is.pids p g.0 g.1

@@ -59,6 +59,7 @@ use Rattle.sled.specs.Values.{DbValue, numbers_of, given_to, named, state_of, db
 use Rattle.sled.specs.Sound.{IsDb}
 use Rattle.sled.specs.Calls.{MustBeRefused, must_be_refused_as}
 use Rattle.tree_groups.specs.Writes.{PagesLast}
+use Rattle.tree_groups.proofs.Writing.{limit_is}
 use Rattle.tree_scans.specs.Scans.{waiting_of, rest_of, waiting_in, rest_in}
 use Rattle.sled.specs.Flights.{call_in_flight_of, follows_as, has_path, DbFollows, StaysInChain, KeepsTreePages, IsStepRefused, DbStepContract, DbSteps, Ends, GoesOn, has_turns, TakesAtMost, DbRunsToEnd}
 use Rattle.sled.specs.theory.Watched.{told, told_by, AdvancesOver}
@@ -67,7 +68,7 @@ use Rattle.sled_tree.proofs.Deciding.{IsReading, decided_law}
 use Rattle.sled_tree.proofs.Replying.{links_on_key}
 use Rattle.sled.proofs.Watching.{same_queues}
 use Rattle.sled.proofs.Resting.{Rests, rests_refused, now_rests, rests_extends, rests_left}
-use Rattle.sled.proofs.Testing.{tree_tested, limit_is, tested_calm}
+use Rattle.sled.proofs.Testing.{tree_tested, tested_calm}
 use Rattle.sled.proofs.Trees.{trees_at, trees_same, trees_put, maps_are, current, numbered}
 
 -- a page is there where its node is

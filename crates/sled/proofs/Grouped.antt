@@ -11,7 +11,7 @@ use Rattle.sled_store.specs.theory.Facts.{same_name, name_itself}
 use Rattle.sled_model.specs.Maps.{Map, Merge}
 use Rattle.sled_model.specs.Answer.{answer_of, decision_of, event_of, map_after, key_of, same_value}
 use Rattle.sled_model.specs.Groups.{Write, writes_on, writes_of, call_with, call_of_write, answer_of_write, after_write_on, after_write, after_writes, events_of_write, events_of_writes}
-use Rattle.sled_model.specs.Refusal.{MustRefuse, IsClosed, IsDropped, first_of, is_number, dropped_test, trees_of_batches, must_refuse_of}
+use Rattle.sled_model.specs.Refusal.{MustRefuse, IsClosed, IsDropped, is_number, dropped_test, trees_of_batches, must_refuse_of}
 use Rattle.sled_model.specs.State.{State, NamedTree, CallInFlight}
 use Rattle.sled_model.specs.declared.call.Call.{Call}
 use Rattle.sled_model.specs.declared.call.Call.TheVariants as call
@@ -22,6 +22,7 @@ use Rattle.sled_model.specs.declared.tree.Tree.{Tree}
 use Rattle.sled_tree.specs.declared.flight.Job.{Job}
 use Rattle.tree_groups.specs.Groups.{AreNumbered, map_after_jobs}
 use Rattle.sled.specs.theory.Groups.{jobs_of_write, jobs_of_writes, events_of_call, events_of_jobs}
+use Rattle.sled.proofs.Trees.{first_none}
 
 -- ---- what writes make of the state
 
@@ -196,13 +197,6 @@ jobs_numbered numbers (w ∷ ws) s at c =
     go (Some t) is more = one (answer_of_write t w).event (jobs_of_writes ws (after_write w s)) is more
 
 -- ---- the tests
-
-first_none : {a b : Option MustRefuse} → first_of a b ≡ None → (a ≡ None) × (b ≡ None)
-first_none {a} {b} e = go a e
-  where
-    go : (x : Option MustRefuse) → first_of x b ≡ None → (x ≡ None) × (b ≡ None)
-    go None f = (refl, f)
-    go (Some x) f = none_some (sym f)
 
 batch_current : (tree : Tree) (writes : Writes) (more : List Write) (s : State) → is_number tree.number (s.trees tree.name) ≡ true → AreCurrent more s → AreCurrent (writes_on tree writes ++ more) s
 batch_current tree [] more s is c = c

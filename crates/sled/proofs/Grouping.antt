@@ -31,6 +31,8 @@ use Rattle.sled_tree.specs.declared.flight.InFlight.{InFlight}
 use Rattle.sled_tree.specs.declared.flight.Job.{Job}
 use Rattle.tree_groups.specs.Groups.{jobs_of, AreNumbered, map_after_jobs, WrittenAll, ActsInside, seals_as, KeepsForests, LeavesGroup}
 use Rattle.tree_groups.specs.Writes.{ActsOften, NoAction, OneAction, is_write_refused_as, Keeps}
+use Rattle.tree_groups.proofs.Writing.{keeps_first}
+use Rattle.tree_groups.proofs.Grouping.{refused_store}
 use Rattle.sled.specs.Values.{DbValue, numbers_of, given_to, named, state_of, db_state, snapshot_of_db}
 use Rattle.sled.specs.Calls.{MustBeRefused, must_be_refused_as}
 use Rattle.sled.specs.Sound.{IsDb}
@@ -42,7 +44,7 @@ use Rattle.sled.proofs.Grouped.{AreCurrent, tree_after, with_slots, writes_chang
 use Rattle.sled.proofs.Resting.{Rests, rests_same, rests_only_faults, now_rests}
 use Rattle.sled.proofs.Testing.{first_alone}
 use Rattle.sled.proofs.Trees.{trees_at, maps_are, numbered}
-use Rattle.sled.proofs.Flying.{lasts_same, quiet_untold, state_over}
+use Rattle.sled.proofs.Flying.{quiet_untold, state_over}
 use Rattle.sled.proofs.Conducting.{untold_fault, leaves_none}
 use Rattle.sled.proofs.Popping.{often_faults, often_readable}
 
@@ -117,16 +119,6 @@ refused_cause (error.ReportableBug text) a last b faults readable t = t.0
 refused_cause (error.Corruption fault) a last b faults readable t = t.0
 refused_cause error.Closed a last b faults readable t = t.0
 
--- where a group is to begin it is refused as the store refuses
-refused_begin : (e : Error) (a b : Store) → is_refused_as e a b → is_write_refused_as e a b
-refused_begin error.NoMemory a b t = t
-refused_begin (error.Io fault) a b t = inl t
-refused_begin (error.CollectionNotFound name) a b t = absurd t
-refused_begin (error.Unsupported text) a b t = absurd t
-refused_begin (error.ReportableBug text) a b t = absurd t
-refused_begin (error.Corruption fault) a b t = absurd t
-refused_begin error.Closed a b t = absurd t
-
 begin_rests : (e : Error) (a b : Store) → is_refused_as e a b → Rests a b
 begin_rests error.NoMemory a b t = rests_only_faults error.NoMemory a b t
 begin_rests (error.Io fault) a b t = rests_only_faults (error.Io fault) a b t
@@ -156,10 +148,10 @@ stopped fs a b e (inr l) = go l.acts
   where
     go : is_refused_as e a b ⊎ ((last : Store) × ActsInside a last × is_write_refused_as e last b × ((now b).in_group ≡ true)) → Stopped a b e
     go (inl t) = record {
-      mark = refused_mark e a b (refused_begin e a b t);
+      mark = refused_mark e a b (refused_store e a b t);
       adds = l.adds;
-      acts = inl (refused_quietly e a b (refused_begin e a b t));
-      why = refused_cause e a a b refl refl (refused_begin e a b t);
+      acts = inl (refused_quietly e a b (refused_store e a b t));
+      why = refused_cause e a a b refl refl (refused_store e a b t);
       which = inl (begin_rests e a b t);
     }
     go (inr (last, i, t, open_now)) = record {
@@ -195,10 +187,6 @@ loses_keeps : (m n : Snapshot) (w v : Forest) → HasForest m w → Keeps m w n 
 loses_keeps m n w v is k u z was is_now =
     subst (λ (f : Forest). StaysInChainOrWent None m f n z) (one_law (nodes_at m) m.state.roots w u is.formed was.formed)
     (subst (λ (f : Forest). StaysInChainOrWent None m w n f) (one_law (nodes_at n) n.state.roots v z k.is.formed is_now.formed) (record { is = λ x p on i. k.loses x p i; last = k.last }))
-
--- nothing was done
-keeps_nothing : (m : Snapshot) (w : Forest) → HasForest m w → Keeps m w m w
-keeps_nothing m w is = record { is = is; sized = λ s. s; known = λ f k. k; loses = λ x p i. inl i; last = lasts_same m }
 
 -- ---- a group that is refused before anything was done
 
@@ -393,7 +381,7 @@ module _ {P M : Type 0} (store : P → Store) (meant : M → Merge) (old : DbVal
             go : ((e ≡ error.NoMemory) × (store p ≡ store old.pages)) ⊎ LeavesGroup flights (store old.pages) (store p) e → KeepsForests at db.forest after
             go (inl (short, same)) = record {
               after = db.forest;
-              keeps = subst (λ (s : Store). Keeps at db.forest (snapshot_of s (numbers_of old.trees) (given_to old.trees_given)) db.forest) (sym same) (keeps_nothing at db.forest db.is);
+              keeps = subst (λ (s : Store). Keeps at db.forest (snapshot_of s (numbers_of old.trees) (given_to old.trees_given)) db.forest) (sym same) (keeps_first at db.forest db.is);
             }
             go (inr l) = l.told (numbers_of old.trees) (given_to old.trees_given) db.forest db.is numbered_found found.known
 

@@ -389,7 +389,7 @@ number_apart n (name ∷ names) t u k e f = go (number_apart (n + 1) names t u k
     go rest false true p q g h = later t (some_is h) g
     go rest false false p q g h = rest g h
 
-none_no : {X : Type 0} (o : Option X) → is_some o ≡ true → (x : X) × (o ≡ Some x)
+pub none_no : {X : Type 0} (o : Option X) → is_some o ≡ true → (x : X) × (o ≡ Some x)
 none_no None e = false_true e
 none_no (Some x) e = (x, refl)
 

@@ -16,7 +16,7 @@ use Rattle.sled_nodes.specs.declared.error.Error.TheVariants as error
 use Rattle.sled_model.specs.Maps.{Map, Maps, Merge, IsLeast, IsGreatest}
 use Rattle.sled_model.specs.Answer.{answer_of, map_after}
 use Rattle.sled_model.specs.State.{State, NamedTree, CallInFlight, maps_of, after_decision_on}
-use Rattle.sled_model.specs.Refusal.{MustRefuse, IsClosed, IsForeign, IsDropped, HasNoOperator, first_of, must_refuse, must_refuse_of, MayRefuse, TellsTurns, ToPoint, ToCall, cause_of, cause_at_end, may_refuse_as}
+use Rattle.sled_model.specs.Refusal.{MustRefuse, IsClosed, IsForeign, IsDropped, HasNoOperator, must_refuse, must_refuse_of, MayRefuse, TellsTurns, ToPoint, ToCall, cause_of, cause_at_end, may_refuse_as}
 use Rattle.sled_model.specs.Transition.{Configuration, WholeDecides, WholeRefuses, kind_of}
 use Rattle.sled_model.specs.Whole.{Pops, RemovesLeast, RemovesNone, RemovesOne}
 use Rattle.sled_model.specs.declared.outcome.Outcome.TheVariants as outcome
@@ -41,7 +41,7 @@ use Rattle.sled.specs.Pops.{TakesOut, RefusesToTake, IsAtEnd, PopsBySteps, PopRe
 use Rattle.sled.specs.Parts.{most_parts, told_parts, ClearsParts}
 use Rattle.sled.proofs.Conducting.{conducts_then, conducts_none, conducts_refused}
 use Rattle.sled.proofs.Counting.{told_one}
-use Rattle.sled.proofs.Testing.{tested_calm}
+use Rattle.sled.proofs.Testing.{tested_calm, first_alone}
 use Rattle.sled.proofs.Trees.{maps_are}
 
 -- ---- the ends of a map
@@ -92,10 +92,6 @@ size_of None = 0
 size_of (Some t) = length t.map
 
 -- ---- refusals
-
-first_alone : (a : Option MustRefuse) → first_of a None ≡ a
-first_alone None = refl
-first_alone (Some m) = refl
 
 -- a whole call that takes out the pair at an end
 pub record IsPop (is_end : Map → Option (Key × Key) → Type 0) (tree : Tree) (whole : Whole) : Type 0 where

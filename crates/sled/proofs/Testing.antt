@@ -5,8 +5,6 @@ use Rattle.sled_store.specs.Store.{Store, now}
 use Rattle.sled_model.specs.Maps.{Merge}
 use Rattle.sled_model.specs.State.{State}
 use Rattle.sled_model.specs.Refusal.{MustRefuse, IsClosed, HasNoOperator, first_of, must_refuse_of, must_refuse, operator_test, needs_operator, has_operator, foreign_test, dropped_test, ToPoint, ToCall}
-use Rattle.sled_model.specs.declared.TheConstants.{MAX_LOOPS}
-use Rattle.sled_model.specs.Refusal.{turns_limit}
 use Rattle.sled_model.specs.declared.call.Call.{Call}
 use Rattle.sled_model.specs.declared.call.Whole.TheVariants.{Flush}
 use Rattle.sled_model.specs.declared.tree.Tree.{Tree}
@@ -46,10 +44,6 @@ tree_tested s tree call e = go (must_refuse_of s (tree ∷ [])) e
     go : (o : Option MustRefuse) → first_of o (operator_test s (ToPoint tree call)) ≡ None → o ≡ None
     go None e = refl
     go (Some m) e = none_some (sym e)
-
--- the limit of turns is the one that the constant has
-pub limit_is : MAX_LOOPS ≡ turns_limit
-limit_is = refl
 
 -- where the tests pass the database is open
 pub tested_open : (s : State) (t : Tree) → must_refuse_of s (t ∷ []) ≡ None → s.is_open ≡ true

@@ -1,5 +1,5 @@
 -- Transactions: ids that are taken, reads inside, and the tests of lists.
-use Rattle.std.proofs.Common.{◌≡◌, ℕ, zero, suc, ◌+◌, ◌<◌, ◌≤◌, Bool, true, false, cond, ◌&&◌, List, [], ◌∷◌, ◌++◌, length, map, take, drop, get_or, add-one, slice_get, Bor, append_assoc, append-nil, Option, Some, None, Result, Ok, Err, OnOk, IfErr, refl, sym, ap, subst, ◌∙◌, inl, inr, nat_lt, arith}
+use Rattle.std.proofs.Common.{◌≡◌, ℕ, zero, suc, ◌+◌, ◌<◌, ◌≤◌, Bool, true, false, cond, ◌&&◌, List, [], ◌∷◌, ◌++◌, length, map, take, drop, get_or, slice_get, Bor, append_assoc, append-nil, Option, Some, None, Result, Ok, Err, OnOk, IfErr, refl, sym, ap, subst, ◌∙◌, inl, inr, nat_lt, arith}
 use Rattle.std.specs.List.{zip}
 use Rattle.std.specs.Option.{unwrap_or, option_map}
 use Rattle.std.proofs.lemmas.Option.{slice_get-map, slice_get_within, get_or_from_slice_get}
@@ -22,6 +22,7 @@ use Rattle.tree_reads.specs.Leaves.{OfContents}
 use Rattle.tree_reads.specs.Walk.{refuses_walk_as, GivesUp, once}
 use Rattle.sled_tree.specs.Known.{IsKnown}
 use Rattle.sled_tree.specs.declared.flight.InFlight.{InFlight}
+use Rattle.tree_scans.proofs.Scanning.{one_more}
 use Rattle.tree_transactions.specs.Ids.{OnlyRaises}
 use Rattle.tree_transactions.specs.Attempts.{Answer, Closure}
 use Rattle.tree_transactions.specs.Transactions.{TransactsAll}
@@ -269,9 +270,6 @@ tree_at (x ∷ trees) (suc i) t e = tree_at trees i t e
 
 pub less : (i n : ℕ) → true ≡ nat_lt i n → i < n
 less i n h = grind arith
-
-one_more : (n : ℕ) → n + 1 ≡ suc n
-one_more n = rw add-one refl
 
 -- one more batch goes to the next tree
 pub grouped_pushed : (trees : List (Bor Tree)) (all : List Writes) (group pushed : List (Tree × Writes)) (left rest : List Writes) (t : Bor Tree) (u : Tree) (w : Writes) (place next : ℕ) → pushed ≡ group ++ (u, w) ∷ [] → u ≡ t.now → left ≡ w ∷ rest → next ≡ place + 1 → slice_get trees place ≡ Some t

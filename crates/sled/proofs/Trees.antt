@@ -82,7 +82,7 @@ module _ {P M : Type 0} (store : P → Store) (meant : M → Merge) where
       go t map (Some n) e = ap (is_sorted key_cmp) (sym (some_is e)) ∙ holds (is_sorted key_cmp (contents (nodes_of (now (store d.pages))) db.forest t)) (sorted_law (nodes_of (now (store d.pages))) (now (store d.pages)).roots db.forest db.is.formed t)
 
 -- a tree that passes the tests is current
-first_none : {a b : Option MustRefuse} → first_of a b ≡ None → (a ≡ None) × (b ≡ None)
+pub first_none : {a b : Option MustRefuse} → first_of a b ≡ None → (a ≡ None) × (b ≡ None)
 first_none {a} {b} e = go a e
   where
     go : (x : Option MustRefuse) → first_of x b ≡ None → (x ≡ None) × (b ≡ None)

@@ -98,7 +98,7 @@ pub record HasNoted (nodes : Nodes) (root : ℕ) (firsts : List ℕ) (cursor : O
 pub noted_first : (nodes : Nodes) (root : ℕ) (firsts : List ℕ) → firsts ≡ [] → HasNoted nodes root firsts (Some root) 0
 noted_first nodes root firsts e = record { left = page_numbers; counts = at_first; is = ap (λ r. r ++ first_pages_down page_numbers nodes (Some root)) e }
 
-no_level : (n : ℕ) (nodes : Nodes) → first_pages_down n nodes None ≡ []
+pub no_level : (n : ℕ) (nodes : Nodes) → first_pages_down n nodes None ≡ []
 no_level zero nodes = refl
 no_level (suc n) nodes = refl
 

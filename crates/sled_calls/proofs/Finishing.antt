@@ -24,6 +24,7 @@ use Rattle.sled_tree.specs.declared.flight.Aim.TheVariants.{Own}
 use Rattle.sled_tree.specs.declared.flight.InFlight.{InFlight}
 use Rattle.sled_tree.proofs.Known.{known_new as known_begun}
 use Rattle.tree_laws.specs.declared.flight.Stage.TheVariants.{Root}
+use Rattle.tree_laws.proofs.Update.{put_here}
 use Rattle.sled_tree.specs.declared.flight.Went.{Went}
 use Rattle.sled_tree.specs.declared.flight.Went.TheVariants.{Moved, Yielded, Decided, Refused}
 use Rattle.sled.specs.Values.{DbValue, db_state, snapshot_of_db}
@@ -37,7 +38,7 @@ use Rattle.sled_calls.specs.Run.{MachineRun, MachineSteps, NoCalls, OneCall}
 use Rattle.sled_calls.specs.Finish.{steps_of, outcomes_of, RunsToEnd, Completes}
 use Rattle.sled_calls.proofs.Steps.{put_same, put_again, put_itself}
 use Rattle.sled_calls.proofs.Runs.{performs_none, performs_first}
-use Rattle.sled_calls.proofs.Machines.{put_here, missing_step, stepped_as, begun_call, begun_machine, free_slot, rests_as}
+use Rattle.sled_calls.proofs.Machines.{missing_step, stepped_as, begun_call, begun_machine, free_slot, rests_as}
 
 -- a call stands in its slot as it is now, wherever it stood
 onto : (fs : List (ℕ × InFlight)) (slot : ℕ) (h : InFlight) (q : ℕ) → kept_at ((slot, h) ∷ fs) q ≡ put_at (kept_at fs) slot (Some h) q

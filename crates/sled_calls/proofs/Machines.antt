@@ -3,7 +3,7 @@ use Rattle.std.proofs.Common.{◌≡◌, ◌≢◌, ℕ, ◌+◌, ◌<◌, ◌�
 use Rattle.std.proofs.Math.Path.{fun_ext}
 use Rattle.std.specs.Borrow.{Bor}
 use Rattle.std.specs.Option.{option_copied}
-use Rattle.std.proofs.lemmas.Bool.{eq-eqb, ne_eqb}
+use Rattle.std.proofs.lemmas.Bool.{ne_eqb}
 use Rattle.sled_nodes.proofs.Basics.{none_some, some_is, false_true, same_or_not}
 use Rattle.sled_store.specs.Update.{put_at}
 use Rattle.sled_store.specs.Store.{Store, now}
@@ -48,6 +48,7 @@ use Rattle.sled_calls.specs.Values.{MachineValue, kept_at, slots_of, job_of_call
 use Rattle.tree_laws.specs.Forest.{Forest}
 use Rattle.sled_tree.specs.Passing.{IsOnPath}
 use Rattle.tree_laws.specs.Stages.{owned}
+use Rattle.tree_laws.proofs.Update.{put_here}
 use Rattle.sled_tree.specs.StageAction.{LeaksNoPage}
 use Rattle.sled_tree.proofs.Facts.{leaves_same as leaves_same_pages}
 use Rattle.sled_calls.specs.CrashMaps.{AreCrashMaps, crash_maps_after}
@@ -56,17 +57,9 @@ use Rattle.sled_calls.specs.Sound.{IsMachine}
 use Rattle.sled_calls.specs.StepsInSlot.{flight_after}
 use Rattle.sled_calls.proofs.Runs.{extended, leaves_same}
 
--- whether there is some
-pub some_there : {A : Type 0} (o : Option A) → is_some o ≡ true → (a : A) × (o ≡ Some a)
-some_there None e = false_true e
-some_there (Some a) e = (a, refl)
-
 pub none_there : {A : Type 0} (o : Option A) → is_some o ≡ false → o ≡ None
 none_there None e = refl
 none_there (Some a) e = false_true (sym e)
-
-pub put_here : {X : Type 0} (f : ℕ → X) (p : ℕ) (a : X) → put_at f p a p ≡ a
-put_here f p a = ap (λ b. cond b a (f p)) (eq-eqb p p refl)
 
 put_there : {X : Type 0} (f : ℕ → X) (p q : ℕ) (a : X) → q ≢ p → put_at f p a q ≡ f q
 put_there f p q a h = ap (λ b. cond b a (f q)) (ne_eqb q p h)

@@ -30,7 +30,7 @@ stays a b e = same (ap (λ (s : State). s.greatest_id) e)
     same : b.greatest_id ≡ a.greatest_id → a.greatest_id ≤ b.greatest_id
     same f = omega arith
 
-at_most : (x y : ℕ) → y ≡ x → x ≤ y
+pub at_most : (x y : ℕ) → y ≡ x → x ≤ y
 at_most x y e = omega arith
 
 popped : (s : State) (name : Key) (t : NamedTree) (found : Option (Key × Key)) → (after_pop s name t found).greatest_id ≡ s.greatest_id

@@ -1,5 +1,5 @@
 -- What many files of proofs need of options, tests, orders and results.
-use Rattle.std.proofs.Common.{◌≡◌, ◌≢◌, ℕ, Bool, true, false, not, ◌&&◌, ◌||◌, T, cond, Option, Some, None, Result, Ok, Err, IfOk, IfErr, Ordering, Less, Equal, Greater, is_lt, is_eq, refl, ◌⊎◌, arith}
+use Rattle.std.proofs.Common.{◌≡◌, ◌≢◌, ℕ, Bool, true, false, not, ◌&&◌, ◌||◌, T, cond, Option, Some, None, Result, Ok, Err, IfOk, IfErr, IsTrue, ◌↔◌, Ordering, Less, Equal, Greater, is_lt, is_eq, is_gt, refl, ◌⊎◌, arith}
 use Rattle.std.specs.Cmp.{IsTotalOrder}
 use Rattle.std.specs.FinMap.{slice_cmp-IsAntisymmetric, nat_cmp-IsAntisymmetric}
 use Rattle.std.specs.Ordering.{eq_by_cmp}
@@ -42,6 +42,13 @@ pub of_true : (b : Bool) → b ≡ true → T b
 of_true true e = tt
 of_true false e = cc
 
+-- what is not true does not hold
+pub untrue : {P : Type 0} (b : Bool) → IsTrue b ↔ P → b ≡ false → P → ⊥
+untrue b told e p = apart b e (told.1 p)
+  where
+    apart : (b : Bool) → b ≡ false → IsTrue b → ⊥
+    apart b e t = cc
+
 -- both of two
 pub left_of : (a b : Bool) → T (a && b) → T a
 left_of true b t = tt
@@ -69,6 +76,13 @@ and_true a b e f = rw (e, f) refl
 pub both_true : (a b : Bool) → (a && b) ≡ true → (a ≡ true) × (b ≡ true)
 both_true true b e = (refl, e)
 both_true false b e = cc
+
+pub first_off : (a b : Bool) → a ≡ false → (a && b) ≡ false
+first_off a b e = rw e refl
+
+pub second_off : (a b : Bool) → b ≡ false → (a && b) ≡ false
+second_off true b e = e
+second_off false b e = refl
 
 -- neither of two
 pub first_false : (a b : Bool) → (a || b) ≡ false → a ≡ false
@@ -98,6 +112,11 @@ pub is_less : (o : Ordering) → is_lt o ≡ true → o ≡ Less
 is_less Less e = refl
 is_less Equal e = cc
 is_less Greater e = cc
+
+pub is_greater : (o : Ordering) → is_gt o ≡ true → o ≡ Greater
+is_greater Less e = cc
+is_greater Equal e = cc
+is_greater Greater e = refl
 
 pub less_of : (o : Ordering) → T (is_lt o) → o ≡ Less
 less_of Less t = refl

@@ -7,14 +7,7 @@ use Rattle.std.proofs.lemmas.List.{length-reverse, get_or-reverse}
 use Rattle.std.proofs.lemmas.List.Filters.{length-filter_more}
 use Rattle.std.proofs.lemmas.Option.{slice_get_past, slice_get-get_or}
 use Rattle.std.proofs.Math.Seq.{take-length}
-use Rattle.sled_nodes.proofs.Basics.{not_true, and_true}
-
-first_off : (a b : Bool) → a ≡ false → (a && b) ≡ false
-first_off a b e = rw e refl
-
-second_off : (a b : Bool) → b ≡ false → (a && b) ≡ false
-second_off true b e = e
-second_off false b e = refl
+use Rattle.sled_nodes.proofs.Basics.{not_true, and_true, first_off, second_off}
 
 on : (a : Bool) → not a ≡ false → a ≡ true
 on true e = refl

@@ -116,7 +116,7 @@ page_below nv slots slots' log log' pid slot old s o l e h = record {
 pub log_below : (nv : ℕ) (slots : ℕ → Option Slot) (log log' : List Undo) (u : Undo) → log' ≡ log ++ u ∷ [] → undo_given nv u ≡ true → AreBelow nv slots log → AreBelow nv slots log'
 log_below nv slots log log' u l e h = record { here = h.here; in_log = rw l (all_push (undo_given nv) log u h.in_log e) }
 
-slot_later : (n : ℕ) (o : Option Slot) → slot_given n o ≡ true → slot_given (n + 1) o ≡ true
+pub slot_later : (n : ℕ) (o : Option Slot) → slot_given n o ≡ true → slot_given (n + 1) o ≡ true
 slot_later n None e = refl
 slot_later n (Some s) e = grind (arith, nat_tests)
 

@@ -23,6 +23,7 @@ use Rattle.sled_store.specs.declared.page.Page.{Page}
 use Rattle.sled_pages.specs.declared.memory.undo.Undo.{Undo}
 use Rattle.sled_nodes.specs.Image.{last_of, node_in, root_in, all_of, all_named, all_numbers}
 use Rattle.sled_pages.specs.Image.{IsImage}
+use Rattle.sled_pages.proofs.Kept.{slot_later}
 use Rattle.std.specs.Str.{bytes_eq}
 use Rattle.sled_nodes.proofs.Basics.{first_true, second_true, and_true}
 use Rattle.sled_nodes.specs.Order.{Key}
@@ -35,10 +36,6 @@ pub last_more : {K X : Type 0} (passes : K → Bool) (es : List (K × X)) (k : K
 last_more passes es k x =
     ap (λ ys. option_map (λ e. e.1) (find (λ e. passes e.0) ys)) (reverse-append es ((k, x) ∷ []))
     ∙ elim (passes k) as (λ b. option_map (λ e. e.1) (cond b (Some (k, x)) (find (λ e. passes e.0) (reverse es))) ≡ cond b (Some x) (last_of passes es)) [ true ↦ refl | false ↦ refl ]
-
-slot_later : (n : ℕ) (o : Option Slot) → slot_given n o ≡ true → slot_given (n + 1) o ≡ true
-slot_later n None e = refl
-slot_later n (Some s) e = grind (arith, nat_tests)
 
 at_next : (n v : ℕ) → v ≡ n → nat_lt v (n + 1) ≡ true
 at_next n v e = grind (arith, nat_tests)

@@ -17,7 +17,7 @@ use Rattle.sled_model.specs.declared.outcome.Outcome.TheVariants as outcome
 use Rattle.sled_model.specs.declared.outcome.Step.TheVariants as step
 use Rattle.sled_calls.specs.Ids.{id_of, RiseBetween}
 use Rattle.sled_calls.specs.Values.{MachineValue, configuration_of, slots_of}
-use Rattle.sled_calls.proofs.Rising.{rise_on, step_rises}
+use Rattle.sled_calls.proofs.Rising.{rise_on, step_rises, at_most}
 use Rattle.sled_shared.specs.Made.{MadeValue, EntryValue, whole_value}
 use Rattle.sled_shared.specs.Wholes.{WholeValue}
 use Rattle.sled_shared.specs.WholeNotes.{noted_with, noted_whole, ComesToWhole, NotesWhole}
@@ -28,9 +28,6 @@ use Rattle.sled_shared.specs.Notes.{entries_of, noted_as, noted_in}
 ids_on : (xs ys : List EntryValue) → ids_made (xs ++ ys) ≡ ids_made xs ++ ids_made ys
 ids_on [] ys = refl
 ids_on (x ∷ xs) ys = ap (λ l. id_made x.made ++ l) (ids_on xs ys) ∙ sym (append_assoc (id_made x.made) (ids_made xs) (ids_made ys))
-
-at_most : (x y : ℕ) → y ≡ x → x ≤ y
-at_most x y e = omega arith
 
 -- what is above all of these is above them after more ids were given
 pub later : (low mid high : ℕ) (ids : List ℕ) → RiseBetween low ids mid → mid ≤ high → RiseBetween low ids high

@@ -26,6 +26,9 @@ use Rattle.sled.specs.Kept.{kept_of}
 use Rattle.sled.specs.Parts.{ImportRefusedAfter}
 use Rattle.sled.specs.Imports.{ImportRefused}
 use Rattle.sled.specs.Values.{DbValue, db_state, state_of}
+use Rattle.sled.proofs.Grouped.{tested_open}
+use Rattle.sled.proofs.Testing.{first_alone}
+use Rattle.sled.proofs.Batching.{first_none}
 use Rattle.sled_calls.specs.Kept.{kept_of_whole, CountsParts}
 use Rattle.sled_calls.specs.Step.{MachineStepContract}
 use Rattle.sled_calls.specs.Values.{MachineValue, configuration_of}
@@ -139,15 +142,6 @@ some_parts v (suc n) h = refl
 pub no_parts : (v : WholeValue) (n : ℕ) → n ≡ 0 → noted_with v None n ≡ []
 no_parts v n e = ap (noted_with v None) e
 
--- tests
-first_none : (o : Option MustRefuse) → first_of o None ≡ o
-first_none None = refl
-first_none (Some x) = refl
-
-both_none : (a b : Option MustRefuse) → first_of a b ≡ None → (a ≡ None) × (b ≡ None)
-both_none None b e = (refl, e)
-both_none (Some x) b e = some_none e
-
 none_both : (a b : Option MustRefuse) → a ≡ None → b ≡ None → first_of a b ≡ None
 none_both a b e f = ap (λ x. first_of x b) e ∙ f
 
@@ -157,9 +151,6 @@ then_none false a x e = some_none e
 
 pub open_passes : (s : State) → s.is_open ≡ true → must_refuse_of s [] ≡ None
 open_passes s e = ap (λ t. first_of (if t then None else Some IsClosed) None) e
-
-pub passes_open : (s : State) (trees : List Tree) → must_refuse_of s trees ≡ None → s.is_open ≡ true
-passes_open s trees e = (then_none s.is_open None IsClosed (both_none (if s.is_open then None else Some IsClosed) (first_of (foreign_test s.name trees) (dropped_test s trees)) e).0).0
 
 -- each tree passes alone
 abbrev pub PassesAlone : State → Tree → Type 0
@@ -173,7 +164,7 @@ own s t e =
     let closed : Option MustRefuse = if s.is_open then None else Some IsClosed in
     let foreign : Option MustRefuse = foreign_test s.name (t ∷ []) in
     let dropped : Option MustRefuse = dropped_test s (t ∷ []) in
-    let rest = both_none foreign dropped (both_none closed (first_of foreign dropped) e).1 in
+    let rest = first_none foreign dropped (first_none closed (first_of foreign dropped) e).1 in
     ((then_none (bytes_eq t.database s.name) None IsForeign rest.0).0, (then_none (is_number t.number (s.trees t.name)) None (IsDropped t.name) rest.1).0)
 
 none_foreign : (s : State) (bs : List (Tree × Writes)) → All (BatchPasses s) bs → foreign_test s.name (trees_of_batches bs) ≡ None
@@ -203,14 +194,14 @@ each s (b ∷ bs) o f d =
 -- .. and each does where all do
 pub pass_each : (s : State) (bs : List (Tree × Writes)) → must_refuse_of s (trees_of_batches bs) ≡ None → All (BatchPasses s) bs
 pass_each s bs e =
-    let rest = both_none (foreign_test s.name (trees_of_batches bs)) (dropped_test s (trees_of_batches bs)) (both_none (if s.is_open then None else Some IsClosed) (first_of (foreign_test s.name (trees_of_batches bs)) (dropped_test s (trees_of_batches bs))) e).1 in
-    each s bs (passes_open s (trees_of_batches bs) e) rest.0 rest.1
+    let rest = first_none (foreign_test s.name (trees_of_batches bs)) (dropped_test s (trees_of_batches bs)) (first_none (if s.is_open then None else Some IsClosed) (first_of (foreign_test s.name (trees_of_batches bs)) (dropped_test s (trees_of_batches bs))) e).1 in
+    each s bs (tested_open s (trees_of_batches bs) e) rest.0 rest.1
 
 pub test_of : (o : Option MustRefuse) → first_of o None ≡ None → o ≡ None
-test_of o e = sym (first_none o) ∙ e
+test_of o e = sym (first_alone o) ∙ e
 
 pub of_test : (o : Option MustRefuse) → o ≡ None → first_of o None ≡ None
-of_test o e = first_none o ∙ e
+of_test o e = first_alone o ∙ e
 
 module _ {P M : Type 0} (store : P → Store) (number : P → ℕ) (meant : M → Merge) (a b : MachineValue P M) where
   -- a call that no test refuses, and that cannot be noted

@@ -3,7 +3,7 @@ use Rattle.std.proofs.Common.{◌≡◌, ℕ, ◌+◌, ◌<◌, ◌≤◌, ◌�
 use Rattle.std.specs.Ordering.{is_gt, ordering_reverse}
 use Rattle.std.specs.declared.cmp.Ordering.{Ordering}
 use Rattle.std.proofs.lemmas.Bool.Decides.{leb_tells}
-use Rattle.sled_nodes.proofs.Basics.{none_some, some_is, same_or_not, key_total}
+use Rattle.sled_nodes.proofs.Basics.{none_some, some_is, untrue, same_or_not, key_total}
 use Rattle.sled_nodes.specs.Order.{Key, key_cmp, Below, UpTo}
 use Rattle.sled_store.specs.In.{In}
 use Rattle.sled_nodes.specs.Node.{count}
@@ -255,13 +255,6 @@ long_enough b c told is = more c (told.0 is).0
 -- the page had changed, and the call begins again
 pub stale : (j : Course) (old new : Store) (a : Stage) {change : Node → Node} {pid version : ℕ} {present : Option ℕ} → ((q : ℕ) → In q (owned a) → ⊥) → Changes change pid version old new (Err present) → StageAction j old a (next.Go stage.Root) new
 stale j old new a none c = subst (λ (s : Store). StageAction j old a (next.Go stage.Root) s) (sym c.is.0) (restarts j old a none)
-
--- what a test that failed tells
-pub untrue : {P : Type 0} (b : Bool) → IsTrue b ↔ P → b ≡ false → P → ⊥
-untrue b told off p = apart (sym off ∙ told.1 p)
-  where
-    apart : false ≡ true → ⊥
-    apart e = cc
 
 -- the key lies before where it is not beyond
 pub not_up_to : (a b : Key) → (UpTo a b → ⊥) → Below b a

@@ -1,7 +1,7 @@
 -- What comes next, by the tests that were made.
 use Rattle.std.proofs.Common.{◌≡◌, ◌<◌, ◌↔◌, IsTrue, ◌⊎◌, true, false, Bool, None, sym, ◌∙◌, subst, inl, inr}
 use Rattle.std.specs.declared.ops.Bound.{Bound}
-use Rattle.sled_nodes.proofs.Basics.{true_false}
+use Rattle.sled_nodes.proofs.Basics.{true_false, untrue}
 use Rattle.sled_nodes.specs.Order.{Key}
 use Rattle.sled_nodes.specs.Node.{count}
 use Rattle.sled_store.specs.declared.page.View.{View}
@@ -12,7 +12,6 @@ use Rattle.tree_laws.specs.Snapshot.{LiesUnder}
 use Rattle.tree_laws.specs.declared.flight.Stage.TheVariants as stage
 use Rattle.tree_laws.specs.declared.flight.Reached.{Reached}
 use Rattle.sled_tree.specs.Follows.{follows_read, follows_not_merging, follows_open, follows_here, EndsWithin}
-use Rattle.sled_tree.proofs.Facts.{untrue}
 
 module _ (j : Course) (v : View) (by : Reached) (n : Next) (not_merging : v.node.merging ≡ false) (free : v.node.merging_child ≡ None) where
   pub opened : follows_open j v by n → follows_read j v by n

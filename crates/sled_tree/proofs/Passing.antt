@@ -3,7 +3,7 @@ use Rattle.std.proofs.Common.{◌≡◌, ℕ, length, ◌+◌, ◌<◌, ◌≤�
 use Rattle.std.specs.List.{list_any}
 use Rattle.std.specs.declared.ops.Bound.{Bound}
 use Rattle.std.proofs.lemmas.List.Folds.{list_any-append}
-use Rattle.sled_nodes.proofs.Basics.{none_some, some_is, true_false}
+use Rattle.sled_nodes.proofs.Basics.{none_some, some_is, true_false, untrue}
 use Rattle.sled_nodes.specs.Order.{Key}
 use Rattle.sled_nodes.specs.Among.{IsLast, IsPointer, IsPointerFor}
 use Rattle.sled_nodes.specs.Node.{count, pointers, value_at}
@@ -36,7 +36,7 @@ use Rattle.sled_tree.specs.declared.flight.Went.TheVariants as went
 use Rattle.tree_laws.specs.Stages.{by_pointer}
 use Rattle.tree_laws.specs.declared.flight.Reached.{Reached}
 use Rattle.tree_laws.specs.declared.flight.Reached.TheVariants as reached
-use Rattle.sled_tree.proofs.Facts.{viewed, untrue}
+use Rattle.sled_tree.proofs.Facts.{viewed}
 use Rattle.sled_tree.proofs.Replying.{links_law}
 use Rattle.sled_tree.proofs.Arriving.{leaf_is, index_is}
 

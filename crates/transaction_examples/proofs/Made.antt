@@ -17,10 +17,11 @@ use Rattle.sled.specs.Groups.{GroupDecided, GroupRefused}
 use Rattle.sled.specs.Sound.{IsDb}
 use Rattle.sled.specs.Transactions.{TakesIds}
 use Rattle.sled.specs.Values.{DbValue, db_state}
+use Rattle.sled.proofs.Written.{after_both}
 use Rattle.examples.specs.Reads.{found_in, maps_now}
 use Rattle.examples.proofs.Leaving.{left_by}
 use Rattle.examples.proofs.Stocking.{maps_are, open_now, open_before, first_there, second_there}
-use Rattle.examples.proofs.Written.{Holds, batch_there, batch_elsewhere, writes_then}
+use Rattle.examples.proofs.Written.{Holds, batch_there, batch_elsewhere}
 use Rattle.transaction_examples.specs.Throughout.{HoldsThroughout}
 
 -- what a tree has once these were written, and nothing else
@@ -134,7 +135,7 @@ module _ {P M : Type 0} (store : P → Store) (meant : M → Merge) where
     made_one = m.group.decides (λ n. None) 0
 
     one_is : db_state store meant new ≡ after_writes (writes_on t ws) (db_state store meant m.run)
-    one_is = made_one.is ∙ writes_then (writes_on t ws) [] (db_state store meant m.run)
+    one_is = made_one.is ∙ after_both (writes_on t ws) [] (db_state store meant m.run)
 
     pub one_wrote : Wrote (maps_now store meant old) (maps_now store meant new) t.name ws
     one_wrote =
@@ -160,7 +161,7 @@ module _ {P M : Type 0} (store : P → Store) (meant : M → Merge) where
     made_two = m.group.decides (λ n. None) 0
 
     two_is : db_state store meant new ≡ after_writes (writes_on u vs) middle
-    two_is = made_two.is ∙ writes_then (writes_on t ws) (writes_on u vs ++ []) before ∙ writes_then (writes_on u vs) [] middle
+    two_is = made_two.is ∙ after_both (writes_on t ws) (writes_on u vs ++ []) before ∙ after_both (writes_on u vs) [] middle
 
     pub first_wrote : Wrote (maps_now store meant old) (maps_now store meant new) t.name ws
     first_wrote =

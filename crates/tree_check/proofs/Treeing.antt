@@ -1,6 +1,5 @@
 -- A tree, pages by pages, and tree by tree.
 use Rattle.std.proofs.Common.{Vec, Global, ◌≡◌, ◌≢◌, ℕ, zero, suc, ◌+◌, ◌-◌, ◌≤◌, ◌<◌, Bool, true, false, cond, nat_eq, List, [], ◌∷◌, length, get_or, take, Option, Some, None, MatchOption, sym, refl, ap, ◌∙◌, subst, inl, inr, ◌⊎◌, arith}
-use Rattle.std.proofs.lemmas.Bool.Decides.{nat_tests}
 use Rattle.std.specs.BTreeSet.{BTreeSet, contains, IsEmpty}
 use Rattle.std.specs.BTreeMap.{is_at}
 use Rattle.std.specs.List.{list_any}
@@ -17,6 +16,7 @@ use Rattle.sled_store.specs.declared.page.View.{View}
 use Rattle.tree_laws.specs.Forest.{Tree, Place, place, head, first_child, Run}
 use Rattle.sled_store.specs.Store.{IsRoots}
 use Rattle.tree_laws.specs.Crashes.{IsValid}
+use Rattle.tree_laws.proofs.Matching.{itself, same_is}
 use Rattle.tree_check.specs.declared.levels.Level.{Level}
 use Rattle.tree_check.specs.theory.Tree.{IsPointerTo, IsAtHeight, IsTreeFrom}
 use Rattle.tree_check.specs.theory.Walk.{Levels, level_of, ReadsChain, IsReceived, FindsReceived, LeadsTo, HasMergingChild, LeadsDown, pids, height_in, home_in, IsNewTree, FindsLevel, FindsTree, WalksTree, Verifies}
@@ -28,23 +28,17 @@ use Rattle.tree_check.proofs.Rooted.{absent, one_root_more}
 abbrev pub level_at : ℕ → ℕ → Level
 level_at tree h = record { tree = tree; height = h }
 
-same_number : (a b : ℕ) → nat_eq a b ≡ true → a ≡ b
-same_number a b e = grind (arith, nat_tests)
-
-is_same : (a : ℕ) → nat_eq a a ≡ true
-is_same a = grind (arith, nat_tests)
-
 -- a height is that of a level
 height_of : (tree g : ℕ) (o : Option Level) → height_in tree o ≡ Some g → o ≡ Some (level_at tree g)
 height_of tree g None e = none_some e
 height_of tree g (Some z) e = go (nat_eq z.tree tree) refl e
   where
     go : (b : Bool) → nat_eq z.tree tree ≡ b → cond b (Some z.height) None ≡ Some g → Some z ≡ Some (level_at tree g)
-    go true h e = ap (λ t. Some (level_at t z.height)) (same_number z.tree tree h) ∙ ap (λ k. Some (level_at tree k)) (some_is e)
+    go true h e = ap (λ t. Some (level_at t z.height)) (same_is z.tree tree h) ∙ ap (λ k. Some (level_at tree k)) (some_is e)
     go false h e = none_some e
 
 height_is : (tree g : ℕ) → height_in tree (Some (level_at tree g)) ≡ Some g
-height_is tree g = ap (λ b. cond b (Some g) None) (is_same tree)
+height_is tree g = ap (λ b. cond b (Some g) None) (itself tree)
 
 level_home : (tree : ℕ) (levels : Levels) (p g : ℕ) → level_of levels p ≡ Some (level_at tree g) → home_in tree levels p ≡ Some g
 level_home tree levels p g e = ap (height_in tree) e ∙ height_is tree g

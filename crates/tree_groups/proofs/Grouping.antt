@@ -138,7 +138,7 @@ refused_marks (error.ReportableBug text) a b t = absurd t
 refused_marks (error.Corruption fault) a b t = absurd t
 refused_marks error.Closed a b t = absurd t
 
-refused_store : (e : Error) (a b : Store) → is_refused_as e a b → is_write_refused_as e a b
+pub refused_store : (e : Error) (a b : Store) → is_refused_as e a b → is_write_refused_as e a b
 refused_store error.NoMemory a b t = t
 refused_store (error.Io fault) a b t = inl t
 refused_store (error.CollectionNotFound name) a b t = absurd t

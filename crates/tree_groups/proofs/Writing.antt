@@ -86,7 +86,7 @@ used_up error.Closed a tells = (tells, refl)
 -- ---- the pages
 
 -- a page is there where its node is
-page_gone : (s : State) (p : ℕ) → nodes_of s p ≡ None → s.pages p ≡ None
+pub page_gone : (s : State) (p : ℕ) → nodes_of s p ≡ None → s.pages p ≡ None
 page_gone s p e = go (s.pages p) e
   where
     go : (o : Option Page) → option_map (λ (g : Page). g.node) o ≡ None → o ≡ None

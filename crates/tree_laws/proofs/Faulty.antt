@@ -13,6 +13,7 @@ use Rattle.tree_laws.specs.Forest.{Tree, Forest, Place, place, head, first_child
 use Rattle.tree_laws.specs.theory.Images.{Refuses, selves, key, leaf, index, capped, merging, one_tree, other_tree, left, right, over, first_only, both, root_is_not_there, leads_to_itself, has_a_gap, ends_early, pointer_to_nothing, wrong_key, not_the_merging_child, first_is_the_merging_child, merging_with_a_merging_child, too_many, too_many_of_a_merging_child, not_ascending, begins_late, root_of_two_trees, ends_below_its_begin, leads_on_without_a_bound, merging_root, merging_without_a_pointer, two_pointers, received_by_two_trees, in_another_tree, in_another_level, pointer_out_of_the_chain, index_beside_a_leaf, merging_child_without_a_pointer, beyond_the_bounds, without_pointers, first_key_above, received_not_ascending, RefusedImages}
 use Rattle.tree_laws.proofs.Replace.{head_in}
 use Rattle.tree_laws.proofs.Cover.{chain_run, holds_at}
+use Rattle.tree_laws.proofs.Known.{leaf_low}
 
 -- the first byte
 abbrev byte : Key → ℕ
@@ -290,11 +291,6 @@ out_of_the_chain w f z =
 
     second : ◌≡◌ {A = ℕ} 7 2 → ⊥
     second e = omega arith
-
--- a level with a leaf has the height 0
-leaf_low : (h : ℕ) (lo hi : Key) (es : List (Key × Key)) → Holds h lo hi (Leaf es) → h ≡ 0
-leaf_low zero lo hi es k = refl
-leaf_low (suc h) lo hi es k = absurd k
 
 beside_a_leaf : Refuses index_beside_a_leaf
 beside_a_leaf w f z =

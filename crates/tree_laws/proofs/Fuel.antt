@@ -78,7 +78,7 @@ along_run zero nodes (p ∷ ps) from lo hi l r = absurd (no l)
 along_run (suc n) nodes (p ∷ ps) from lo hi l r =
     ap (along (suc n) nodes) r.1.here ∙ ap (λ o. node_pairs (nodes p) ++ along n nodes (next_of o)) r.1.live ∙ ap (λ z. node_pairs (nodes p) ++ z) (along_run n nodes ps r.0.next r.0.hi hi (omega arith) r.2)
 
-leaf_first : (lo hi : Key) (c : Data) → Holds 0 lo hi c → first_child (pointers c) ≡ None
+pub leaf_first : (lo hi : Key) (c : Data) → Holds 0 lo hi c → first_child (pointers c) ≡ None
 leaf_first lo hi (Leaf es) h = refl
 leaf_first lo hi (Index es) h = absurd h
 

@@ -25,7 +25,7 @@ use Rattle.tree_laws.proofs.Pairs.{each_weaker, each_append, under}
 use Rattle.tree_laws.proofs.Reading.{sorted-append}
 use Rattle.tree_laws.proofs.Runs.{In-right, In-left}
 
-less : {o : Ordering} → T (is_lt o) → o ≡ Less
+pub less : {o : Ordering} → T (is_lt o) → o ≡ Less
 less {o = Less} p = refl
 less {o = Equal} p = absurd p
 less {o = Greater} p = absurd p

@@ -9,7 +9,6 @@ use Rattle.sled_nodes.specs.Node.{pointers}
 use Rattle.sled_nodes.specs.Order.{Key}
 use Rattle.sled_store.specs.State.{Nodes, nodes_of}
 use Rattle.sled_nodes.specs.declared.node.Node.{Node}
-use Rattle.sled_nodes.specs.declared.node.Data.{Data}
 use Rattle.sled_nodes.specs.declared.node.Data.TheVariants.{Leaf, Index}
 use Rattle.sled_store.specs.declared.page.Page.{Page}
 use Rattle.tree_laws.specs.Forest.{Tree, Forest, Place, place, head, first_child, Holds, Run, WellFormed, later}
@@ -24,7 +23,7 @@ use Rattle.tree_laws.proofs.Inside.{behind}
 use Rattle.tree_laws.proofs.Reading.{child_of}
 use Rattle.tree_laws.proofs.Cover.{holds_at}
 use Rattle.tree_laws.proofs.Known.{root_in, leaf_in, index_high}
-use Rattle.tree_laws.proofs.Fuel.{page_numbers_is, chain_few, levels_few}
+use Rattle.tree_laws.proofs.Fuel.{page_numbers_is, chain_few, levels_few, leaf_first}
 
 module _ {nodes : Nodes} {roots : Tree → Option ℕ} {w : Forest} (f : WellFormed nodes roots w) where
   -- where a pointer that is not to the merging child leads stands in the chain below
@@ -118,10 +117,6 @@ length_run (suc n) nodes (p ∷ ps) from lo hi l r =
     one : (k : ℕ) → k + 1 ≡ suc k
     one k = omega arith
 
-leaf_none : (lo hi : Key) (c : Data) → Holds 0 lo hi c → first_child (pointers c) ≡ None
-leaf_none lo hi (Leaf es) h = refl
-leaf_none lo hi (Index es) h = absurd h
-
 module _ {nodes : Nodes} {roots : Tree → Option ℕ} {w : Forest} (f : WellFormed nodes roots w) (below : (p : ℕ) (d : Node) → nodes p ≡ Some d → p < page_numbers) where
   level_length : (t : Tree) (h p : ℕ) → head (w.chain (place t h)) ≡ Some p → length_along page_numbers nodes (Some p) ≡ length (w.chain (place t h))
   level_length t h p e = ap (length_along page_numbers nodes) (sym e) ∙ length_run page_numbers nodes (w.chain (place t h)) _ [] [] (chain_few f page_numbers below (place t h)) (chain_run f (place t h) p (head_in _ p e))
@@ -134,7 +129,7 @@ module _ {nodes : Nodes} {roots : Tree → Option ℕ} {w : Forest} (f : WellFor
   under_count t zero (suc n) p l e =
       let i = head_in _ p e in
       let d = f.page (place t 0) p (f.homed (place t 0) p i) in
-      ap (λ z. z + pages_under n nodes (first_of (nodes p))) (level_length t 0 p e) ∙ ap (λ z. length (w.chain (place t 0)) + z) (ap (pages_under n nodes) (ap first_of d.1.live ∙ leaf_none d.0.lo d.0.hi d.0.content d.1.sound.holds) ∙ none n)
+      ap (λ z. z + pages_under n nodes (first_of (nodes p))) (level_length t 0 p e) ∙ ap (λ z. length (w.chain (place t 0)) + z) (ap (pages_under n nodes) (ap first_of d.1.live ∙ leaf_first d.0.lo d.0.hi d.0.content d.1.sound.holds) ∙ none n)
     where
       none : (n : ℕ) → pages_under n nodes None ≡ 0
       none zero = refl

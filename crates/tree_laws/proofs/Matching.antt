@@ -4,10 +4,10 @@ use Rattle.std.proofs.lemmas.Bool.Decides.{nat_tests}
 use Rattle.tree_laws.specs.Crashes.{Stutters}
 use Rattle.tree_laws.specs.theory.CrashLaws.{ahead, once_each, MatchesLaw}
 
-same_is : (x y : ℕ) → nat_eq x y ≡ true → x ≡ y
+pub same_is : (x y : ℕ) → nat_eq x y ≡ true → x ≡ y
 same_is x y e = grind (arith, nat_tests)
 
-itself : (x : ℕ) → nat_eq x x ≡ true
+pub itself : (x : ℕ) → nat_eq x x ≡ true
 itself x = grind (arith, nat_tests)
 
 -- ahead of a list twice is ahead of it once

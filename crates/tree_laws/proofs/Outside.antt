@@ -1,5 +1,5 @@
 -- A change of pages that have no place.
-use Rattle.std.proofs.Common.{flat_map, ◌≡◌, ℕ, suc, Bool, true, false, le_of_eq, List, [], ◌∷◌, Option, Some, None, sym, refl, ap, ◌∙◌, subst, inl, inr, ◌⊎◌}
+use Rattle.std.proofs.Common.{flat_map, ◌≡◌, ℕ, suc, false, le_of_eq, List, [], ◌∷◌, Option, Some, None, sym, refl, ap, ◌∙◌, subst, inl, inr, ◌⊎◌}
 use Rattle.sled_store.specs.In.{In}
 use Rattle.sled_nodes.specs.Node.{count}
 use Rattle.sled_nodes.specs.Order.{Key}
@@ -10,9 +10,7 @@ use Rattle.tree_laws.proofs.Cover.{child_below}
 use Rattle.tree_laws.specs.Snapshot.{IsOrphan}
 use Rattle.tree_laws.specs.theory.Snapshot.{GrowsByReceiving, KeepsNodes}
 use Rattle.tree_laws.proofs.Runs.{run_frame}
-
-no_wake : {P : Type 0} (b : Bool) → b ≡ false → b ≡ true → P
-no_wake b e f = cc
+use Rattle.tree_laws.proofs.Replace.{false_true}
 
 one : {n m : Node} → Some n ≡ Some m → n ≡ m
 one e = cc
@@ -62,7 +60,7 @@ module _ (nodes new : Nodes) (roots : Tree → Option ℕ) (w : Forest) (same : 
     capped = λ p n live t. keep p n live;
     stray = λ p s o. (own p s o, s);
     left = λ x p n live t o. o;
-    wakes = λ x p n m i was not_merging now t. no_wake m.merging (subst (λ (z : Node). z.merging ≡ false) (one (sym was ∙ sym (chained x p i) ∙ now)) not_merging) t;
+    wakes = λ x p n m i was not_merging now t. false_true m.merging (subst (λ (z : Node). z.merging ≡ false) (one (sym was ∙ sym (chained x p i) ∙ now)) not_merging) t;
     child = λ x p c n o i was is. inl (i, (n, chained x p i ∙ was, is));
   }
 

@@ -14,7 +14,7 @@ view_law mine lost old new w v s p version n k = record {
   speaks = λ g e is. elim (s.fresh p g e) [ inl a ↦ k.speaks g a is | inr b ↦ let c = k.given in cc (ap old.versions is) ];
 }
 
-no_page : (o : Option Page) → option_map (λ (g : Page). g.node) o ≡ None → o ≡ None
+pub no_page : (o : Option Page) → option_map (λ (g : Page). g.node) o ≡ None → o ≡ None
 no_page None e = refl
 no_page (Some g) e = cc
 

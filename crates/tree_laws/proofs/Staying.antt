@@ -35,16 +35,12 @@ use Rattle.tree_laws.proofs.Replace.{false_true, head_in}
 use Rattle.tree_laws.proofs.Cover.{one_cover, one_later, later_in, pointer_within, holds_at}
 use Rattle.tree_laws.proofs.Receive.{followed}
 use Rattle.tree_laws.proofs.Roots.{top_awake}
-use Rattle.tree_laws.proofs.Stable.{view_law, stood_law, now_law, had_number, not_lost, is_number}
+use Rattle.tree_laws.proofs.Stable.{view_law, stood_law, now_law, had_number, not_lost, is_number, no_page}
 use Rattle.tree_laws.proofs.Known.{fresh_node, fresh_in, seen_kept, acting_kept}
 
 pub not_true : (b : Bool) → (b ≡ true → ⊥) → b ≡ false
 not_true true not_so = absurd (not_so refl)
 not_true false not_so = refl
-
-no_page : (o : Option Page) → option_map (λ (z : Page). z.node) o ≡ None → o ≡ None
-no_page None e = refl
-no_page (Some g) e = none_some (sym e)
 
 -- who has q for its merging child covers where q begins
 parent_covers : {nodes : Nodes} {roots : Tree → Option ℕ} {w : Forest} (f : WellFormed nodes roots w) (t : Tree) (h r q : ℕ) (d e : Node) → In r (w.chain (place t (suc h))) → nodes r ≡ Some d → d.merging_child ≡ Some q → nodes q ≡ Some e → Within d.lo d.hi e.lo

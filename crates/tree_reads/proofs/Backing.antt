@@ -23,14 +23,14 @@ use Rattle.tree_laws.specs.Forest.{Tree, Forest, place, head, Run, WellFormed, c
 use Rattle.tree_laws.specs.Paths.{tree_pages, pages_below}
 use Rattle.tree_laws.proofs.Cover.{chain_run}
 use Rattle.tree_laws.proofs.Order.{upto_cases, upto-trans, below_not_upto}
-use Rattle.tree_laws.proofs.Runs.{In-right, run_parts, run_from}
+use Rattle.tree_laws.proofs.Runs.{In-right, run_parts, run_from, In_cases}
 use Rattle.tree_laws.proofs.Looking.{pages_law}
 use Rattle.tree_laws.proofs.Reading.{range_law}
 use Rattle.tree_reads.specs.Walk.{IsLeafFor, HasTooMany, RefusesWalk, refuses_walk_as, once, for_each}
 use Rattle.tree_reads.specs.Leaves.{OfContents, SeeksBack}
 use Rattle.tree_reads.specs.declared.TheConstants.{MOST_PAGES}
 use Rattle.tree_reads.proofs.Turning.{lower}
-use Rattle.tree_reads.proofs.Seeking.{node_at, in_join, none_of, none_at, all_at, none_join, empty_least}
+use Rattle.tree_reads.proofs.Seeking.{node_at, none_of, none_at, all_at, none_join, empty_least}
 
 -- above what is without an upper bound all is
 pub beyond : (hi : Bound Key) (a b : Key) → UpTo a b → is_up_to hi a ≡ false → is_up_to hi b ≡ false
@@ -140,7 +140,7 @@ shorter (x ∷ xs) (z ∷ us) y u ys vs e off = more (length us) (length xs) (sh
     more : (a b : ℕ) → a < b → suc a < suc b
     more a b h = omega arith
 
-chain_at : (w : Forest) (t : Tree) (p : ℕ) (xs ys : List ℕ) → w.chain (place t 0) ≡ xs ++ p ∷ ys → In p (w.chain (place t 0))
+pub chain_at : (w : Forest) (t : Tree) (p : ℕ) (xs ys : List ℕ) → w.chain (place t 0) ≡ xs ++ p ∷ ys → In p (w.chain (place t 0))
 chain_at w t p xs ys e = subst (λ l. In p l) (sym e) (In-right xs (p ∷ ys) p (inl refl))
 
 -- pages from a place of a chain on begin at or above its lo
@@ -194,9 +194,9 @@ module _ (s : State) (root : ℕ) (hi : Bound Key) (v : View) (looked : ℕ) (k 
   passed none w f t is e i up =
       let a = k.is w f t is in
       let r = range_law (nodes_of s) s.roots w f t v.pid v.node (chain_at w t v.pid a.0 a.1 a.2) (node_at s v k.read.live) in
-      elim (in_join r.0 (pairs v.node.content ++ r.1) e (subst (λ l. In e l) r.2 i)) [
+      elim (In_cases r.0 (pairs v.node.content ++ r.1) e (subst (λ l. In e l) r.2 i)) [
         | inl j ↦ absurd (below_not_upto e.0 v.node.lo (all_at (λ e. Below e.0 v.node.lo) r.0 e j r.3) up)
-        | inr j ↦ elim (in_join (pairs v.node.content) r.1 e j) [
+        | inr j ↦ elim (In_cases (pairs v.node.content) r.1 e j) [
           | inl u ↦ none_at (λ e. is_up_to hi e.0) (pairs v.node.content) e u none
           | inr u ↦ let b = all_at (λ e. (v.node.hi ≢ []) × UpTo v.node.hi e.0) r.1 e u r.5 in a.4 e i b.0 b.1
         ]

@@ -3,7 +3,6 @@ use Rattle.std.proofs.Common.{◌≡◌, ℕ, suc, ◌+◌, ◌≤◌, true, Lis
 use Rattle.std.specs.declared.ops.Bound.TheVariants.{Included}
 use Rattle.sled_nodes.proofs.Basics.{none_some, some_is, not_true}
 use Rattle.sled_nodes.specs.Order.{Key, Below}
-use Rattle.sled_store.specs.In.{In}
 use Rattle.sled_nodes.specs.Among.{is_up_to}
 use Rattle.sled_nodes.specs.Node.{pairs}
 use Rattle.sled_store.specs.State.{State, Nodes, nodes_of}
@@ -15,17 +14,16 @@ use Rattle.tree_laws.specs.Forest.{Tree, Forest, place, head, Run, WellFormed, n
 use Rattle.tree_laws.specs.Paths.{tree_pages}
 use Rattle.tree_laws.proofs.Cover.{chain_run}
 use Rattle.tree_laws.proofs.Order.{upto_cases}
-use Rattle.tree_laws.proofs.Runs.{In-right, run_parts, run_to}
+use Rattle.tree_laws.proofs.Runs.{run_parts, run_to}
 use Rattle.tree_laws.proofs.Looking.{next_in}
+use Rattle.tree_laws.proofs.Pairs.{not_below_empty}
 use Rattle.tree_reads.specs.Walk.{IsLeafFor, HasTooMany, once}
 use Rattle.tree_reads.specs.Leaves.{OfContents}
 use Rattle.tree_reads.specs.theory.Leaves.{Counts}
 use Rattle.tree_reads.specs.declared.TheConstants.{MOST_PAGES}
 use Rattle.tree_reads.proofs.Walking.{viewed, gone}
-use Rattle.tree_reads.proofs.Seeking.{node_at, nothing_below}
-
-chain_at : (w : Forest) (t : Tree) (p : ℕ) (xs ys : List ℕ) → w.chain (place t 0) ≡ xs ++ p ∷ ys → In p (w.chain (place t 0))
-chain_at w t p xs ys e = subst (λ l. In p l) (sym e) (In-right xs (p ∷ ys) p (inl refl))
+use Rattle.tree_reads.proofs.Seeking.{node_at}
+use Rattle.tree_reads.proofs.Backing.{chain_at}
 
 -- the run of a chain from one of its pages on
 parts : (nodes : Nodes) (roots : Tree → Option ℕ) (w : Forest) → WellFormed nodes roots w → (t : Tree) (p : ℕ) (xs ys : List ℕ) → w.chain (place t 0) ≡ xs ++ p ∷ ys
@@ -39,7 +37,7 @@ none_before nodes roots w f t p n (x ∷ xs) ys e live low =
     let r = parts nodes roots w f t p (x ∷ xs) ys e in
     let early = subst (λ g. Run nodes (x ∷ xs) (head (w.chain (place t 0))) [] g r.1) r.3.1.here r.2 in
     let key : r.1 ≡ [] = r.3.1.lo_is ∙ ap (λ (z : Node). z.lo) (some_is (sym r.3.1.live ∙ live)) ∙ low in
-    absurd (nothing_below r.2.0.lo (subst (λ k. Below r.2.0.lo k) key (run_to nodes (x ∷ xs) _ p _ _ early x r.2.0 (inl refl) r.2.1.live)))
+    absurd (not_below_empty r.2.0.lo (subst (λ k. Below r.2.0.lo k) key (run_to nodes (x ∷ xs) _ p _ _ early x r.2.0 (inl refl) r.2.1.live)))
 
 -- the pairs of one page more
 one_more : (f : ℕ → List (Key × Key)) (xs : List ℕ) (p : ℕ) → length (flat_map f (xs ++ p ∷ [])) ≡ length (flat_map f xs) + length (f p)
@@ -66,7 +64,7 @@ count_first s root v looked given leaf = record {
     fits a b l n c h = omega arith
 
     empty : (k : Key) → is_up_to (Included []) k ≡ true → k ≡ []
-    empty k b = elim (upto_cases k [] (not_true _ b)) [ inl l ↦ absurd (nothing_below k l) | inr e ↦ e ]
+    empty k b = elim (upto_cases k [] (not_true _ b)) [ inl l ↦ absurd (not_below_empty k l) | inr e ↦ e ]
 
 module _ (s : State) (root : ℕ) (v : View) (looked total : ℕ) (k : Counts s root v looked total) (n : Node) (same : n ≡ v.node) (more : ℕ) (with : more ≡ total + length (pairs n.content)) where
   all_here : (before : List ℕ) → total ≡ length (flat_map (λ p. node_pairs (nodes_of s p)) before) → more ≡ length (flat_map (λ p. node_pairs (nodes_of s p)) (before ++ v.pid ∷ []))

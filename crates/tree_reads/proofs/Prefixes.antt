@@ -5,11 +5,12 @@ use Rattle.std.proofs.lemmas.Cmp.{nat_cmp_total, tied_itself}
 use Rattle.std.specs.List.{starts_with, AllByRecursion}
 use Rattle.std.specs.Ordering.{nat_cmp, is_lt, ordering_then}
 use Rattle.std.specs.Cmp.Lexicographic.{slice_cmp}
-use Rattle.std.specs.declared.cmp.Ordering.TheVariants.{Less, Equal, Greater}
+use Rattle.std.specs.declared.cmp.Ordering.TheVariants.{Equal, Greater}
 use Rattle.std.specs.declared.ops.Bound.TheVariants.{Included, Excluded}
 use Rattle.sled_nodes.specs.Order.{Key, key_cmp}
 use Rattle.sled_nodes.specs.Among.{is_up_to, is_from}
 use Rattle.sled_nodes.specs.Ranges.{is_reversed}
+use Rattle.sled_nodes.proofs.Fronts.{cmp_less}
 use Rattle.tree_reads.specs.Ranges.{pairs_within}
 use Rattle.tree_reads.specs.Prefixes.{IsBytes, or_raised, raised_key, below, raised, pairs_beginning, PrefixLaw}
 
@@ -33,9 +34,6 @@ lies prefix end key = not (is_lt (slice_cmp nat_cmp key prefix)) && is_up_to (be
 equal : (b : ℕ) → nat_cmp b b ≡ Equal
 equal b = tied_itself nat_cmp_total b
 
-less : (b c : ℕ) → b < c → nat_cmp b c ≡ Less
-less b c h = rw (lt-ltb b c h) refl
-
 greater : (b c : ℕ) → b < c → nat_cmp c b ≡ Greater
 greater b c h =
     let past : b ≤ c = omega arith in
@@ -52,7 +50,7 @@ up_same b key (Some rest) = ap (λ o. is_lt (ordering_then o (slice_cmp nat_cmp 
 up_same b key None = go (nat_lt b 255)
   where
     go : (small : Bool) → is_up_to (below (cond small (Some ((b + 1) ∷ [])) None)) (b ∷ key) ≡ true
-    go true = ap (λ o. is_lt (ordering_then o (slice_cmp nat_cmp key []))) (less b (b + 1) (omega arith))
+    go true = ap (λ o. is_lt (ordering_then o (slice_cmp nat_cmp key []))) (cmp_less b (b + 1) (omega arith))
     go false = refl
 
 -- a higher byte lies beyond the end
@@ -87,7 +85,7 @@ lies_as (b ∷ rest) (c ∷ key) bytes = elim (cases_order b c) [
         ∙ up_past b c key (raised_key rest) lt bytes.0
         ∙ sym (ap (λ first. first && begins key rest) (ne_eqb b c (λ (e : b ≡ c). omega arith)))
     | inr gt ↦
-        ap (λ o. not (is_lt (ordering_then o (slice_cmp nat_cmp key rest))) && is_up_to (below (raised_key (b ∷ rest))) (c ∷ key)) (less c b gt)
+        ap (λ o. not (is_lt (ordering_then o (slice_cmp nat_cmp key rest))) && is_up_to (below (raised_key (b ∷ rest))) (c ∷ key)) (cmp_less c b gt)
         ∙ sym (ap (λ first. first && begins key rest) (ne_eqb b c (λ (e : b ≡ c). omega arith)))
   ]
 ]

@@ -7,7 +7,7 @@ use Rattle.std.specs.declared.cmp.Ordering.{Ordering}
 use Rattle.std.specs.declared.cmp.Ordering.TheVariants.{Less, Equal, Greater}
 use Rattle.std.specs.declared.ops.Bound.{Bound}
 use Rattle.std.specs.declared.ops.Bound.TheVariants.{Included, Excluded, Unbounded}
-use Rattle.sled_nodes.proofs.Basics.{false_true, not_true, left_of, right_of, is_less, key_total}
+use Rattle.sled_nodes.proofs.Basics.{false_true, not_true, left_of, right_of, is_less, is_greater, key_total}
 use Rattle.sled_nodes.specs.Order.{Key, key_cmp, Below}
 use Rattle.sled_store.specs.In.{In}
 use Rattle.sled_nodes.specs.Among.{is_up_to, is_from, IsFirst, IsLast, IsSuccessor, IsPredecessor}
@@ -20,17 +20,15 @@ use Rattle.tree_laws.specs.Contents.{pairs_under}
 use Rattle.tree_laws.proofs.Order.{below_irrefl, below_upto-trans, upto_below-trans, upto-trans}
 use Rattle.tree_laws.proofs.Fuel.{contents_law}
 use Rattle.tree_laws.proofs.Reading.{sorted_law}
+use Rattle.tree_laws.proofs.Runs.{In_cases}
+use Rattle.tree_laws.proofs.Pairs.{not_below_empty, above}
+use Rattle.tree_laws.proofs.Halving.{less}
 use Rattle.tree_reads.specs.Leaves.{OfContents, SeeksAt, SeeksBackAt}
 use Rattle.tree_reads.specs.Ranges.{pairs_within, IsRoot}
 use Rattle.tree_reads.specs.theory.Ranges.{Advances, Retreats}
 use Rattle.tree_reads.proofs.Turning.{lower}
-use Rattle.tree_reads.proofs.Seeking.{none_at, all_at, in_join, higher, above, under, nothing_below, seeks_on}
+use Rattle.tree_reads.proofs.Seeking.{none_at, all_at, higher, under, seeks_on}
 use Rattle.tree_reads.proofs.Backing.{back_on}
-
-less : {o : Ordering} → T (is_lt o) → o ≡ Less
-less {o = Less} p = refl
-less {o = Equal} p = absurd p
-less {o = Greater} p = absurd p
 
 each_above : (k : Key) (es : List (Key × Key)) → T (below_all key_cmp k es) → AllByRecursion (λ e. Below k e.0) es
 each_above k [] p = tt
@@ -113,7 +111,7 @@ module _ (lo hi : Bound Key) (all : List (Key × Key)) where
 
     -- it is beyond: nothing is left
     beyond : is_up_to hi x.0 ≡ false → pairs_within lo hi all ≡ []
-    beyond up = filter_none test all (λ e i. elim (in_join f.before (x ∷ f.after) e (subst (λ l. In e l) f.is i)) [
+    beyond up = filter_none test all (λ e i. elim (In_cases f.before (x ∷ f.after) e (subst (λ l. In e l) f.is i)) [
       | inl j ↦ off e (before_off e j)
       | inr j ↦ elim j [
         | inl s ↦ far e (ap (λ (z : Key × Key). is_up_to hi z.0) s ∙ up)
@@ -192,7 +190,7 @@ module _ (lo hi : Bound Key) (all : List (Key × Key)) where
 
     -- it is before the lower bound: nothing is left
     before_all : is_from lo x.0 ≡ false → pairs_within lo hi all ≡ []
-    before_all off = filter_none within all (λ e i. elim (in_join f.before (x ∷ f.after) e (subst (λ l. In e l) f.is i)) [
+    before_all off = filter_none within all (λ e i. elim (In_cases f.before (x ∷ f.after) e (subst (λ l. In e l) f.is i)) [
       | inl j ↦ short e (go e j (is_from lo e.0) refl)
       | inr j ↦ elim j [
         | inl s ↦ short e (ap (λ (z : Key × Key). is_from lo z.0) s ∙ off)
@@ -213,17 +211,12 @@ not_lt a b h = go (key_cmp b a) refl
     go Equal e = ap is_gt e
     go Greater e = false_true (sym (ap (λ o. not (is_lt o)) (key_total.antisymm a b ∙ ap ordering_reverse e)) ∙ h)
 
-greatest : (o : Ordering) → is_gt o ≡ true → o ≡ Greater
-greatest Less e = cc
-greatest Equal e = cc
-greatest Greater e = refl
-
 none_from : (lo hi : Bound Key) → is_reversed lo hi ≡ true → (k : Key) → is_up_to hi k ≡ true → is_from lo k ≡ false
-none_from (Included a) (Included b) r k u = ap (λ o. not (is_lt o)) (upto_below-trans k b a (not_true _ u) (under a b (greatest _ r)))
+none_from (Included a) (Included b) r k u = ap (λ o. not (is_lt o)) (upto_below-trans k b a (not_true _ u) (under a b (is_greater _ r)))
 none_from (Included a) (Excluded b) r k u = ap (λ o. not (is_lt o)) (below_upto-trans k b a (is_less _ u) (not_lt a b r))
 none_from (Excluded a) (Included b) r k u = upto-trans k b a (not_true _ u) (not_lt a b r)
 none_from (Excluded a) (Excluded b) r k u = ap is_gt (below_upto-trans k b a (is_less _ u) (not_lt a b r))
-none_from Unbounded (Excluded b) r k u = absurd (nothing_below k (below_upto-trans k b [] (is_less _ u) (not_lt [] b r)))
+none_from Unbounded (Excluded b) r k u = absurd (not_below_empty k (below_upto-trans k b [] (is_less _ u) (not_lt [] b r)))
 none_from Unbounded (Included b) r k u = false_true r
 none_from Unbounded Unbounded r k u = false_true r
 none_from (Included a) Unbounded r k u = false_true r

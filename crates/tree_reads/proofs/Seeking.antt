@@ -1,5 +1,5 @@
 -- From leaf to leaf, to the right.
-use Rattle.std.proofs.Common.{◌≡◌, ◌≢◌, ◌⊎◌, ℕ, suc, ◌+◌, ◌<◌, ◌≤◌, Bool, true, false, not, List, [], ◌∷◌, ◌++◌, length, Option, Some, None, option_map, sym, refl, ap, ◌∙◌, subst, inl, inr, append_assoc, arith}
+use Rattle.std.proofs.Common.{◌≡◌, ◌≢◌, ℕ, suc, ◌+◌, ◌<◌, ◌≤◌, Bool, true, false, not, List, [], ◌∷◌, ◌++◌, length, Option, Some, None, option_map, sym, refl, ap, ◌∙◌, subst, inl, inr, append_assoc, arith}
 use Rattle.std.specs.List.{list_any, AllByRecursion}
 use Rattle.std.specs.Ordering.{is_lt, is_gt, ordering_reverse}
 use Rattle.std.specs.declared.cmp.Ordering.{Ordering}
@@ -10,7 +10,7 @@ use Rattle.sled_nodes.specs.Order.{Key, key_cmp, Below, UpTo}
 use Rattle.sled_store.specs.In.{In}
 use Rattle.sled_nodes.specs.Among.{is_up_to, is_from, IsFirst, IsSuccessor}
 use Rattle.std.specs.FinMap.Entries.{find}
-use Rattle.sled_nodes.proofs.Basics.{none_some, false_true, not_true, first_false, second_false, or_false, key_total}
+use Rattle.sled_nodes.proofs.Basics.{none_some, false_true, not_true, first_false, second_false, or_false, is_greater, key_total}
 use Rattle.sled_nodes.specs.Node.{pairs, value_at, Covers}
 use Rattle.sled_nodes.specs.declared.node.Data.{Data}
 use Rattle.sled_nodes.specs.declared.node.Data.TheVariants.{Leaf, Index}
@@ -22,22 +22,15 @@ use Rattle.sled_store.specs.declared.page.View.{View}
 use Rattle.tree_laws.specs.Forest.{Tree, Forest, place, contents}
 use Rattle.tree_laws.specs.Paths.{IsAhead, tree_pages}
 use Rattle.tree_laws.proofs.Order.{upto-refl, below_upto-trans, below_not_upto, below-trans}
-use Rattle.tree_laws.proofs.Runs.{In-right}
+use Rattle.tree_laws.proofs.Runs.{In-right, In_cases, In-left}
 use Rattle.tree_laws.proofs.Looking.{next_in, next_some, ahead_next}
 use Rattle.tree_laws.proofs.Reading.{range_law, find_law}
+use Rattle.tree_laws.proofs.Pairs.{not_below_empty, above}
 use Rattle.tree_reads.specs.Walk.{IsUnder, IsLeafFor, HasTooMany, once}
 use Rattle.tree_reads.specs.Leaves.{OfContents, Seeks}
 use Rattle.tree_reads.specs.theory.Leaves.{StartsAt}
 use Rattle.tree_reads.specs.declared.TheConstants.{MOST_PAGES}
-use Rattle.tree_reads.proofs.Walking.{viewed, gone}
-
-pub above : (a b : Key) → Below a b → key_cmp b a ≡ Greater
-above a b h = key_total.antisymm b a ∙ ap ordering_reverse h
-
-greater : (o : Ordering) → is_gt o ≡ true → o ≡ Greater
-greater Less e = cc
-greater Equal e = cc
-greater Greater e = refl
+use Rattle.tree_reads.proofs.Walking.{viewed, gone, one_less}
 
 pub under : (a c : Key) → key_cmp a c ≡ Greater → Below c a
 under a c e = key_total.antisymm c a ∙ ap ordering_reverse e
@@ -50,7 +43,7 @@ higher (Included c) a b l u = go (key_cmp b c) refl
     go Less e = false_true (sym (ap (λ o. not (is_lt o)) (below-trans a b c l e)) ∙ u)
     go Equal e = ap (λ o. not (is_lt o)) e
     go Greater e = ap (λ o. not (is_lt o)) e
-higher (Excluded c) a b l u = ap is_gt (above c b (below-trans c a b (under a c (greater (key_cmp a c) u)) l))
+higher (Excluded c) a b l u = ap is_gt (above c b (below-trans c a b (under a c (is_greater (key_cmp a c) u)) l))
 higher Unbounded a b l u = refl
 
 -- where walks begin
@@ -68,22 +61,8 @@ starts_included b = record { all = empty_least b; below = λ k m u l. ap (λ o. 
 pub starts_excluded : (b : Key) → StartsAt (Excluded b) (Included b)
 starts_excluded b = record { all = empty_least b; below = λ k m u l. ap is_gt (same_start b k m u l) }
 
-pub nothing_below : (k : Key) → Below k [] → ⊥
-nothing_below k l = below_not_upto k [] l (not_true (is_gt (key_cmp [] k)) (empty_least k))
-
 pub starts_unbounded : StartsAt Unbounded (Included [])
-starts_unbounded = record { all = empty_least []; below = λ k m u l. absurd (nothing_below k (same_start [] k m u l)) }
-
--- membership of joined lists, and tests
-pub in_join : {X : Type 0} (xs ys : List X) (x : X) → In x (xs ++ ys) → In x xs ⊎ In x ys
-in_join [] ys x i = inr i
-in_join (z ∷ xs) ys x (inl e) = inl (inl e)
-in_join (z ∷ xs) ys x (inr i) = elim (in_join xs ys x i) [ inl j ↦ inl (inr j) | inr j ↦ inr j ]
-
-in_left : {X : Type 0} (xs ys : List X) (x : X) → In x xs → In x (xs ++ ys)
-in_left [] ys x i = absurd i
-in_left (z ∷ xs) ys x (inl e) = inl e
-in_left (z ∷ xs) ys x (inr i) = inr (in_left xs ys x i)
+starts_unbounded = record { all = empty_least []; below = λ k m u l. absurd (not_below_empty k (same_start [] k m u l)) }
 
 pub none_of : {X : Type 0} (test : X → Bool) (xs : List X) → ((x : X) → In x xs → test x ≡ false) → list_any test xs ≡ false
 none_of test [] k = refl
@@ -130,9 +109,6 @@ seeks_first s root lo target v looked given starts leaf = record {
 pub in_chain : {w : Forest} {t : Tree} {h p n : ℕ} → (a : IsAhead w t h p n) → In p (w.chain (place t h))
 in_chain {p = p} a = subst (λ l. In p l) (sym a.is) (In-right a.before (p ∷ a.behind) p (inl refl))
 
-one_less : (k a l m : ℕ) → k < a → a + l ≤ m → k + (l + 1) ≤ m
-one_less k a l m h e = omega arith
-
 -- from a page that is the first within its bound
 pub further : (lo : Bound Key) (k e : Key) → is_from lo k ≡ true → is_from lo e ≡ false → is_from (Excluded k) e ≡ false
 further lo k e p q = go (key_cmp e k) refl
@@ -163,7 +139,7 @@ module _ (s : State) (root : ℕ) (lo : Bound Key) (v : View) (looked : ℕ) (k 
           after = first.after ++ r.1;
           is = r.2 ∙ ap (λ z. r.0 ++ (z ++ r.1)) first.is ∙ ap (λ z. r.0 ++ z) (append_assoc first.before (x ∷ first.after) r.1) ∙ sym (append_assoc r.0 first.before (x ∷ (first.after ++ r.1)));
           passed = first.passed;
-          none = none_join (λ e. is_from lo e.0) r.0 first.before (none_of (λ e. is_from lo e.0) r.0 (λ e i. a.3 e (subst (λ l. In e l) (sym r.2) (in_left r.0 (pairs v.node.content ++ r.1) e i)) (all_at (λ e. Below e.0 v.node.lo) r.0 e i r.3))) first.none;
+          none = none_join (λ e. is_from lo e.0) r.0 first.before (none_of (λ e. is_from lo e.0) r.0 (λ e i. a.3 e (subst (λ l. In e l) (sym r.2) (In-left r.0 (pairs v.node.content ++ r.1) e i)) (all_at (λ e. Below e.0 v.node.lo) r.0 e i r.3))) first.none;
         };
   }
 
@@ -173,9 +149,9 @@ module _ (s : State) (root : ℕ) (lo : Bound Key) (v : View) (looked : ℕ) (k 
     is = λ w f t is.
         let a = k.is w f t is in
         let r = range_law (nodes_of s) s.roots w f t v.pid v.node (in_chain a.1) (node_at s v k.read.live) in
-        none_of (λ e. is_from lo e.0) (contents (nodes_of s) w t) (λ e i. elim (in_join r.0 (pairs v.node.content ++ r.1) e (subst (λ l. In e l) r.2 i)) [
+        none_of (λ e. is_from lo e.0) (contents (nodes_of s) w t) (λ e i. elim (In_cases r.0 (pairs v.node.content ++ r.1) e (subst (λ l. In e l) r.2 i)) [
           | inl j ↦ a.3 e i (all_at (λ e. Below e.0 v.node.lo) r.0 e j r.3)
-          | inr j ↦ elim (in_join (pairs v.node.content) r.1 e j) [
+          | inr j ↦ elim (In_cases (pairs v.node.content) r.1 e j) [
             | inl u ↦ none_at (λ e. is_from lo e.0) (pairs v.node.content) e u none
             | inr u ↦ none_some (sym last ∙ (next_some f (place t 0) v.pid v.node (in_chain a.1) (node_at s v k.read.live) (all_at (λ e. (v.node.hi ≢ []) × UpTo v.node.hi e.0) r.1 e u r.5).0).1)
           ]
@@ -196,9 +172,9 @@ module _ (s : State) (root : ℕ) (lo : Bound Key) (v : View) (looked : ℕ) (k 
               b.0,
               subst (λ p. IsAhead w t 0 p b.0) (sym x.0) b.2,
               one_less b.0 a.0 looked (tree_pages s t + 1) b.1 a.2,
-              λ e i l. elim (in_join r.0 (pairs v.node.content ++ r.1) e (subst (λ z. In e z) r.2 i)) [
+              λ e i l. elim (In_cases r.0 (pairs v.node.content ++ r.1) e (subst (λ z. In e z) r.2 i)) [
                 | inl j ↦ a.3 e i (all_at (λ e. Below e.0 v.node.lo) r.0 e j r.3)
-                | inr j ↦ elim (in_join (pairs v.node.content) r.1 e j) [
+                | inr j ↦ elim (In_cases (pairs v.node.content) r.1 e j) [
                   | inl c ↦ none_at (λ e. is_from lo e.0) (pairs v.node.content) e c none
                   | inr c ↦ absurd (below_not_upto e.0 v.node.hi (subst (λ z. Below e.0 z) same l) (all_at (λ e. (v.node.hi ≢ []) × UpTo v.node.hi e.0) r.1 e c r.5).1)
                 ]

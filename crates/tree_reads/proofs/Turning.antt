@@ -4,7 +4,7 @@ use Rattle.std.specs.List.{list_any}
 use Rattle.std.specs.Ordering.{is_lt, is_gt}
 use Rattle.std.specs.declared.ops.Bound.{Bound}
 use Rattle.std.specs.declared.ops.Bound.TheVariants.{Included, Excluded, Unbounded}
-use Rattle.sled_nodes.proofs.Basics.{some_is, not_true, is_less}
+use Rattle.sled_nodes.proofs.Basics.{some_is, not_true, untrue, is_less}
 use Rattle.sled_nodes.specs.Order.{Key, key_cmp, Below}
 use Rattle.sled_store.specs.In.{In}
 use Rattle.sled_nodes.specs.Among.{is_up_to, IsPointer, IsPointerFor, IsBefore, IsPointerBefore}
@@ -66,12 +66,6 @@ under target n m off e begins = record {
       where
         apart : [] ≡ x ∷ xs → ⊥
         apart e = cc
-
-pub untrue : {P : Type 0} (b : Bool) → IsTrue b ↔ P → b ≡ false → P → ⊥
-untrue b told e p = apart b e (told.1 p)
-  where
-    apart : (b : Bool) → b ≡ false → IsTrue b → ⊥
-    apart b e t = cc
 
 -- a leaf ends the walk
 pub turns_leaf : (target : Bound Key) (n : Node) (es : List (Key × Key)) (b : Bool) → IsTrue b ↔ LiesBehind target n → b ≡ false → n.content ≡ Leaf es → Turns target n None

@@ -55,7 +55,7 @@ pub gone : (pid : ℕ) (page : Option Page) → None ≡ view_of pid page → pa
 gone pid None e = refl
 gone pid (Some g) e = none_some e
 
-one_less : (k a l m : ℕ) → k < a → a + l ≤ m → k + (l + 1) ≤ m
+pub one_less : (k a l m : ℕ) → k < a → a + l ≤ m → k + (l + 1) ≤ m
 one_less k a l m h e = omega arith
 
 one_more : (a b : ℕ) → a ≤ b → a ≤ b + 1

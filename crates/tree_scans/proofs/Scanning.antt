@@ -7,7 +7,7 @@ use Rattle.std.proofs.Common.{cond, append-nil, ◌≡◌, ℕ, zero, suc, ◌+�
 use Rattle.std.specs.List.{AllByRecursion}
 use Rattle.std.specs.declared.ops.Bound.{Bound}
 use Rattle.std.specs.declared.ops.Bound.TheVariants.{Included, Excluded, Unbounded}
-use Rattle.sled_nodes.proofs.Basics.{none_some, some_is, false_true, true_false, second_true}
+use Rattle.sled_nodes.proofs.Basics.{none_some, some_is, false_true, true_false, second_true, first_off, second_off}
 use Rattle.sled_nodes.specs.Among.{is_from, is_up_to}
 use Rattle.sled_nodes.specs.Node.{pairs, Covers}
 use Rattle.sled_nodes.specs.Order.{Key, key_cmp, Below, UpTo}
@@ -19,6 +19,7 @@ use Rattle.tree_laws.specs.Snapshot.{LiesUnder}
 use Rattle.tree_laws.proofs.Order.{below-trans, upto-below, below_upto-trans, below_irrefl, below_not_upto, behind_key, up_to_key, within_below}
 use Rattle.tree_laws.specs.declared.flight.Giving.{Giving}
 use Rattle.tree_laws.specs.declared.flight.Stage.TheVariants as stage
+use Rattle.tree_laws.proofs.Pairs.{not_below_empty}
 use Rattle.sled_tree.specs.declared.flight.Aim.{Aim}
 use Rattle.sled_tree.specs.declared.flight.Aim.TheVariants.{Own, At}
 use Rattle.sled_tree.specs.declared.flight.InFlight.{InFlight}
@@ -42,7 +43,7 @@ drop_more (suc n) [] x more e = cc
 drop_more zero (y ∷ ys) x more e = cc
 drop_more (suc n) (y ∷ ys) x more e = drop_more n ys x more e
 
-one_more : (n : ℕ) → n + 1 ≡ suc n
+pub one_more : (n : ℕ) → n + 1 ≡ suc n
 one_more n = omega arith
 
 -- after the first pair that waits was given the others wait, and as much is left to read
@@ -106,11 +107,6 @@ abbrev pub starts_as : Bool → Bound Key → Bound Key → Bound Key → Type 0
 starts_as false lo hi aim = (k : Key) × (aim ≡ Included k) × IsStart lo k
 starts_as true lo hi aim = aim ≡ hi
 
-none_below : (k : Key) → Below k [] → ⊥
-unfolding key_cmp
-none_below [] e = cc
-none_below (b ∷ bs) e = cc
-
 true_or_false : {P : Type 0} (b : Bool) → (b ≡ true → P) → (b ≡ false → P) → P
 true_or_false true t f = t refl
 true_or_false false t f = f refl
@@ -166,7 +162,7 @@ above_start Unbounded k j e l = refl
 below_start : (lo : Bound Key) (k j : Key) → IsStart lo k → Below j k → is_from lo j ≡ false
 below_start (Included a) k j e l = ap not (ap (λ z. is_lt (key_cmp j z)) e ∙ ap is_lt l)
 below_start (Excluded a) k j e l = ap (λ z. is_gt (key_cmp j z)) e ∙ ap is_gt l
-below_start Unbounded k j e l = absurd (none_below j (subst (Below j) e l))
+below_start Unbounded k j e l = absurd (not_below_empty j (subst (Below j) e l))
 
 -- lists of pairs that a test passes
 filter_none : (p : Key × Key → Bool) (xs : List (Key × Key)) → AllByRecursion (λ e. p e ≡ false) xs → filter p xs ≡ []
@@ -186,13 +182,6 @@ middle : (p q : Key × Key → Bool) (before es behind all : List (Key × Key)) 
 middle p q before es behind all is a b c =
     filter_same p q es b
     ∙ sym (ap (filter q) is ∙ filter-append q before (es ++ behind) ∙ ap (λ zs. zs ++ filter q (es ++ behind)) (filter_none q before a) ∙ filter-append q es behind ∙ ap (λ zs. filter q es ++ zs) (filter_none q behind c) ∙ append-nil (filter q es))
-
-and_false : (a b : Bool) → b ≡ false → (a && b) ≡ false
-and_false true b e = e
-and_false false b e = refl
-
-false_and : (a b : Bool) → a ≡ false → (a && b) ≡ false
-false_and a b e = ap (λ x. x && b) e
 
 -- a range and its parts, key by key
 or_none : (a : Bool) → a ≡ a || false
@@ -227,7 +216,7 @@ module _ (n : Node) (lo hi : Bound Key) (k : Key) (start : IsStart lo k) (begins
   module _ (before es behind all : List (Key × Key)) (is : all ≡ before ++ (es ++ behind)) (a : AllByRecursion (λ e. Below e.0 n.lo) before) where
     whole_up : n.hi ≡ [] → AllByRecursion (λ e. (n.hi ≡ [] → ⊥) × UpTo n.hi e.0) behind → pairs_in up es ≡ pairs_in up all
     whole_up last c = middle (λ e. is_in_range up e.0) (λ e. is_in_range up e.0) before es behind all is
-        (each (λ e l. false_and (is_from lo e.0) (is_up_to hi e.0) (not_before e l)) before a)
+        (each (λ e l. first_off (is_from lo e.0) (is_up_to hi e.0) (not_before e l)) before a)
         (all_same es)
         (each (λ e b. absurd (b.0 last)) behind c)
       where
@@ -262,18 +251,18 @@ module _ (n : Node) (lo hi : Bound Key) (k : Key) (start : IsStart lo k) (begins
         way = refl;
         way_left = λ r e. sym (ap (λ (z : Range). z.back) (some_is e));
         splits = λ j. below_or_upto j h
-            (λ l. part_alone _ _ _ (ap (λ x. is_from lo j && x) (ap is_lt l ∙ sym (within_end j l))) (false_and _ (is_up_to hi j) (off_rest j l)))
-            (λ u. rest_alone _ _ _ (and_false (is_from lo j) _ (not_below j h u)) (ap (λ x. x && is_up_to hi j) (in_rest j u ∙ sym (from_end j u))));
+            (λ l. part_alone _ _ _ (ap (λ x. is_from lo j && x) (ap is_lt l ∙ sym (within_end j l))) (first_off _ (is_up_to hi j) (off_rest j l)))
+            (λ u. rest_alone _ _ _ (second_off (is_from lo j) _ (not_below j h u)) (ap (λ x. x && is_up_to hi j) (in_rest j u ∙ sym (from_end j u))));
         before = λ i j in_part in_other. below_or_upto j h
-            (λ l. absurd (false_true (sym (false_and _ (is_up_to hi j) (off_rest j l)) ∙ in_other)))
+            (λ l. absurd (false_true (sym (first_off _ (is_up_to hi j) (off_rest j l)) ∙ in_other)))
             (λ u. below_upto-trans i h j (lt_below i h (second_true (is_from lo i) _ in_part)) u);
       }
 
       same_up : (before es behind all : List (Key × Key)) → all ≡ before ++ (es ++ behind) → AllByRecursion (λ e. Below e.0 n.lo) before → AllByRecursion (λ e. Below e.0 h) es → AllByRecursion (λ e. UpTo h e.0) behind → pairs_in up es ≡ pairs_in part_up all
       same_up before es behind all is a b c = middle (λ e. is_in_range up e.0) (λ e. is_in_range part_up e.0) before es behind all is
-          (each (λ e l. false_and (is_from lo e.0) _ (not_before e l)) before a)
+          (each (λ e l. first_off (is_from lo e.0) _ (not_before e l)) before a)
           (each (λ e l. ap (λ x. is_from lo e.0 && x) (within_end e.0 l ∙ sym (ap is_lt l))) es b)
-          (each (λ e u. and_false (is_from lo e.0) _ (not_below e.0 h u)) behind c)
+          (each (λ e u. second_off (is_from lo e.0) _ (not_below e.0 h u)) behind c)
 
     -- the range ends before
     module _ (done : is_up_to hi h ≡ false) where
@@ -281,7 +270,7 @@ module _ (n : Node) (lo hi : Bound Key) (k : Key) (start : IsStart lo k) (begins
       past_end j u = beyond hi h j u done
 
       none_left : (j : Key) → is_in_range rest_up j ≡ false
-      none_left j = below_or_upto j h (λ l. false_and _ (is_up_to hi j) (off_rest j l)) (λ u. and_false (is_from (Included h) j) _ (past_end j u))
+      none_left j = below_or_upto j h (λ l. first_off _ (is_up_to hi j) (off_rest j l)) (λ u. second_off (is_from (Included h) j) _ (past_end j u))
 
       all_up : TakesBeginning up up (Some rest_up)
       all_up = record {
@@ -293,9 +282,9 @@ module _ (n : Node) (lo hi : Bound Key) (k : Key) (start : IsStart lo k) (begins
 
       kept_up : (before es behind all : List (Key × Key)) → all ≡ before ++ (es ++ behind) → AllByRecursion (λ e. Below e.0 n.lo) before → AllByRecursion (λ e. UpTo h e.0) behind → pairs_in up es ≡ pairs_in up all
       kept_up before es behind all is a c = middle (λ e. is_in_range up e.0) (λ e. is_in_range up e.0) before es behind all is
-          (each (λ e l. false_and (is_from lo e.0) _ (not_before e l)) before a)
+          (each (λ e l. first_off (is_from lo e.0) _ (not_before e l)) before a)
           (all_same es)
-          (each (λ e u. and_false (is_from lo e.0) _ (past_end e.0 u)) behind c)
+          (each (λ e u. second_off (is_from lo e.0) _ (past_end e.0 u)) behind c)
         where
           all_same : (xs : List (Key × Key)) → AllByRecursion (λ e. is_in_range up e.0 ≡ is_in_range up e.0) xs
           all_same [] = tt
@@ -319,9 +308,9 @@ module _ (n : Node) (lo hi : Bound Key) (begins : is_up_to hi n.lo ≡ true) whe
     -- the leaf is the first one
     whole_down : (before es behind all : List (Key × Key)) → all ≡ before ++ (es ++ behind) → AllByRecursion (λ e. Below e.0 n.lo) before → AllByRecursion (λ e. IsBehind e.0) behind → n.lo ≡ [] → pairs_in down es ≡ pairs_in down all
     whole_down before es behind all is a c first = ap reverse (middle (λ e. is_in_range down e.0) (λ e. is_in_range down e.0) before es behind all is
-        (each (λ e l. absurd (none_below e.0 (subst (Below e.0) first l))) before a)
+        (each (λ e l. absurd (not_below_empty e.0 (subst (Below e.0) first l))) before a)
         (all_same es)
-        (each (λ e b. and_false (is_from lo e.0) _ (not_behind ends e.0 b)) behind c))
+        (each (λ e b. second_off (is_from lo e.0) _ (not_behind ends e.0 b)) behind c))
       where
         all_same : (xs : List (Key × Key)) → AllByRecursion (λ e. is_in_range down e.0 ≡ is_in_range down e.0) xs
         all_same [] = tt
@@ -353,23 +342,23 @@ module _ (n : Node) (lo hi : Bound Key) (begins : is_up_to hi n.lo ≡ true) whe
         way = refl;
         way_left = λ r e. sym (ap (λ (z : Range). z.back) (some_is e));
         splits = λ j. below_or_upto j n.lo
-            (λ l. rest_alone _ _ _ (false_and _ (is_up_to hi j) (off_part j l)) (ap (λ x. is_from lo j && x) (ap is_lt l ∙ sym (under_start j l))))
-            (λ u. part_alone _ _ _ (ap (λ x. x && is_up_to hi j) (in_part j u ∙ sym (from_start j u))) (and_false (is_from lo j) _ (not_below j n.lo u)));
+            (λ l. rest_alone _ _ _ (first_off _ (is_up_to hi j) (off_part j l)) (ap (λ x. is_from lo j && x) (ap is_lt l ∙ sym (under_start j l))))
+            (λ u. part_alone _ _ _ (ap (λ x. x && is_up_to hi j) (in_part j u ∙ sym (from_start j u))) (second_off (is_from lo j) _ (not_below j n.lo u)));
         before = λ i j in_it in_other. below_or_upto i n.lo
-            (λ l. absurd (false_true (sym (false_and _ (is_up_to hi i) (off_part i l)) ∙ in_it)))
+            (λ l. absurd (false_true (sym (first_off _ (is_up_to hi i) (off_part i l)) ∙ in_it)))
             (λ u. below_upto-trans j n.lo i (lt_below j n.lo (second_true (is_from lo j) _ in_other)) u);
       }
 
       same_down : (before es behind all : List (Key × Key)) → all ≡ before ++ (es ++ behind) → AllByRecursion (λ e. Below e.0 n.lo) before → AllByRecursion (λ e. UpTo n.lo e.0) es → AllByRecursion (λ e. IsBehind e.0) behind → pairs_in down es ≡ pairs_in part_down all
       same_down before es behind all is a b c = ap reverse (middle (λ e. is_in_range down e.0) (λ e. is_in_range part_down e.0) before es behind all is
-          (each (λ e l. false_and _ (is_up_to hi e.0) (off_part e.0 l)) before a)
+          (each (λ e l. first_off _ (is_up_to hi e.0) (off_part e.0 l)) before a)
           (each (λ e u. ap (λ x. x && is_up_to hi e.0) (from_start e.0 u ∙ sym (in_part e.0 u))) es b)
-          (each (λ e b. and_false _ _ (not_behind ends e.0 b)) behind c))
+          (each (λ e b. second_off _ _ (not_behind ends e.0 b)) behind c))
 
     -- the range begins behind it
     module _ (done : is_from lo n.lo ≡ false) where
       none_under : (j : Key) → is_in_range rest_down j ≡ false
-      none_under j = below_or_upto j n.lo (λ l. false_and (is_from lo j) _ (short lo j n.lo l done)) (λ u. and_false (is_from lo j) _ (not_below j n.lo u))
+      none_under j = below_or_upto j n.lo (λ l. first_off (is_from lo j) _ (short lo j n.lo l done)) (λ u. second_off (is_from lo j) _ (not_below j n.lo u))
 
       all_down : TakesBeginning down down (Some rest_down)
       all_down = record {
@@ -381,9 +370,9 @@ module _ (n : Node) (lo hi : Bound Key) (begins : is_up_to hi n.lo ≡ true) whe
 
       kept_down : (before es behind all : List (Key × Key)) → all ≡ before ++ (es ++ behind) → AllByRecursion (λ e. Below e.0 n.lo) before → AllByRecursion (λ e. IsBehind e.0) behind → pairs_in down es ≡ pairs_in down all
       kept_down before es behind all is a c = ap reverse (middle (λ e. is_in_range down e.0) (λ e. is_in_range down e.0) before es behind all is
-          (each (λ e l. false_and (is_from lo e.0) _ (short lo e.0 n.lo l done)) before a)
+          (each (λ e l. first_off (is_from lo e.0) _ (short lo e.0 n.lo l done)) before a)
           (all_same es)
-          (each (λ e b. and_false (is_from lo e.0) _ (not_behind ends e.0 b)) behind c))
+          (each (λ e b. second_off (is_from lo e.0) _ (not_behind ends e.0 b)) behind c))
         where
           all_same : (xs : List (Key × Key)) → AllByRecursion (λ e. is_in_range down e.0 ≡ is_in_range down e.0) xs
           all_same [] = tt

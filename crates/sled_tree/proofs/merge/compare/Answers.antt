@@ -1,5 +1,6 @@
 use Rattle.std.proofs.Common.{inl, inr}
-use Rattle.sled_tree.proofs.Facts.{not_up_to, untrue}
+use Rattle.sled_nodes.proofs.Basics.{untrue}
+use Rattle.sled_tree.proofs.Facts.{not_up_to}
 use Rattle.sled_tree.proofs.Merges.{looks_done, looks_further}
 use Rattle.sled_tree.proofs.merge.compare.Goals as goal
 
