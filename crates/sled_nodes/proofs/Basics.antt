@@ -1,5 +1,5 @@
 -- What many files of proofs need of options, tests, orders and results.
-use Rattle.std.proofs.Common.{◌≡◌, ◌≢◌, ℕ, Bool, true, false, not, ◌&&◌, ◌||◌, T, cond, Option, Some, None, Result, Ok, Err, IfOk, IfErr, IsTrue, ◌↔◌, Ordering, Less, Equal, Greater, is_lt, is_eq, is_gt, refl, ◌⊎◌, arith}
+use Rattle.std.proofs.Common.{◌≡◌, ◌≢◌, ℕ, Bool, true, false, not, ◌&&◌, ◌||◌, T, cond, Some, None, Result, Ok, Err, IfOk, IfErr, IsTrue, ◌↔◌, Ordering, Less, Equal, Greater, is_lt, is_eq, is_gt, refl, ◌⊎◌, arith}
 use Rattle.std.specs.Cmp.{IsTotalOrder}
 use Rattle.std.specs.FinMap.{slice_cmp-IsAntisymmetric, nat_cmp-IsAntisymmetric}
 use Rattle.std.specs.Ordering.{eq_by_cmp}
