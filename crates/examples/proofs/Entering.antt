@@ -10,6 +10,7 @@ use Rattle.ordered_keys.specs.declared.part.Part.{Part}
 use Rattle.ordered_keys.specs.declared.part.Part.TheVariants.{Text}
 use Rattle.sled_nodes.specs.Order.{Key, key_cmp}
 use Rattle.sled_batch.specs.Batch.{Writes}
+use Rattle.sled_batch.proofs.Found.{found_here}
 use Rattle.examples.specs.Stock.{entry_key, Agree, item_taken, entry_taken, item_put, entry_put}
 
 -- ---- keys
@@ -24,10 +25,6 @@ same_or_apart q k = go (key_cmp q k) refl
     go Less e = inr (apart q k (ap is_eq e))
     go Equal e = inl (key_same q k e)
     go Greater e = inr (apart q k (ap is_eq e))
-
--- what is found among writes once one more is written
-pub found_here : (k : Key) (v : Option Key) (ws : Writes) → find key_cmp k (put key_cmp k v ws) ≡ Some v
-found_here k v ws = find-put key_cmp key_total k k v ws ∙ ap (λ o. cond (is_eq o) (Some v) (find key_cmp k ws)) (tied_itself key_total k)
 
 pub found_there : (q k : Key) (v : Option Key) (ws : Writes) → q ≢ k → find key_cmp q (put key_cmp k v ws) ≡ find key_cmp q ws
 found_there q k v ws off = find-put key_cmp key_total q k v ws ∙ go (key_cmp q k) refl

@@ -29,6 +29,7 @@ use Rattle.sled_model.specs.declared.event.Event.TheVariants.{Insert, Remove}
 use Rattle.sled_model.specs.declared.event.Next.{Next}
 use Rattle.sled_model.specs.declared.event.Next.TheVariants as next
 use Rattle.sled_model.specs.declared.tree.Tree.{Tree}
+use Rattle.sled_model.proofs.Tests.{passed}
 use Rattle.sled_queues.specs.Copies.{IsCopy, after_event, after_events, came_to, events_told, TellsEvents}
 use Rattle.sled_queues.specs.Events.{Turn, after_turns, taken_by, Stays}
 use Rattle.sled_queues.specs.Turns.{turns_of_event}
@@ -321,14 +322,10 @@ pub second_none : (a b : Option MustRefuse) → first_of a b ≡ None → b ≡ 
 second_none None b e = e
 second_none (Some m) b e = absurd cc
 
-is_one : (b : Bool) (m : MustRefuse) → cond b None (Some m) ≡ None → b ≡ true
-is_one true m e = refl
-is_one false m e = absurd cc
-
 number_is : (s : State) (tree : Tree) (named : NamedTree) → must_refuse_of s (tree ∷ []) ≡ None → s.trees tree.name ≡ Some named → named.number ≡ tree.number
 number_is s tree named tested there =
     eqb-true named.number tree.number (sym (ap (is_number tree.number) there)
-    ∙ is_one (is_number tree.number (s.trees tree.name)) (IsDropped tree.name)
+    ∙ passed (is_number tree.number (s.trees tree.name)) (IsDropped tree.name)
     (second_none (foreign_test s.name (tree ∷ [])) _ (second_none (cond s.is_open None (Some IsClosed)) _ tested)))
 
 pub begins_index : (old new : State) (tree : Tree) (prefix : Key) (n : ℕ) (es : Map) (named : NamedTree) → must_refuse_of old (tree ∷ []) ≡ None → old.trees tree.name ≡ Some named → IsCopy prefix es named.map → Watches old tree prefix n new

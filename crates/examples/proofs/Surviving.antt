@@ -5,6 +5,7 @@ use Rattle.sled_store.specs.In.{In}
 use Rattle.sled_store.specs.State.{State as PageState}
 use Rattle.sled_store.specs.Store.{Store, now}
 use Rattle.sled_store.specs.Crash.{crash_states, IsCrashState, Crashes}
+use Rattle.sled_store.proofs.Lists.{map_in}
 use Rattle.sled_pages.specs.Memory.{store_of, flush_number_of}
 use Rattle.sled_pages.specs.declared.memory.MemPages.{MemPages}
 use Rattle.sled_model.specs.Maps.{Merge}
@@ -44,11 +45,6 @@ has_once (a ∷ once) (x ∷ xs) y (e, inr r) (inr i) = inr (has_once (a ∷ onc
 pub matches_has : {X : Type 0} (xs ys : List X) (y : X) → StutterEquivalent xs ys → In y xs → In y ys
 matches_has xs ys y m i = has_once m.once ys y m.right (once_has m.once xs y m.left i)
 
-pub map_has : {X Y : Type 0} (f : X → Y) (xs : List X) (x : X) → In x xs → In (f x) (map f xs)
-map_has f [] x i = i
-map_has f (z ∷ xs) x (inl e) = inl (ap f e)
-map_has f (z ∷ xs) x (inr i) = inr (map_has f xs x i)
-
 module _ {M : Type 0} (meant : M → Merge) (before : Store) (name : Key) where
   pub survives : (steps : List Step) (outcomes : List Outcome) (keep : ℕ) (start last : MachineValue MemPages M) (first : DbValue MemPages M) (pages left : MemPages) (again : DbValue MemPages M) (end : MemPages)
       → Opens store_of before name first → start.db ≡ first → start.flights ≡ [] → start.slots_given ≡ 0 → MachineRun store_of flush_number_of meant start steps outcomes last → MachineSteps store_of flush_number_of meant start steps outcomes last → pages ≡ last.db.pages
@@ -60,7 +56,7 @@ module _ {M : Type 0} (meant : M → Merge) (before : Store) (name : Key) where
       let k = (subst (λ (m : MachineValue MemPages M). MachineRun store_of flush_number_of meant m steps outcomes last) over run).keeps (trees_of (now (store_of first.pages)) ∷ []) leaves in
       let here : In (store_of left).base (crash_states (store_of last.db.pages)) = subst (λ (q : MemPages). In (store_of left).base (crash_states (store_of q))) p may.is in
       let base : now (store_of left) ≡ (store_of left).base = ap now crash.is ∙ sym (ap (λ (s : Store). s.base) crash.is) in
-      let one : In (trees_of (store_of left).base) k.last = matches_has (map trees_of (crash_states (store_of last.db.pages))) k.last (trees_of (store_of left).base) k.leaves.is (map_has trees_of (crash_states (store_of last.db.pages)) (store_of left).base here) in
+      let one : In (trees_of (store_of left).base) k.last = matches_has (map trees_of (crash_states (store_of last.db.pages))) k.last (trees_of (store_of left).base) k.leaves.is (map_in trees_of (crash_states (store_of last.db.pages)) (store_of left).base here) in
       record {
         survives = record {
           first = plain store_of meant first;

@@ -17,6 +17,7 @@ use Rattle.sled_nodes.specs.Ranges.{Range, is_reversed}
 use Rattle.sled_store.specs.In.{In}
 use Rattle.sled_model.specs.Scan.{is_in_rest, Before, is_read}
 use Rattle.scan_laws.specs.Scanned.{InOrder}
+use Rattle.tree_laws.proofs.Order.{least, upto_below-trans, below_upto-trans}
 
 abbrev Pair : Type 0
 Pair = Key × Key
@@ -136,45 +137,18 @@ above_key a k e = go (key_cmp k a) (key_total.antisymm a k) e
     go Equal h g = cc
     go Greater h g = h
 
-upto_below : (a b c : Key) → UpTo a b → Below b c → Below a c
-upto_below a b c p q = go (key_cmp a b) refl p
-  where
-    go : (o : Ordering) → key_cmp a b ≡ o → is_gt o ≡ false → Below a c
-    go Less h g = key_total.trans a b c h q
-    go Equal h g = key_total.congr a b c h ∙ q
-    go Greater h g = cc
-
-below_upto : (a b c : Key) → Below a b → UpTo b c → Below a c
-below_upto a b c p q = go (key_cmp b c) refl q
-  where
-    go : (o : Ordering) → key_cmp b c ≡ o → is_gt o ≡ false → Below a c
-    go Less h g = key_total.trans a b c p h
-    go Equal h g = alike (key_cmp c b) (key_total.antisymm c b ∙ ap ordering_reverse h)
-      where
-        alike : (o : Ordering) → key_cmp c b ≡ Equal → Below a c
-        alike o e = flip (key_cmp c a) refl (key_total.congr c b a e ∙ key_total.antisymm b a ∙ ap ordering_reverse p)
-          where
-            flip : (o : Ordering) → key_cmp c a ≡ o → key_cmp c a ≡ Greater → Below a c
-            flip o h g = key_total.antisymm a c ∙ ap ordering_reverse g
-    go Greater h g = cc
-
 not_below : (a b : Key) → not (is_lt (key_cmp a b)) ≡ true → Below a b → ⊥
 not_below a b e h = false_true (sym (not_true _ e) ∙ ap is_lt h)
 
 not_upto : (a b : Key) → is_gt (key_cmp a b) ≡ true → UpTo a b → ⊥
 not_upto a b e h = false_true (sym h ∙ e)
 
-least : (k : Key) → UpTo [] k
-unfolding key_cmp
-least [] = refl
-least (x ∷ k) = refl
-
 between : (lo hi : Bound Key) (k : Key) → is_reversed lo hi ≡ true → is_from lo k ≡ true → is_up_to hi k ≡ true → ⊥
 between (Included a) (Included b) k e p q = not_upto a b e (upto key_total a k b (from_key a k p) (up_to k b q))
-between (Included a) (Excluded b) k e p q = not_below a b e (upto_below a k b (from_key a k p) (is_less _ q))
-between (Excluded a) (Included b) k e p q = not_below a b e (below_upto a k b (above_key a k p) (up_to k b q))
+between (Included a) (Excluded b) k e p q = not_below a b e (upto_below-trans a k b (from_key a k p) (is_less _ q))
+between (Excluded a) (Included b) k e p q = not_below a b e (below_upto-trans a k b (above_key a k p) (up_to k b q))
 between (Excluded a) (Excluded b) k e p q = not_below a b e (key_total.trans a k b (above_key a k p) (is_less _ q))
-between Unbounded (Excluded b) k e p q = not_below [] b e (upto_below [] k b (least k) (is_less _ q))
+between Unbounded (Excluded b) k e p q = not_below [] b e (upto_below-trans [] k b (least k) (is_less _ q))
 between Unbounded (Included b) k e p q = false_true e
 between Unbounded Unbounded k e p q = false_true e
 between (Included a) Unbounded k e p q = false_true e

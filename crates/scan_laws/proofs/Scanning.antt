@@ -3,14 +3,14 @@ use Rattle.std.proofs.Common.{◌≡◌, ◌≤◌, ◌+◌, ◌∙◌, ◌⊎�
 use Rattle.std.specs.Prelude.{reverse}
 use Rattle.std.proofs.lemmas.Bool.{eqb-true}
 use Rattle.std.specs.declared.ops.Bound.{Bound}
-use Rattle.sled_nodes.proofs.Basics.{none_some, some_none, some_is, true_false}
+use Rattle.sled_nodes.proofs.Basics.{none_some, some_is, true_false}
 use Rattle.sled_nodes.specs.Order.{Key}
 use Rattle.sled_nodes.specs.Ranges.{Range, is_in_range, pairs_in}
 use Rattle.sled_store.specs.In.{In}
 use Rattle.sled_store.specs.theory.Facts.{put_here}
 use Rattle.sled_model.specs.Maps.{Map, Maps}
 use Rattle.sled_model.specs.State.{State, NamedTree, CallInFlight}
-use Rattle.sled_model.specs.Refusal.{MustRefuse, IsClosed, IsDropped, ToStep, first_of, foreign_test, is_number, dropped_test, must_refuse_of, operator_test, must_refuse}
+use Rattle.sled_model.specs.Refusal.{IsClosed, IsDropped, ToStep, first_of, foreign_test, is_number, dropped_test, must_refuse_of, operator_test, must_refuse}
 use Rattle.sled_model.specs.Scan.{is_in_rest, Before, ReadsPart}
 use Rattle.sled_model.specs.Transition.{Configuration, Transition, transition_as, Decide}
 use Rattle.sled_model.specs.declared.call.Call.TheVariants.{Scan}
@@ -20,6 +20,7 @@ use Rattle.sled_model.specs.declared.outcome.Step.{Step}
 use Rattle.sled_model.specs.declared.outcome.Step.TheVariants as step
 use Rattle.sled_model.specs.declared.outcome.Outcome.{Outcome}
 use Rattle.sled_model.specs.declared.outcome.Outcome.TheVariants as outcome
+use Rattle.sled_model.proofs.Tests.{first_none, passed}
 use Rattle.scan_laws.specs.Scanned.{is_own, given_by, yielded, InOrder, HasPair, HasKey, Ascend, ChangesBeside, RunsBeside, NoSteps, OneMore, OneBeside, run_alone, AtSomeMoment, AtOwnSteps, ScanLaw, ScanLawAlone}
 use Rattle.scan_laws.proofs.Lists.{in_left, in_right, in_either, ordered_left, ordered_both, in_turned, in_turned_back, ordered_turned, in_kept, passes, keeps_in, ordered_kept, ordered_map, in_range_reversed}
 use Rattle.scan_laws.proofs.Staying.{AscendOpen, Leaves, leaves}
@@ -27,20 +28,11 @@ use Rattle.scan_laws.proofs.Staying.{AscendOpen, Leaves, leaves}
 abbrev Pair : Type 0
 Pair = Key × Key
 
--- where no test refuses a step of a call, the database is open, and the tree of its name has its number
-both_none : (a b : Option MustRefuse) → first_of a b ≡ None → (a ≡ None) × (b ≡ None)
-both_none None b e = (refl, e)
-both_none (Some m) b e = some_none e
-
-passed : (b : Bool) (m : MustRefuse) → cond b None (Some m) ≡ None → b ≡ true
-passed true m e = refl
-passed false m e = some_none e
-
 tests_passed : (s : State) (f : CallInFlight) → must_refuse s (ToStep f) ≡ None → (s.is_open ≡ true) × (is_number f.tree.number (s.trees f.tree.name) ≡ true)
 tests_passed s f e =
-    let of_all = (both_none (must_refuse_of s (f.tree ∷ [])) (operator_test s (ToStep f)) e).0 in
-    let of_open = both_none (cond s.is_open None (Some IsClosed)) (first_of (foreign_test s.name (f.tree ∷ [])) (dropped_test s (f.tree ∷ []))) of_all in
-    let of_tree = both_none (foreign_test s.name (f.tree ∷ [])) (dropped_test s (f.tree ∷ [])) of_open.1 in (
+    let of_all = (first_none (must_refuse_of s (f.tree ∷ [])) (operator_test s (ToStep f)) e).0 in
+    let of_open = first_none (cond s.is_open None (Some IsClosed)) (first_of (foreign_test s.name (f.tree ∷ [])) (dropped_test s (f.tree ∷ []))) of_all in
+    let of_tree = first_none (foreign_test s.name (f.tree ∷ [])) (dropped_test s (f.tree ∷ [])) of_open.1 in (
       passed s.is_open IsClosed of_open.0,
       passed (is_number f.tree.number (s.trees f.tree.name)) (IsDropped f.tree.name) of_tree.1,
     )

@@ -7,12 +7,9 @@ use Rattle.sled_batch.specs.Batch.{Writes}
 use Rattle.sled_model.specs.State.{State}
 use Rattle.sled_model.specs.Refusal.{MustRefuse, IsClosed, IsForeign, IsDropped, first_of, is_number, foreign_test, dropped_test, must_refuse_of, trees_of_batches}
 use Rattle.sled_model.specs.declared.tree.Tree.{Tree}
+use Rattle.sled_model.proofs.Tests.{first_none}
 
 -- ---- the tests of a list of trees
-
-pub first_none : (a b : Option MustRefuse) → first_of a b ≡ None → (a ≡ None) × (b ≡ None)
-first_none None b e = (refl, e)
-first_none (Some x) b e = none_some (sym e)
 
 pub none_first : {a b : Option MustRefuse} → a ≡ None → b ≡ None → first_of a b ≡ None
 none_first {a} {b} p q = ap (λ z. first_of z b) p ∙ q

@@ -17,6 +17,7 @@ use Rattle.sled_model.specs.Maps.{Merge}
 use Rattle.sled_model.specs.State as model
 use Rattle.sled_model.specs.Refusal.{IsClosed, IsForeign, IsDropped, first_of, is_number, foreign_test, dropped_test, must_refuse_of, trees_of_batches}
 use Rattle.sled_model.specs.declared.tree.Tree.{Tree}
+use Rattle.sled_model.proofs.Tests.{first_none}
 use Rattle.tree_laws.specs.Snapshot.{Snapshot}
 use Rattle.tree_reads.specs.Leaves.{OfContents}
 use Rattle.tree_reads.specs.Walk.{refuses_walk_as, GivesUp, once}
@@ -42,7 +43,7 @@ use Rattle.sled.specs.Sound.{IsDb}
 use Rattle.sled.specs.theory.Transactions.{CommitsGroup, StopsCommit}
 use Rattle.sled.specs.Groups.{GroupDecided, IsQuietGroup}
 use Rattle.sled.specs.Transactions.{TakesIds, flushes_as, MakesWrites, Commits, Stops, ByTest, ByClosure, ByGroup, ByFlush, fails_as, Fails, ShowsLaw, ShowsAtLaw, RefusesInside, RefusesToShowLaw, RefusesToShowAtLaw, trees_of_list}
-use Rattle.sled.proofs.Batching.{first_none, none_first, tested_parts}
+use Rattle.sled.proofs.Batching.{none_first, tested_parts}
 use Rattle.sled.proofs.Changes.{parted}
 use Rattle.sled.proofs.Numbering.{state_taken, left_taken, leaves_taken}
 use Rattle.sled.proofs.Flushing.{same_moment}

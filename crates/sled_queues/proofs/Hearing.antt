@@ -202,13 +202,10 @@ taken_none (Takes m) n queues h = ap (λ o. cond (nat_eq m n) (option_to_list (n
     go true = refl
     go false = refl
 
-itself : (n : ℕ) → nat_eq n n ≡ true
-itself n = eq-eqb n n refl
-
 pub hears_all_law : HearsAllLaw
 hears_all_law [] after n tree prefix queues none before stays counts =
     hears_law after n (after_turn (Watches n tree prefix) queues) (record { tree = tree; prefix = prefix; backlog = no_backlog })
-    (ap (λ b. cond b (Some (record { tree = tree; prefix = prefix; backlog = no_backlog })) (queues n)) (itself n)) stays counts.1
+    (ap (λ b. cond b (Some (record { tree = tree; prefix = prefix; backlog = no_backlog })) (queues n)) (eq-eqb n n refl)) stays counts.1
     [] (record { counted = omega arith; waits = refl })
 hears_all_law (t ∷ ts) after n tree prefix queues none before stays counts =
     subst (λ l. Hears (l ++ taken_by n (ts ++ Watches n tree prefix ∷ after) (after_turn t queues)) (brought (record { tree = tree; prefix = prefix; backlog = no_backlog }) after) (backlog_in (after_turns (ts ++ Watches n tree prefix ∷ after) (after_turn t queues) n)))

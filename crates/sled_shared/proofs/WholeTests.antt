@@ -22,13 +22,13 @@ use Rattle.sled_model.specs.declared.outcome.Outcome.{Outcome}
 use Rattle.sled_model.specs.declared.outcome.Outcome.TheVariants as outcome
 use Rattle.sled_model.specs.declared.outcome.Step.TheVariants as step
 use Rattle.sled_model.specs.Transition.{transition_as}
+use Rattle.sled_model.proofs.Tests.{first_none}
 use Rattle.sled.specs.Kept.{kept_of}
 use Rattle.sled.specs.Parts.{ImportRefusedAfter}
 use Rattle.sled.specs.Imports.{ImportRefused}
 use Rattle.sled.specs.Values.{DbValue, db_state, state_of}
 use Rattle.sled.proofs.Grouped.{tested_open}
 use Rattle.sled.proofs.Testing.{first_alone}
-use Rattle.sled.proofs.Batching.{first_none}
 use Rattle.sled_calls.specs.Kept.{kept_of_whole, CountsParts}
 use Rattle.sled_calls.specs.Step.{MachineStepContract}
 use Rattle.sled_calls.specs.Values.{MachineValue, configuration_of}

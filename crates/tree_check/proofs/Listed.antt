@@ -48,11 +48,6 @@ in_map f [] y i = absurd i
 in_map f (x ∷ xs) y (inl e) = (x, inl refl, sym e)
 in_map f (x ∷ xs) y (inr i) = let r = in_map f xs y i in (r.0, inr r.1, r.2)
 
-pub map_in : {A B : Type 0} (f : A → B) (xs : List A) (x : A) → In x xs → In (f x) (map f xs)
-map_in f [] x i = absurd i
-map_in f (y ∷ xs) x (inl e) = inl (ap f e)
-map_in f (y ∷ xs) x (inr i) = inr (map_in f xs x i)
-
 one_longer : {A : Type 0} (xs : List A) (x : A) → length (xs ++ x ∷ []) ≡ suc (length xs)
 one_longer [] x = refl
 one_longer (y ∷ xs) x = ap suc (one_longer xs x)

@@ -15,12 +15,13 @@ use Rattle.sled_nodes.specs.declared.node.Node.{Node}
 use Rattle.sled_store.specs.declared.page.View.{View}
 use Rattle.tree_laws.specs.Forest.{Tree, Place, place, head, first_child, Run}
 use Rattle.sled_store.specs.Store.{IsRoots}
+use Rattle.sled_store.proofs.Lists.{map_in}
 use Rattle.tree_laws.specs.Crashes.{IsValid}
 use Rattle.tree_laws.proofs.Matching.{itself, same_is}
 use Rattle.tree_check.specs.declared.levels.Level.{Level}
 use Rattle.tree_check.specs.theory.Tree.{IsPointerTo, IsAtHeight, IsTreeFrom}
 use Rattle.tree_check.specs.theory.Walk.{Levels, level_of, ReadsChain, IsReceived, FindsReceived, LeadsTo, HasMergingChild, LeadsDown, pids, height_in, home_in, IsNewTree, FindsLevel, FindsTree, WalksTree, Verifies}
-use Rattle.tree_check.proofs.Listed.{in_map, map_in}
+use Rattle.tree_check.proofs.Listed.{in_map}
 use Rattle.tree_check.proofs.Descending.{with_level, level_here, level_above, one_level, still_top}
 use Rattle.tree_check.proofs.Planting.{planted, formed, sized, homes}
 use Rattle.tree_check.proofs.Rooted.{absent, one_root_more}

@@ -95,3 +95,17 @@ covers_under key n (low, high) = (
 
 pub under_covers : (key : Key) (n : Node) → LiesUnder (Included key) n → Covers n key
 under_covers key n (low, high) = (up_to_key n.lo key low, elim high [ inl e ↦ inl e | inr b ↦ inr (behind_key n.hi key b) ])
+
+-- the empty key is the least
+pub least : (k : Key) → UpTo [] k
+unfolding key_cmp
+least [] = refl
+least (x ∷ k) = refl
+
+-- what is beyond an upper bound, and all that is from there on
+pub beyond : (hi : Bound Key) (a b : Key) → UpTo a b → is_up_to hi a ≡ false → is_up_to hi b ≡ false
+beyond hi a b u off = go (is_up_to hi b) refl
+  where
+    go : (x : Bool) → is_up_to hi b ≡ x → is_up_to hi b ≡ false
+    go true e = absurd (below_not_upto b a (within_below hi b a e off) u)
+    go false e = e

@@ -1,5 +1,5 @@
 -- From leaf to leaf, to the left.
-use Rattle.std.proofs.Common.{◌≡◌, ◌≢◌, ℕ, zero, suc, ◌+◌, ◌*◌, ◌<◌, ◌≤◌, Bool, true, false, not, List, [], ◌∷◌, ◌++◌, length, Option, Some, None, sym, refl, ap, ◌∙◌, subst, inl, inr, append_assoc, length-append, arith}
+use Rattle.std.proofs.Common.{◌≡◌, ◌≢◌, ℕ, zero, suc, ◌+◌, ◌*◌, ◌<◌, ◌≤◌, true, false, not, List, [], ◌∷◌, ◌++◌, length, Option, Some, None, sym, refl, ap, ◌∙◌, subst, inl, inr, append_assoc, length-append, arith}
 use Rattle.std.proofs.lemmas.Nat.{mul-le}
 use Rattle.std.proofs.Math.Nat.{suc-mul}
 use Rattle.std.specs.List.{list_any}
@@ -8,7 +8,7 @@ use Rattle.std.specs.declared.cmp.Ordering.{Ordering}
 use Rattle.std.specs.declared.cmp.Ordering.TheVariants.{Less, Equal, Greater}
 use Rattle.std.specs.declared.ops.Bound.{Bound}
 use Rattle.std.specs.declared.ops.Bound.TheVariants.{Excluded}
-use Rattle.sled_nodes.proofs.Basics.{some_is, true_false, not_true, is_less, key_total}
+use Rattle.sled_nodes.proofs.Basics.{some_is, true_false, is_less, key_total}
 use Rattle.sled_nodes.specs.Order.{Key, key_cmp, Below, UpTo}
 use Rattle.sled_store.specs.In.{In}
 use Rattle.sled_nodes.specs.Among.{is_up_to, IsLast, IsPredecessor}
@@ -22,7 +22,7 @@ use Rattle.sled_nodes.specs.declared.error.Error.TheVariants.{CollectionNotFound
 use Rattle.tree_laws.specs.Forest.{Tree, Forest, place, head, Run, WellFormed, contents}
 use Rattle.tree_laws.specs.Paths.{tree_pages, pages_below}
 use Rattle.tree_laws.proofs.Cover.{chain_run}
-use Rattle.tree_laws.proofs.Order.{upto_cases, upto-trans, below_not_upto}
+use Rattle.tree_laws.proofs.Order.{upto-trans, below_not_upto, beyond, least}
 use Rattle.tree_laws.proofs.Runs.{In-right, run_parts, run_from, In_cases}
 use Rattle.tree_laws.proofs.Looking.{pages_law}
 use Rattle.tree_laws.proofs.Reading.{range_law}
@@ -30,18 +30,7 @@ use Rattle.tree_reads.specs.Walk.{IsLeafFor, HasTooMany, RefusesWalk, refuses_wa
 use Rattle.tree_reads.specs.Leaves.{OfContents, SeeksBack}
 use Rattle.tree_reads.specs.declared.TheConstants.{MOST_PAGES}
 use Rattle.tree_reads.proofs.Turning.{lower}
-use Rattle.tree_reads.proofs.Seeking.{node_at, none_of, none_at, all_at, none_join, empty_least}
-
--- above what is without an upper bound all is
-pub beyond : (hi : Bound Key) (a b : Key) → UpTo a b → is_up_to hi a ≡ false → is_up_to hi b ≡ false
-beyond hi a b u off = elim (upto_cases a b u) [ inl l ↦ go l (is_up_to hi b) refl | inr e ↦ subst (λ k. is_up_to hi k ≡ false) e off ]
-  where
-    go : Below a b → (x : Bool) → is_up_to hi b ≡ x → is_up_to hi b ≡ false
-    go l true e = true_false (sym (lower hi a b l e) ∙ off)
-    go l false e = e
-
-least : (k : Key) → UpTo [] k
-least k = not_true _ (empty_least k)
+use Rattle.tree_reads.proofs.Seeking.{node_at, none_of, none_at, all_at, none_join}
 
 -- an upper bound that is the key of the last pair, excluded
 pub nearer : (hi : Bound Key) (k e : Key) → is_up_to hi k ≡ true → is_up_to hi e ≡ false → is_up_to (Excluded k) e ≡ false

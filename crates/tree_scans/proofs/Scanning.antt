@@ -16,7 +16,7 @@ use Rattle.sled_nodes.specs.declared.node.Node.{Node}
 use Rattle.sled_model.specs.State.{range_of}
 use Rattle.sled_model.specs.Scan.{is_read, TakesBeginning}
 use Rattle.tree_laws.specs.Snapshot.{LiesUnder}
-use Rattle.tree_laws.proofs.Order.{below-trans, upto-below, below_upto-trans, below_irrefl, below_not_upto, behind_key, up_to_key, within_below}
+use Rattle.tree_laws.proofs.Order.{below-trans, upto-below, below_upto-trans, below_irrefl, below_not_upto, behind_key, up_to_key, within_below, beyond}
 use Rattle.tree_laws.specs.declared.flight.Giving.{Giving}
 use Rattle.tree_laws.specs.declared.flight.Stage.TheVariants as stage
 use Rattle.tree_laws.proofs.Pairs.{not_below_empty}
@@ -129,9 +129,6 @@ not_below a b u = true_or_false (is_lt (key_cmp a b)) (λ t. absurd (below_not_u
 -- a key is within an upper bound where one from it on is, and is not where one up to it is not
 lower : (hi : Bound Key) (a b : Key) → UpTo a b → is_up_to hi b ≡ true → is_up_to hi a ≡ true
 lower hi a b u t = true_or_false (is_up_to hi a) (λ e. e) (λ f. absurd (below_not_upto b a (within_below hi b a t f) u))
-
-beyond : (hi : Bound Key) (a b : Key) → UpTo a b → is_up_to hi a ≡ false → is_up_to hi b ≡ false
-beyond hi a b u f = true_or_false (is_up_to hi b) (λ t. absurd (below_not_upto b a (within_below hi b a t f) u)) (λ e. e)
 
 -- .. and so it is of a lower bound, the other way
 outside_below : (lo : Bound Key) (a b : Key) → is_from lo b ≡ true → is_from lo a ≡ false → Below a b

@@ -1,17 +1,11 @@
-use Rattle.std.proofs.Common.{◌≡◌, Option, Some, Result, Ok, Err, IfOk, sym, ap, subst, ◌∙◌, cond, is_eq}
-use Rattle.std.proofs.lemmas.Cmp.{tied_itself}
-use Rattle.std.specs.FinMap.Entries.{find, put, find-put}
-use Rattle.sled_nodes.proofs.Basics.{key_total}
+use Rattle.std.proofs.Common.{◌≡◌, Option, Some, Result, Ok, Err, IfOk, sym, ap, subst, ◌∙◌}
+use Rattle.std.specs.FinMap.Entries.{find, put}
 use Rattle.sled_nodes.specs.Order.{Key, key_cmp}
-use Rattle.sled_batch.specs.Batch.{Writes}
+use Rattle.sled_batch.proofs.Found.{found_here}
 use Rattle.sled_store.specs.Store.{Store}
 use Rattle.tree_transactions.specs.Trees.{Shows, Records}
 use Rattle.tree_transactions.specs.declared.tree.TransactionalTree.{TransactionalTree}
 use Rattle.single_writes.proofs.inside.put_and_get.Goals as goal
-
--- what was put is found
-found_here : (k : Key) (v : Option Key) (ws : Writes) → find key_cmp k (put key_cmp k v ws) ≡ Some v
-found_here k v ws = find-put key_cmp key_total k k v ws ∙ ap (λ o. cond (is_eq o) (Some v) (find key_cmp k ws)) (tied_itself key_total k)
 
 -- and shown
 shown_here : {P E : Type 0} (store : P → Store) (old new : TransactionalTree P) (k v : Key) (read : Result (Option Key) E) → Records old k (Some v) new → IfOk read (Shows store new k) → IfOk read (λ found. found ≡ Some v)
