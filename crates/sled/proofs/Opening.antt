@@ -40,12 +40,7 @@ use Rattle.sled.specs.Sound.{IsDb}
 use Rattle.sled.specs.Opens.{or_empty, with_tree, planted, MakesTree, StopsMaking, numbered, IsOnePage, CanBeOpened, RefusesTree, Opens}
 use Rattle.sled.specs.theory.Opens.{HasTree, AreNumbered}
 use Rattle.tree_laws.specs.Paths.{IsClean}
-
--- no key is below the empty one
-begins_all : (key : Key) → is_up_to (Included key) [] ≡ true
-unfolding key_cmp
-begins_all [] = refl
-begins_all (b ∷ bs) = refl
+use Rattle.tree_reads.proofs.Seeking.{empty_least}
 
 -- a root that is a leaf, open and not long, is a clean path of every key
 leaf_is_clean : (s : State) (name : Key) (p : ℕ) (n : Node) (es : List (Key × Key)) → s.roots name ≡ Some p → nodes_of s p ≡ Some n → n.lo ≡ [] → n.hi ≡ [] → n.merging ≡ false → n.merging_child ≡ None → n.content ≡ kind.Leaf es → length es ≤ 16
@@ -58,7 +53,7 @@ leaf_is_clean s name p n es root live lo hi not_merging free leaf fits key = rec
     n,
     record {
       live = live;
-      under = (subst (λ l. is_up_to (Included key) l ≡ true) (sym lo) (begins_all key), inl hi);
+      under = (subst (λ l. is_up_to (Included key) l ≡ true) (sym lo) (empty_least key), inl hi);
       is_open = record { not_merging = not_merging; free = free };
       fits = subst (λ c. count c ≤ 16) (sym leaf) fits;
       many = λ m. refl;

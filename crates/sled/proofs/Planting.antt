@@ -64,7 +64,7 @@ use Rattle.sled.proofs.Watching.{same_queues}
 -- ---- the names and their numbers
 
 -- two names tie where they are one
-same_test : (t name : Key) → eq_by_cmp key_cmp t name ≡ bytes_eq t name
+pub same_test : (t name : Key) → eq_by_cmp key_cmp t name ≡ bytes_eq t name
 same_test t name = go (bytes_eq t name) (eq_by_cmp key_cmp t name) refl refl
   where
     order : (o : Ordering) → is_eq o ≡ true → o ≡ Equal

@@ -19,6 +19,7 @@ use Rattle.sled_model.specs.Refusal.{IsClosed, IsForeign, IsDropped, first_of, i
 use Rattle.sled_model.specs.declared.tree.Tree.{Tree}
 use Rattle.sled_model.proofs.Tests.{first_none}
 use Rattle.tree_laws.specs.Snapshot.{Snapshot}
+use Rattle.tree_check.proofs.Listed.{map_append}
 use Rattle.tree_reads.specs.Leaves.{OfContents}
 use Rattle.tree_reads.specs.Walk.{refuses_walk_as, GivesUp, once}
 use Rattle.sled_tree.specs.Known.{IsKnown}
@@ -147,10 +148,6 @@ tested_zip s trees writes e =
 
 -- ---- lists of trees
 
-map_both : {X Y : Type 0} (f : X → Y) (some more : List X) → map f (some ++ more) ≡ map f some ++ map f more
-map_both f [] more = refl
-map_both f (x ∷ some) more = ap (λ l. f x ∷ l) (map_both f some more)
-
 -- a tree of a list that passes the tests passes them
 tested_place : (s : model.State) (trees : List Tree) (i : ℕ) (t : Tree) → slice_get trees i ≡ Some t → must_refuse_of s trees ≡ None → must_refuse_of s (t ∷ []) ≡ None
 tested_place s trees i t at tested =
@@ -160,7 +157,7 @@ tested_place s trees i t at tested =
 -- .. of references
 pub tested_at : (s : model.State) (trees : List (Bor Tree)) (i : ℕ) (t : Bor Tree) → i < length trees → t ≡ get_or trees i t → must_refuse_of s (trees_of_list trees) ≡ None → must_refuse_of s (t.now ∷ []) ≡ None
 tested_at s trees i t h e tested =
-    let parts = ap trees_of_list (parted trees i t h e) ∙ map_both (λ (x : Bor Tree). x.now) (take i trees) (t ∷ drop (i + 1) trees) in
+    let parts = ap trees_of_list (parted trees i t h e) ∙ map_append (λ (x : Bor Tree). x.now) (take i trees) (t ∷ drop (i + 1) trees) in
     let rest = (tested_parts s (trees_of_list (take i trees)) (trees_of_list (t ∷ drop (i + 1) trees)) (ap (must_refuse_of s) (sym parts) ∙ tested)).1 in
     (tested_parts s (t.now ∷ []) (trees_of_list (drop (i + 1) trees)) rest).0
 

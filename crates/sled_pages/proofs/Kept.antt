@@ -13,7 +13,7 @@ use Rattle.sled_pages.specs.theory.Replay.{replay, back_name, slot_placed, place
 use mathlib.Core.List.{reverse}
 use Rattle.std.specs.Option.{option_map}
 use Rattle.sled_store.specs.theory.Facts.{put_here, put_elsewhere, put_name_here}
-use Rattle.sled_pages.proofs.Places.{one_place}
+use Rattle.sled_pages.proofs.Places.{one_place, now_below}
 use Rattle.std.proofs.lemmas.List.{reverse-append}
 use Rattle.sled_nodes.specs.Order.{Key}
 use Rattle.sled_store.specs.Update.{put_at, put_name}
@@ -133,11 +133,8 @@ later n slots log h = record { here = λ p. slot_later n (slots p) (h.here p); i
 pub next_fresh : (n : ℕ) → nat_lt n n ≡ false
 next_fresh n = grind (arith, nat_tests)
 
-pub next_given : (n : ℕ) → nat_lt n (n + 1) ≡ true
-next_given n = grind (arith, nat_tests)
-
 pub next_version : (n : ℕ) → (λ v. nat_lt v (n + 1)) ≡ put_at (λ v. nat_lt v n) n true
-next_version n = one_place (λ v. nat_lt v (n + 1)) (λ v. nat_lt v n) n true (next_given n) other
+next_version n = one_place (λ v. nat_lt v (n + 1)) (λ v. nat_lt v n) n true (now_below n) other
   where
     other : (q : ℕ) → (q ≡ n → ⊥) → nat_lt q (n + 1) ≡ nat_lt q n
     other q h = grind (arith, nat_tests)
@@ -212,7 +209,7 @@ allocate_keeps slots slots' roots g log log' pid slot places more places' fresh 
 pub allocate_below : (nv : ℕ) (slots slots' : ℕ → Option Slot) (log log' : List Undo) (pid : ℕ) (node : Node) → slots' ≡ put_at slots pid (Some (record { version = nv; node = node })) → log' ≡ log ++ UndoSlot pid None ∷ [] → AreBelow nv slots log → AreBelow (nv + 1) slots' log'
 allocate_below nv slots slots' log log' pid node s l h =
     let k = later nv slots log h in record {
-      here = here_put (nv + 1) slots slots' pid (Some (record { version = nv; node = node })) s (next_given nv) k.here;
+      here = here_put (nv + 1) slots slots' pid (Some (record { version = nv; node = node })) s (now_below nv) k.here;
       in_log = rw l (all_push (undo_given (nv + 1)) log (UndoSlot pid None) k.in_log refl);
     }
 

@@ -23,9 +23,9 @@ use Rattle.sled_store.specs.Store.{Store, after_action, version_now, Changes}
 use Rattle.sled_pages.specs.Slots.{slots_of}
 use Rattle.sled_pages.specs.Table.{page_of, undone, undoes, slot_given, undo_given, IsKept, AreBelow}
 use Rattle.sled_pages.specs.Memory.{meaning, store_of}
-use Rattle.sled_pages.proofs.Places.{one_place}
+use Rattle.sled_pages.proofs.Places.{one_place, now_below}
 use Rattle.sled_nodes.proofs.All.{all_push}
-use Rattle.sled_pages.proofs.Kept.{with_slots, back_put, meaning_acted, kept_more, here_put, next_given, later, acts_at, pages_here}
+use Rattle.sled_pages.proofs.Kept.{with_slots, back_put, meaning_acted, kept_more, here_put, later, acts_at, pages_here}
 use Rattle.sled_pages.proofs.Answered.{changes}
 
 -- a slot taken out, and then put in
@@ -87,7 +87,7 @@ pub link_below : (nv : ℕ) (slots slots' : ℕ → Option Slot) (log log' : Lis
     AreBelow nv slots log → AreBelow (nv + 1) slots' log'
 link_below nv slots slots' log log' link pid before back h l b =
     let k = later nv slots log b in record {
-      here = here_put (nv + 1) slots slots' pid (slot_at nv (after_link link h.node)) h.is (next_given nv) k.here;
+      here = here_put (nv + 1) slots slots' pid (slot_at nv (after_link link h.node)) h.is (now_below nv) k.here;
       in_log = rw l (all_push (undo_given (nv + 1)) log (UndoLink pid before back) k.in_log (ap (slot_given (nv + 1)) (sym h.was) ∙ k.here pid));
     }
 

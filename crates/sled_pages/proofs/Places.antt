@@ -77,7 +77,7 @@ own_added last foreign own new given p slot d e = own_put last foreign own new p
 later : (i given : ℕ) → i ≢ given → nat_lt i (given + 1) ≡ nat_lt i given
 later i given h = grind (arith, nat_tests)
 
-now_below : (given : ℕ) → nat_lt given (given + 1) ≡ true
+pub now_below : (given : ℕ) → nat_lt given (given + 1) ≡ true
 now_below given = grind (arith, nat_tests)
 
 pub places_added : (last : ℕ) (foreign : BTreeMap ℕ (Option Slot)) (own new : ℕ → Bool) (given p : ℕ) → p ≡ last + given + 1 → new ≡ own → own given ≡ true → place_in last foreign (own_places (given + 1) new) ≡ put_at (place_in last foreign (own_places given own)) p true

@@ -1,15 +1,14 @@
 -- The maps of an export are the maps of the database.
 use Rattle.std.proofs.Common.{◌≡◌, ◌∙◌, ℕ, Bool, true, false, cond, List, [], ◌∷◌, Option, Some, None, option_map, is_eq, unwrap_or, sym, refl, ap, subst, Less, Equal, Greater}
 use Rattle.std.proofs.Math.Path.{fun_ext}
-use Rattle.std.proofs.lemmas.Cmp.{tied_itself}
 use Rattle.std.specs.Ordering.{eq_by_cmp}
 use Rattle.std.specs.declared.cmp.Ordering.{Ordering}
 use Rattle.std.specs.FinMap.Entries.{find}
 use Rattle.std.specs.Str.{bytes_eq}
-use Rattle.sled_nodes.proofs.Basics.{none_some, false_true, key_total, key_same}
+use Rattle.sled_nodes.proofs.Basics.{none_some, false_true}
 use Rattle.sled_nodes.specs.Order.{Key, key_cmp}
 use Rattle.sled_store.specs.Store.{Store, now}
-use Rattle.sled_store.specs.theory.Facts.{same_name, name_itself}
+use Rattle.sled_store.specs.theory.Facts.{same_name}
 use Rattle.sled_model.specs.Collections.{Content}
 use Rattle.sled_model.specs.Maps.{Map, Maps, Merge}
 use Rattle.sled_model.specs.State.{NamedTree}
@@ -18,6 +17,7 @@ use Rattle.tree_laws.specs.Contents.{trees_of, pairs_under}
 use Rattle.sled.specs.Export.{collections}
 use Rattle.sled.specs.Sound.{IsDb}
 use Rattle.sled.specs.Values.{DbValue, named, numbers_of}
+use Rattle.sled.proofs.Planting.{same_test}
 use Rattle.sled_calls.specs.Values.{MachineValue}
 use Rattle.sled_shared.specs.History.{maps_from}
 use Rattle.sled_shared.specs.Sound.{maps_now}
@@ -26,16 +26,6 @@ order_equal : (o : Ordering) → is_eq o ≡ true → o ≡ Equal
 order_equal Less q = false_true q
 order_equal Equal q = refl
 order_equal Greater q = false_true q
-
--- the two tests of names are one
-same_test : (a b : Key) → eq_by_cmp key_cmp a b ≡ bytes_eq a b
-same_test a b = go (eq_by_cmp key_cmp a b) (bytes_eq a b) refl refl
-  where
-    go : (x y : Bool) → eq_by_cmp key_cmp a b ≡ x → bytes_eq a b ≡ y → x ≡ y
-    go true true e f = refl
-    go false false e f = refl
-    go true false e f = sym (name_itself a) ∙ ap (bytes_eq a) (key_same a b (order_equal (key_cmp a b) e)) ∙ f
-    go false true e f = sym e ∙ ap is_eq (ap (key_cmp a) (sym (same_name a b f)) ∙ tied_itself key_total a)
 
 -- what the collections of these trees have of a name
 of_collections : (maps : Maps) (trees : List (Key × ℕ)) (name : Key) → maps_from (collections maps trees) name ≡ option_map (λ (n : ℕ). unwrap_or (maps name) []) (find key_cmp name trees)

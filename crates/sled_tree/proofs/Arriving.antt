@@ -33,12 +33,13 @@ use Rattle.sled_tree.specs.declared.flight.Next.TheVariants.{Go, Decided}
 use Rattle.tree_laws.specs.declared.flight.Walk.{Walk}
 use Rattle.tree_laws.specs.declared.flight.Reached.{Reached}
 use Rattle.tree_laws.specs.declared.flight.Reached.TheVariants as reached
+use Rattle.tree_laws.proofs.Viewed.{viewed}
 use Rattle.sled_tree.specs.Change.{reply_at}
 use Rattle.sled_tree.specs.theory.Change.{IsLeaf, IsIndex}
 use Rattle.sled_tree.specs.Stages.{Knows, changes_at}
 use Rattle.sled_tree.specs.theory.StageAction.{StageAction, AfterPage, IsReadPage, owned_next}
 use Rattle.sled_tree.specs.Follows.{ResumesMerge, BeginsMerge, resumed, begun, posting_of, OrNoMemory, onward, EndsWithin}
-use Rattle.sled_tree.proofs.Facts.{same_here, rests, viewed, live_view, leaves_read}
+use Rattle.sled_tree.proofs.Facts.{same_here, rests, live_view, leaves_read}
 use Rattle.sled_tree.proofs.Replying.{read_law}
 
 pub leaf_is : (d : Data) → IsLeaf d → (es : List (Key × Key)) × (d ≡ Leaf es)

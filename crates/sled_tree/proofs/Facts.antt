@@ -33,6 +33,8 @@ use Rattle.sled_tree.specs.declared.flight.InFlight.{InFlight}
 use Rattle.sled_tree.specs.declared.flight.Went.{Went}
 use Rattle.sled_tree.specs.declared.flight.Went.TheVariants as went
 use Rattle.tree_laws.specs.Stages.{IsStage, owned}
+use Rattle.tree_laws.proofs.States.{true_on}
+use Rattle.tree_laws.proofs.Viewed.{viewed}
 use Rattle.sled_tree.specs.Stages.{Knows, changes_at}
 use Rattle.sled_tree.specs.StageAction.{ActsOnce, LeaksNoPage, leaks_no_page_as}
 use Rattle.sled_tree.specs.theory.StageAction.{StageAction, StageActionBy, StageOutcome, Whichever, KeepsContents, FlightStep, FlightStepBy, is_action_refused_as}
@@ -210,16 +212,11 @@ moves_on j old new a b once plain known = record {
       subst (λ (z : Snapshot). (v : Forest) × KeepsForest (owned a) (owned b) mo w z v × (Knows z v j b × KeepsContents mo w z v) × LeaksNoPage (owned a) (owned b) mo.state z.state v) (sym n.1) (n.2, n.3.acts, ((n.3.knows, plain, k.2), record { same = n.3.same }), n.4);
 }
 
--- what was given stays given when one more is
-given_stays : (given : ℕ → Bool) (p q : ℕ) → given q ≡ true → put_at given p true q ≡ true
-given_stays given p q e = elim (same_or_not q p) [
-  | inl s ↦ ap (put_at given p true) s ∙ put_here given p true
-  | inr off ↦ put_there given p true q off ∙ e
 ]
 
 -- one changing action: a page was changed, a page was made, a page went, or a root became another
 pub once_acts : {p given : ℕ} {page : Option Page} {old new : Store} → ActsAt (PageBecomes p page) given old new → ActsOnce old new
-once_acts {p} {given} {page} {old} {new} a = record { action = PageBecomes p page; pids = old.pids; versions = put_at old.versions given true; is = a.is; pids_stay = λ p e. e; versions_stay = given_stays old.versions given; no_group = ap (λ (s : State). s.in_group) (now_acts _ _ old new a) }
+once_acts {p} {given} {page} {old} {new} a = record { action = PageBecomes p page; pids = old.pids; versions = put_at old.versions given true; is = a.is; pids_stay = λ p e. e; versions_stay = true_on old.versions given; no_group = ap (λ (s : State). s.in_group) (now_acts _ _ old new a) }
 
 pub once_made : {node : Node} {p version : ℕ} {old new : Store} → Allocates node p version old new → ActsOnce old new
 once_made {node} {p} {version} {old} {new} a = record {
@@ -227,8 +224,8 @@ once_made {node} {p} {version} {old} {new} a = record {
   pids = put_at old.pids p true;
   versions = put_at old.versions version true;
   is = a.is;
-  pids_stay = given_stays old.pids p;
-  versions_stay = given_stays old.versions version;
+  pids_stay = true_on old.pids p;
+  versions_stay = true_on old.versions version;
   no_group = ap (λ (s : State). s.in_group) (now_allocates node p version old new a);
 }
 
@@ -264,11 +261,6 @@ not_up_to a b off = key_total.antisymm b a ∙ go (key_cmp a b) off
     go Less off = absurd (off refl)
     go Equal off = absurd (off refl)
     go Greater off = refl
-
--- a page as it is read
-pub viewed : (pid : ℕ) (o : Option Page) (v : View) → Some v ≡ view_of pid o → (v.pid ≡ pid) × (o ≡ Some (record { version = v.version; node = v.node }))
-viewed pid None v e = none_some (sym e)
-viewed pid (Some g) v e = let is = some_is e in (ap (λ (z : View). z.pid) is, ap (λ (z : View). Some (record { version = z.version; node = z.node })) (sym is))
 
 pub live_view : (s : Store) (pid : ℕ) (v : View) → Some v ≡ view_of pid ((now s).pages pid) → (now s).pages v.pid ≡ Some (record { version = v.version; node = v.node })
 live_view s pid v e = let k = viewed pid ((now s).pages pid) v e in ap (now s).pages k.0 ∙ k.1

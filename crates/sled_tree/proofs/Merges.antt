@@ -29,12 +29,13 @@ use Rattle.tree_laws.specs.declared.flight.Confirm.{Confirm}
 use Rattle.tree_laws.specs.declared.flight.Posting.TheVariants as posting
 use Rattle.tree_laws.specs.declared.flight.Stage.{Stage}
 use Rattle.tree_laws.specs.declared.flight.Stage.TheVariants as stage
+use Rattle.tree_laws.proofs.Viewed.{viewed}
 use Rattle.sled_tree.specs.declared.flight.Next.{Next}
 use Rattle.sled_tree.specs.declared.flight.Next.TheVariants as next
 use Rattle.sled_tree.specs.Stages.{changes_at}
 use Rattle.sled_tree.specs.theory.StageAction.{StageAction, AfterChild, AfterSeek, IsUnchangedNow, owned_next}
 use Rattle.sled_tree.specs.Follows.{ResumesMerge, resumed}
-use Rattle.sled_tree.proofs.Facts.{moves_on, once_acts, stays, rests, same_here, viewed, live_view, leaves_replaced, leaves_read, rid_of_none}
+use Rattle.sled_tree.proofs.Facts.{moves_on, once_acts, stays, rests, same_here, live_view, leaves_replaced, leaves_read, rid_of_none}
 
 -- the parent takes the page for its merging child
 pub intends : (j : Course) (old new : Store) (a : Merge) (version : ℕ) → Changes (after_link (ParentMergeIntention a.child)) a.parent.pid a.parent.version old new (Ok version)

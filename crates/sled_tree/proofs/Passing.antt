@@ -36,7 +36,7 @@ use Rattle.sled_tree.specs.declared.flight.Went.TheVariants as went
 use Rattle.tree_laws.specs.Stages.{by_pointer}
 use Rattle.tree_laws.specs.declared.flight.Reached.{Reached}
 use Rattle.tree_laws.specs.declared.flight.Reached.TheVariants as reached
-use Rattle.sled_tree.proofs.Facts.{viewed}
+use Rattle.tree_laws.proofs.Viewed.{viewed, gone}
 use Rattle.sled_tree.proofs.Replying.{links_law}
 use Rattle.sled_tree.proofs.Arriving.{leaf_is, index_is}
 
@@ -51,10 +51,6 @@ passes_nowhere j old new taken a n is off = passes_never j old new taken n (λ p
 live_at : (s : State) (aim : Bound Key) (p : ℕ) (first : Bool) (path : List ℕ) → CleanFrom (nodes_of s) aim p first path → s.pages p ≡ None → ⊥
 live_at s aim p first [] k gone = k
 live_at s aim p first (q ∷ rest) (e, n, passed, more) gone = none_some (ap (option_map (λ (g : Page). g.node)) (sym gone) ∙ passed.live)
-
-gone_at : (pid : ℕ) (o : Option Page) → None ≡ view_of pid o → o ≡ None
-gone_at pid None e = refl
-gone_at pid (Some g) e = none_some e
 
 -- what is ahead of a walk is clean from its page on
 clean_ahead : (nodes : Nodes) (aim : Bound Key) (p : ℕ) (by : Reached) (path : List ℕ) → IsAheadOf nodes aim p by path → (first : Bool) × CleanFrom nodes aim p first path
@@ -71,7 +67,7 @@ module _ (j : Course) (s : State) where
   -- the root is gone,
   pub root_gone : (name : Key) (found : Option ℕ) (root : ℕ) (n : Next) → name ≡ j.tree.name → found ≡ s.roots name → found ≡ Some root → None ≡ view_of root (s.pages root) → AdvancesOnPath j s stage.Root n s
   root_gone name found root n called is_found is_some read = passes_never j s s stage.Root n
-      (λ path k. live_at s j.aim k.root true path k.clean (subst (λ r. s.pages r ≡ None) (some_is (sym is_some ∙ is_found ∙ ap s.roots called ∙ k.is_root)) (gone_at root (s.pages root) read)))
+      (λ path k. live_at s j.aim k.root true path k.clean (subst (λ r. s.pages r ≡ None) (some_is (sym is_some ∙ is_found ∙ ap s.roots called ∙ k.is_root)) (gone root (s.pages root) read)))
 
   -- or it was read
   pub root_passes : (name : Key) (found : Option ℕ) (root : ℕ) (view : View) (n : Next) → name ≡ j.tree.name → found ≡ s.roots name → found ≡ Some root → Some view ≡ view_of root (s.pages root)
@@ -84,7 +80,7 @@ module _ (j : Course) (s : State) where
 
   -- the cursor is gone,
   pub cursor_gone : (a : Walk) (n : Next) → None ≡ view_of a.cursor (s.pages a.cursor) → AdvancesOnPath j s (stage.Walk a) n s
-  cursor_gone a n read = passes_never j s s (stage.Walk a) n (λ path k. let c = clean_ahead (nodes_of s) j.aim a.cursor a.reached path k in live_at s j.aim a.cursor c.0 path c.1 (gone_at a.cursor (s.pages a.cursor) read))
+  cursor_gone a n read = passes_never j s s (stage.Walk a) n (λ path k. let c = clean_ahead (nodes_of s) j.aim a.cursor a.reached path k in live_at s j.aim a.cursor c.0 path c.1 (gone a.cursor (s.pages a.cursor) read))
 
   -- or it was read
   pub cursor_passes : (a : Walk) (view : View) (n : Next) → Some view ≡ view_of a.cursor (s.pages a.cursor) → AdvancesFromPage j view a.reached n → AdvancesOnPath j s (stage.Walk a) n s

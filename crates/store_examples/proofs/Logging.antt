@@ -23,8 +23,8 @@ use Rattle.sled_store.specs.State.{State, Action, PageBecomes, after, after_all}
 use Rattle.sled_store.specs.Store.{Store, now, after_action, after_flush, version_now, ActsAt, Allocates, IsRoots}
 use Rattle.sled_store.specs.theory.Facts.{after_last, put_here, put_elsewhere, put_name_here, put_name_elsewhere, same_name, name_itself}
 use Rattle.sled_nodes.proofs.All.{all_push, all_weaker}
-use Rattle.sled_pages.proofs.Kept.{next_fresh, next_given, next_version}
-use Rattle.sled_pages.proofs.Places.{one_place}
+use Rattle.sled_pages.proofs.Kept.{next_fresh, next_version}
+use Rattle.sled_pages.proofs.Places.{one_place, now_below}
 use Rattle.sled_nodes.specs.theory.Rising.{IsHit, IsGap}
 use Rattle.sled_nodes.proofs.Rising.{rises_put, searched, hit_stands, gap_goes}
 use Rattle.store_examples.specs.declared.log_pages.LogPages.{LogPages}
@@ -143,7 +143,7 @@ there m pid h =
 
 pub change_given : (m : LogPages) (pid version : ℕ) (node : Node) → is_some ((now (store_of m)).pages pid) ≡ true → version ≡ m.next_version →
     is_given m.last_pid (m.next_version + 1) (PageBecame pid (Some (record { version = version; node = node }))) ≡ true
-change_given m pid version node h e = and_true (up_to m.last_pid pid) _ (there m pid h) (ap (λ v. nat_lt v (m.next_version + 1)) e ∙ next_given m.next_version)
+change_given m pid version node h e = and_true (up_to m.last_pid pid) _ (there m pid h) (ap (λ v. nat_lt v (m.next_version + 1)) e ∙ now_below m.next_version)
 
 pub acts : (a : Action) (m : LogPages) (new : Store) → new ≡ record (after_action a (store_of m)) { pids = up_to m.last_pid; versions = below (m.next_version + 1) } → ActsAt a m.next_version (store_of m) new
 acts a m new e = record {
@@ -164,7 +164,7 @@ fresh_up : (n : ℕ) → up_to n (n + 1) ≡ false
 fresh_up n = grind (arith, nat_tests)
 
 pub new_given : (last next : ℕ) (node : Node) → is_given (last + 1) (next + 1) (PageBecame (last + 1) (Some (record { version = next; node = node }))) ≡ true
-new_given last next node = and_true (up_to (last + 1) (last + 1)) _ (next_up last) (next_given next)
+new_given last next node = and_true (up_to (last + 1) (last + 1)) _ (next_up last) (now_below next)
 
 pub allocates : (node : Node) (m : LogPages) (new : Store) →
     new ≡ record (after_action (PageBecomes (m.last_pid + 1) (Some (record { version = m.next_version; node = node }))) (store_of m)) { pids = up_to (m.last_pid + 1); versions = below (m.next_version + 1) } →

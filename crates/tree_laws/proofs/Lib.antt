@@ -37,3 +37,4 @@ pub mod Pictures
 pub mod Faulty
 pub mod Ways
 pub mod Refuted
+pub mod Viewed

@@ -23,7 +23,7 @@ nodes_put f p o = λ i q. at q i
     at q = elim (nat_eq q p) as (λ b. option_map (λ (g : Page). g.node) (cond b o (f q)) ≡ cond b (option_map (λ (g : Page). g.node) o) (option_map (λ (g : Page). g.node) (f q))) [ true ↦ refl | false ↦ refl ]
 
 -- what was true stays so
-true_on : (f : ℕ → Bool) (v q : ℕ) → f q ≡ true → put_at f v true q ≡ true
+pub true_on : (f : ℕ → Bool) (v q : ℕ) → f q ≡ true → put_at f v true q ≡ true
 true_on f v q e = elim (nat_eq q v) as (λ b. cond b true (f q) ≡ true) [ true ↦ refl | false ↦ e ]
 
 not_both : {P : Type 0} (b : Bool) → b ≡ true → b ≡ false → P

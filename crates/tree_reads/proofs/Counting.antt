@@ -17,11 +17,11 @@ use Rattle.tree_laws.proofs.Order.{upto_cases}
 use Rattle.tree_laws.proofs.Runs.{run_parts, run_to}
 use Rattle.tree_laws.proofs.Looking.{next_in}
 use Rattle.tree_laws.proofs.Pairs.{not_below_empty}
+use Rattle.tree_laws.proofs.Viewed.{viewed, gone}
 use Rattle.tree_reads.specs.Walk.{IsLeafFor, HasTooMany, once}
 use Rattle.tree_reads.specs.Leaves.{OfContents}
 use Rattle.tree_reads.specs.theory.Leaves.{Counts}
 use Rattle.tree_reads.specs.declared.TheConstants.{MOST_PAGES}
-use Rattle.tree_reads.proofs.Walking.{viewed, gone}
 use Rattle.tree_reads.proofs.Seeking.{node_at}
 use Rattle.tree_reads.proofs.Backing.{chain_at}
 

@@ -26,11 +26,12 @@ use Rattle.tree_laws.proofs.Runs.{In-right, In_cases, In-left}
 use Rattle.tree_laws.proofs.Looking.{next_in, next_some, ahead_next}
 use Rattle.tree_laws.proofs.Reading.{range_law, find_law}
 use Rattle.tree_laws.proofs.Pairs.{not_below_empty, above}
+use Rattle.tree_laws.proofs.Viewed.{viewed, gone}
 use Rattle.tree_reads.specs.Walk.{IsUnder, IsLeafFor, HasTooMany, once}
 use Rattle.tree_reads.specs.Leaves.{OfContents, Seeks}
 use Rattle.tree_reads.specs.theory.Leaves.{StartsAt}
 use Rattle.tree_reads.specs.declared.TheConstants.{MOST_PAGES}
-use Rattle.tree_reads.proofs.Walking.{viewed, gone, one_less}
+use Rattle.tree_reads.proofs.Walking.{one_less}
 
 pub under : (a c : Key) → key_cmp a c ≡ Greater → Below c a
 under a c e = key_total.antisymm c a ∙ ap ordering_reverse e

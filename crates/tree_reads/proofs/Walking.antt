@@ -1,5 +1,5 @@
 -- Walks from a root to the leaf under a target.
-use Rattle.std.proofs.Common.{◌≡◌, ℕ, suc, ◌+◌, ◌<◌, ◌≤◌, Bool, true, List, [], ◌∷◌, length, Option, Some, None, option_map, sym, refl, ap, ◌∙◌, subst, inl, arith}
+use Rattle.std.proofs.Common.{◌≡◌, ℕ, suc, ◌+◌, ◌<◌, ◌≤◌, Bool, true, List, [], ◌∷◌, length, Some, None, option_map, sym, refl, ap, ◌∙◌, subst, inl, arith}
 use Rattle.std.specs.declared.ops.Bound.{Bound}
 use Rattle.std.specs.declared.ops.Bound.TheVariants.{Included}
 use Rattle.sled_nodes.proofs.Basics.{none_some, some_is}
@@ -15,6 +15,7 @@ use Rattle.tree_laws.specs.Paths.{CleanFrom, IsAhead, tree_pages}
 use Rattle.tree_laws.proofs.Known.{root_in}
 use Rattle.tree_laws.proofs.Runs.{In-right}
 use Rattle.tree_laws.proofs.Looking.{ahead_at, ahead_few, pages_law}
+use Rattle.tree_laws.proofs.Viewed.{viewed, gone}
 use Rattle.tree_reads.specs.Walk.{IsLeafFor, HasTooMany}
 use Rattle.tree_reads.specs.theory.Walk.{Stands, Turns}
 use Rattle.tree_reads.specs.declared.TheConstants.{MOST_PAGES}
@@ -46,14 +47,6 @@ walk_first s root target from k begins = record {
       );
   clean = λ key is first path c. (first, path, no_less (from + length path), c);
 }
-
-pub viewed : (pid : ℕ) (page : Option Page) (v : View) → Some v ≡ view_of pid page → (v.pid ≡ pid) × (page ≡ Some (record { version = v.version; node = v.node }))
-viewed pid None v e = none_some (sym e)
-viewed pid (Some g) v e = let is = some_is e in (ap (λ (z : View). z.pid) is, ap (λ (z : View). Some (record { version = z.version; node = z.node })) (sym is))
-
-pub gone : (pid : ℕ) (page : Option Page) → None ≡ view_of pid page → page ≡ None
-gone pid None e = refl
-gone pid (Some g) e = none_some e
 
 pub one_less : (k a l m : ℕ) → k < a → a + l ≤ m → k + (l + 1) ≤ m
 one_less k a l m h e = omega arith
