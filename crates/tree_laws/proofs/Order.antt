@@ -1,5 +1,5 @@
 -- Keys in order.
-use Rattle.std.proofs.Common.{◌≡◌, ◌∙◌, Bool, not, true, false, sym, refl, ap, subst, inl, inr, ◌⊎◌, Less, Equal, Greater, is_gt}
+use Rattle.std.proofs.Common.{◌≡◌, ◌∙◌, [], ◌∷◌, Bool, not, true, false, sym, refl, ap, subst, inl, inr, ◌⊎◌, Less, Equal, Greater, is_gt}
 use Rattle.std.specs.Ordering.{is_lt, ordering_reverse}
 use Rattle.std.specs.declared.cmp.Ordering.{Ordering}
 use Rattle.std.specs.declared.ops.Bound.{Bound}
