@@ -1,7 +1,6 @@
 -- How the change of a link is taken back in the slot of a page.
 use Rattle.std.specs.Prelude.{ℕ, Option, Some, None}
 use Rattle.sled_nodes.specs.declared.change.Back.{Back}
-use Rattle.sled_nodes.specs.declared.change.Back.TheVariants as back
 use Rattle.sled_pages.specs.declared.memory.slots.Slot.{Slot}
 use Rattle.sled_nodes.specs.Returning.{put_back}
 
