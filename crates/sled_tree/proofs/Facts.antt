@@ -212,8 +212,6 @@ moves_on j old new a b once plain known = record {
       subst (λ (z : Snapshot). (v : Forest) × KeepsForest (owned a) (owned b) mo w z v × (Knows z v j b × KeepsContents mo w z v) × LeaksNoPage (owned a) (owned b) mo.state z.state v) (sym n.1) (n.2, n.3.acts, ((n.3.knows, plain, k.2), record { same = n.3.same }), n.4);
 }
 
-]
-
 -- one changing action: a page was changed, a page was made, a page went, or a root became another
 pub once_acts : {p given : ℕ} {page : Option Page} {old new : Store} → ActsAt (PageBecomes p page) given old new → ActsOnce old new
 once_acts {p} {given} {page} {old} {new} a = record { action = PageBecomes p page; pids = old.pids; versions = put_at old.versions given true; is = a.is; pids_stay = λ p e. e; versions_stay = true_on old.versions given; no_group = ap (λ (s : State). s.in_group) (now_acts _ _ old new a) }
