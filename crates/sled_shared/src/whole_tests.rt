@@ -17,7 +17,7 @@ fn is_open<P: Pages, M: MergeOperator>(machine: &Machine<P, M>) -> bool
 }
 
 // .. and nothing else is tested.
-#[tactic(auto, using(crate::proofs::WholeTests::open_passes, crate::proofs::WholeTests::passes_open))]
+#[tactic(auto, using(crate::proofs::WholeTests::open_passes, sled::proofs::Grouped::tested_open))]
 fn passes<P: Pages, M: MergeOperator>(machine: &Machine<P, M>) -> bool
     ensures yes { result ≡ true → must_refuse_of (db_state P.store M.meant machine.now.db) [] ≡ None }
     ensures no { must_refuse_of (db_state P.store M.meant machine.now.db) [] ≡ None → result ≡ true }

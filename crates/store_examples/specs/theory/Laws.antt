@@ -8,7 +8,7 @@ use Rattle.sled_store.specs.declared.page.Page.{Page}
 use Rattle.sled_pages.specs.Memory.{empty_store}
 use Rattle.sled_store.specs.State.{State, after, after_all}
 use Rattle.sled_store.specs.Store.{now, AreGiven}
-use Rattle.sled_nodes.proofs.All.{first, second}
+use Rattle.sled_nodes.proofs.Basics.{first_true, second_true}
 use Rattle.store_examples.specs.declared.log_pages.LogPages.{LogPages}
 use Rattle.store_examples.specs.declared.log_pages.Logged.{Logged}
 use Rattle.store_examples.specs.declared.log_pages.Logged.TheVariants.{PageBecame, RootBecame, GroupBegan, GroupEnded}
@@ -47,7 +47,7 @@ step_given last next GroupEnded s e h = h
 
 all_given : (last next : ℕ) (log : List Logged) (s : State) → list_all (is_given last next) log ≡ true → AllGiven last next s → AllGiven last next (after_all (actions_of log) s)
 all_given last next [] s e h = h
-all_given last next (a ∷ log) s e h = all_given last next log (after (action_of a) s) (second (is_given last next a) _ e) (step_given last next a s (first _ _ e) h)
+all_given last next (a ∷ log) s e h = all_given last next log (after (action_of a) s) (second_true (is_given last next a) _ e) (step_given last next a s (first_true _ _ e) h)
 
 none_given : (last next : ℕ) → AllGiven last next empty_store.base
 none_given last next p page e = cc
@@ -62,7 +62,7 @@ within last p e = grind (arith, nat_tests)
 -- each page has a number and a version that were given
 pub law_given : (m : LogPages) → AreGiven (store_of m)
 law_given m = record {
-  pid = λ p page e. first _ _ (page_given m p page e);
-  version = λ p page e. second (up_to m.last_pid p) _ (page_given m p page e);
-  numbered = λ p page e. let h = within m.last_pid p (first _ _ (page_given m p page e)) in let k = m.kept.numbered in omega arith;
+  pid = λ p page e. first_true _ _ (page_given m p page e);
+  version = λ p page e. second_true (up_to m.last_pid p) _ (page_given m p page e);
+  numbered = λ p page e. let h = within m.last_pid p (first_true _ _ (page_given m p page e)) in let k = m.kept.numbered in omega arith;
 }
