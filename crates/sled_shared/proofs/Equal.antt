@@ -1,5 +1,5 @@
--- What a test of equality that says yes tells of lists and pairs.
-use Rattle.std.proofs.Common.{◌≡◌, ◌∙◌, ℕ, Bool, true, ◌&&◌, nat_eq, List, [], ◌∷◌, Option, Some, None, refl, ap}
+-- What a test of equality that says yes tells of lists, pairs, collections and whole calls.
+use Rattle.std.proofs.Common.{◌≡◌, ◌∙◌, ℕ, Bool, true, ◌&&◌, nat_eq, eqb-true, List, [], ◌∷◌, map, Option, Some, None, refl, ap}
 use Rattle.std.specs.Cmp.Lexicographic.{pointwise}
 use Rattle.std.specs.Global.{Vec}
 use Rattle.std.specs.Option.{option_eq}
@@ -7,10 +7,23 @@ use Rattle.std.specs.Str.{bytes_eq}
 use Rattle.sled_nodes.proofs.Basics.{false_true, both_true}
 use Rattle.sled_nodes.specs.Order.{Key}
 use Rattle.sled_store.specs.theory.Facts.{same_name}
-use Rattle.sled_model.specs.Collections.{content_of}
+use Rattle.sled_model.specs.Collections.{content_of, contents_of}
+use Rattle.sled_model.specs.declared.call.Whole.{Whole}
+use Rattle.sled_model.specs.declared.call.Whole.TheVariants.{Flush, PopMin, PopMax, Clear, Group, OpenTree, DropTree, GenerateId, Import, Watch, Next, Unsubscribe}
+use Rattle.sled_model.specs.contracts.call.WholePartialEq.TheImpl as whole
+use Rattle.sled_model.specs.contracts.tree.TreePartialEq.TheImpl as tree
+use Rattle.sled_shared.specs.Made.{whole_value}
+use Rattle.sled_shared.specs.Wholes as value
 
 abbrev Sound : {X : Type 0} → (X → X → Bool) → Type 0
 Sound {X = X} E = (x y : X) → E x y ≡ true → x ≡ y
+
+-- lists that test as equal become equal ones, where their members do
+maps_same : {X Y : Type 0} (E : X → X → Bool) (f : X → Y) → ((x y : X) → E x y ≡ true → f x ≡ f y) → (xs ys : List X) → pointwise E xs ys ≡ true → map f xs ≡ map f ys
+maps_same E f h [] [] e = refl
+maps_same E f h [] (y ∷ ys) e = false_true e
+maps_same E f h (x ∷ xs) [] e = false_true e
+maps_same E f h (x ∷ xs) (y ∷ ys) e = let both = both_true (E x y) (pointwise E xs ys) e in ap (λ z. z ∷ map f xs) (h x y both.0) ∙ ap (λ zs. f y ∷ zs) (maps_same E f h xs ys both.1)
 
 lists_same : {X : Type 0} (E : X → X → Bool) → Sound E → Sound (pointwise E)
 lists_same E h [] [] e = refl
@@ -27,14 +40,48 @@ options_same E h (Some x) (Some y) e = ap Some (h x y e)
 tuples_same : {X Y : Type 0} (E : X → X → Bool) (F : Y → Y → Bool) → Sound E → Sound F → (p q : X × Y) → (E p.0 q.0 && F p.1 q.1) ≡ true → p ≡ q
 tuples_same E F h k (a, b) (c, d) e = let both = both_true (E a c) (F b d) e in ap (λ z. (z, b)) (h a c both.0) ∙ ap (λ z. (c, z)) (k b d both.1)
 
-pub bytes_same : (xs ys : List ℕ) → pointwise nat_eq xs ys ≡ true → xs ≡ ys
-bytes_same xs ys e = same_name xs ys e
-
-pub pairs_same : (xs ys : List (Key × Key)) → pointwise (λ (p q : Key × Key). bytes_eq p.0 q.0 && bytes_eq p.1 q.1) xs ys ≡ true → xs ≡ ys
-pairs_same xs ys e = lists_same (λ (p q : Key × Key). bytes_eq p.0 q.0 && bytes_eq p.1 q.1) (tuples_same bytes_eq bytes_eq same_name same_name) xs ys e
-
-pub writes_same : (xs ys : List (Key × Option Key)) → pointwise (λ (p q : Key × Option Key). bytes_eq p.0 q.0 && option_eq bytes_eq p.1 q.1) xs ys ≡ true → xs ≡ ys
+writes_same : (xs ys : List (Key × Option Key)) → pointwise (λ (p q : Key × Option Key). bytes_eq p.0 q.0 && option_eq bytes_eq p.1 q.1) xs ys ≡ true → xs ≡ ys
 writes_same xs ys e = lists_same (λ (p q : Key × Option Key). bytes_eq p.0 q.0 && option_eq bytes_eq p.1 q.1) (tuples_same bytes_eq (option_eq bytes_eq) same_name (options_same bytes_eq same_name)) xs ys e
 
-pub contents_same : (a b : Vec ℕ × Vec ℕ × Vec (Key × Key)) → a.0.items ≡ b.0.items → a.1.items ≡ b.1.items → a.2.items ≡ b.2.items → content_of a ≡ content_of b
-contents_same a b e f g = ap (λ z. (z, a.1.items, a.2.items)) e ∙ ap (λ z. (b.0.items, z, a.2.items)) f ∙ ap (λ z. (b.0.items, b.1.items, z)) g
+-- collections, wherever their vectors lie
+module _ (a b : Vec ℕ × Vec ℕ × Vec (Key × Key)) where
+  abbrev kinds : Bool
+  kinds = pointwise nat_eq a.0.items b.0.items
+
+  abbrev names : Bool
+  names = pointwise nat_eq a.1.items b.1.items
+
+  abbrev pairs : Bool
+  pairs = pointwise (λ (p q : Key × Key). bytes_eq p.0 q.0 && bytes_eq p.1 q.1) a.2.items b.2.items
+
+  contents_same : (kinds && names) && pairs ≡ true → content_of a ≡ content_of b
+  contents_same e =
+      let all = both_true (kinds && names) pairs e in
+      let both = both_true kinds names all.0 in
+      ap (λ z. (z, a.1.items, a.2.items)) (same_name _ _ both.0)
+      ∙ ap (λ z. (b.0.items, z, a.2.items)) (same_name _ _ both.1)
+      ∙ ap (λ z. (b.0.items, b.1.items, z)) (lists_same (λ (p q : Key × Key). bytes_eq p.0 q.0 && bytes_eq p.1 q.1) (tuples_same bytes_eq bytes_eq same_name same_name) a.2.items b.2.items all.1)
+
+pub collections_same : (xs ys : List (Vec ℕ × Vec ℕ × Vec (Key × Key))) → pointwise (λ a b. (kinds a b && names a b) && pairs a b) xs ys ≡ true → contents_of xs ≡ contents_of ys
+collections_same xs ys e = maps_same _ content_of contents_same xs ys e
+
+trees_same : Sound tree.ghosts.eq
+trees_same t u e =
+    let a = both_true (bytes_eq t.database u.database) _ e in
+    let b = both_true (bytes_eq t.name u.name) (nat_eq t.number u.number) a.1 in
+    λ i. record { database = same_name t.database u.database a.0 i; name = same_name t.name u.name b.0 i; number = eqb-true t.number u.number b.1 i }
+
+pub wholes_same : (a b : Whole) → whole.ghosts.eq a b ≡ true → whole_value a ≡ whole_value b
+wholes_same Flush Flush e = refl
+wholes_same (PopMin t) (PopMin u) e = ap value.PopMin (trees_same t u e)
+wholes_same (PopMax t) (PopMax u) e = ap value.PopMax (trees_same t u e)
+wholes_same (Clear t) (Clear u) e = ap value.Clear (trees_same t u e)
+wholes_same (Group xs) (Group ys) e = ap value.Group (lists_same _ (tuples_same _ _ trees_same writes_same) xs.items ys.items e)
+wholes_same (OpenTree n) (OpenTree m) e = ap value.OpenTree (same_name n m e)
+wholes_same (DropTree n) (DropTree m) e = ap value.DropTree (same_name n m e)
+wholes_same GenerateId GenerateId e = refl
+wholes_same (Import xs) (Import ys) e = ap value.Import (collections_same xs.items ys.items e)
+wholes_same (Watch t p) (Watch u q) e = let both = both_true (tree.ghosts.eq t u) (bytes_eq p q) e in ap (λ z. value.Watch z p) (trees_same t u both.0) ∙ ap (λ z. value.Watch u z) (same_name p q both.1)
+wholes_same (Next n) (Next m) e = ap value.Next (eqb-true n m e)
+wholes_same (Unsubscribe n) (Unsubscribe m) e = ap value.Unsubscribe (eqb-true n m e)
+wholes_same a b e = false_true e

@@ -1,5 +1,5 @@
 -- The ids in a history rise.
-use Rattle.std.proofs.Common.{◌≡◌, ◌∙◌, ℕ, zero, suc, ◌+◌, ◌≤◌, List, [], ◌∷◌, ◌++◌, append_assoc, Option, Some, None, sym, refl, ap, subst, inl, inr, arith}
+use Rattle.std.proofs.Common.{◌≡◌, ◌∙◌, ℕ, zero, suc, ◌≤◌, List, [], ◌∷◌, ◌++◌, append_assoc, Option, Some, None, sym, refl, ap, subst, inl, inr, arith}
 use Rattle.sled_nodes.specs.Ranges.{Range}
 use Rattle.sled_nodes.specs.declared.error.Error.{Error}
 use Rattle.sled_store.specs.Store.{Store}

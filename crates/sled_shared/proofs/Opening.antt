@@ -1,11 +1,10 @@
 -- The maps of an export are the maps of the database.
-use Rattle.std.proofs.Common.{◌≡◌, ◌∙◌, ℕ, Bool, true, false, cond, List, [], ◌∷◌, Option, Some, None, option_map, is_eq, unwrap_or, sym, refl, ap, subst, Less, Equal, Greater}
+use Rattle.std.proofs.Common.{◌≡◌, ◌∙◌, ℕ, Bool, true, false, cond, List, [], ◌∷◌, Option, Some, None, option_map, unwrap_or, sym, refl, ap, subst}
 use Rattle.std.proofs.Math.Path.{fun_ext}
 use Rattle.std.specs.Ordering.{eq_by_cmp}
-use Rattle.std.specs.declared.cmp.Ordering.{Ordering}
 use Rattle.std.specs.FinMap.Entries.{find}
 use Rattle.std.specs.Str.{bytes_eq}
-use Rattle.sled_nodes.proofs.Basics.{none_some, false_true}
+use Rattle.sled_nodes.proofs.Basics.{none_some}
 use Rattle.sled_nodes.specs.Order.{Key, key_cmp}
 use Rattle.sled_store.specs.Store.{Store, now}
 use Rattle.sled_store.specs.theory.Facts.{same_name}
@@ -21,11 +20,6 @@ use Rattle.sled.proofs.Planting.{same_test}
 use Rattle.sled_calls.specs.Values.{MachineValue}
 use Rattle.sled_shared.specs.History.{maps_from}
 use Rattle.sled_shared.specs.Sound.{maps_now}
-
-order_equal : (o : Ordering) → is_eq o ≡ true → o ≡ Equal
-order_equal Less q = false_true q
-order_equal Equal q = refl
-order_equal Greater q = false_true q
 
 -- what the collections of these trees have of a name
 of_collections : (maps : Maps) (trees : List (Key × ℕ)) (name : Key) → maps_from (collections maps trees) name ≡ option_map (λ (n : ℕ). unwrap_or (maps name) []) (find key_cmp name trees)

@@ -142,6 +142,7 @@ some_parts v (suc n) h = refl
 pub no_parts : (v : WholeValue) (n : ℕ) → n ≡ 0 → noted_with v None n ≡ []
 no_parts v n e = ap (noted_with v None) e
 
+-- tests
 none_both : (a b : Option MustRefuse) → a ≡ None → b ≡ None → first_of a b ≡ None
 none_both a b e f = ap (λ x. first_of x b) e ∙ f
 
