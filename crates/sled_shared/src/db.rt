@@ -200,6 +200,7 @@ fn fill<P: Pages, L: Ledger, M: MergeOperator>(
     state: State<P, L, M>,
 ) {
     let mut guard = lock.lock(rt);
-    let slot = &mut *guard;
-    *slot = Some(state);
+    let old = std::mem::replace(&mut *guard, Some(state));
+    drop(old);
+    drop(guard);
 }

@@ -101,15 +101,9 @@ fn take_agreeing<P: Pages, L: Ledger, M: MergeOperator>(
     ensures others { IfSome result (λ s. All (IsOfGiven given) s.history) }
     ensures opening { IfSome result (λ s. s.opening ≡ contents_of opening.now) }
 {
-    match slot.take() {
-        None => None,
-        Some(state) => {
-            if began_with(&state, opening) && agrees_with(&state, handles, given) {
-                Some(state)
-            } else {
-                *slot = Some(state);
-                None
-            }
-        }
-    }
+    let agrees = match slot {
+        Some(state) => began_with(state, opening) && agrees_with(state, handles, given),
+        None => false,
+    };
+    if agrees { slot.take() } else { None }
 }
