@@ -26,7 +26,9 @@ fn add_merging_child(children: &mut BTreeSet<u64>, node: &Node) -> Result<()>
     ensures err { IfErr result (λ e. e ≡ NoMemory) }
 {
     if let Some(child) = node.merging_child {
-        children.insert(child.0)?;
+        if let Err(_) = children.insert(child.0) {
+            return Err(Error::NoMemory);
+        }
     }
     Ok(())
 }
@@ -38,7 +40,10 @@ pub fn merging_children(alloc: Global, above: &[View]) -> Result<BTreeSet<u64>>
 {
     let mut children = BTreeSet::new(alloc);
     for view in above {
-        add_merging_child(&mut children, &view.node)?;
+        if let Err(e) = add_merging_child(&mut children, &view.node) {
+            drop(children);
+            return Err(e);
+        }
     }
     Ok(children)
 }
@@ -90,12 +95,16 @@ fn check_chained(
     ensures parent { OnOk result (node.now.merging ≡ true → is_child ≡ true) }
     ensures err { IfErr result RefusesPage }
 {
-    check_bounds(node, lo)?;
+    if let Err(e) = check_bounds(node, lo) {
+        return Err(e);
+    }
     if node.merging && !is_child {
         return Err(corruption(WRONG_MERGE));
     }
-    check_page(alloc, node, level.height)?;
-    set_level(levels, pid, level)
+    match check_page(alloc, node, level.height) {
+        Ok(()) => set_level(levels, pid, level),
+        Err(e) => Err(e),
+    }
 }
 
 // Reads and tests the next page of a chain that has come to this key.
@@ -111,7 +120,10 @@ fn read_next<P: Pages>(
     ensures ok { IfOk result (λ view. AddsPage (now (P.store pages.now)) (contains nat_cmp children.now) level pid lo.now view levels.old levels.new) }
     ensures err { IfErr result (RefusesCheck (P.store pages.now)) }
 {
-    let view = page_at(alloc, pages, pid, DANGLING_POINTER)?;
+    let view = match page_at(alloc, pages, pid, DANGLING_POINTER) {
+        Ok(view) => view,
+        Err(e) => return Err(e),
+    };
     let is_child = children.contains(&pid.0);
     if let Err(e) = check_chained(alloc, &view.node, pid, lo, level, is_child, levels) {
         drop(view);
@@ -133,7 +145,7 @@ fn extend<P: Pages>(
     ensures ok { IfOk result (λ next. Extends (now (P.store pages.now)) (contains nat_cmp children.now) level pid next chain.old.items chain.new.items levels.old levels.new) }
     ensures err { IfErr result (RefusesCheck (P.store pages.now)) }
 {
-    let view = read_next(
+    let view = match read_next(
         alloc,
         pages,
         pid,
@@ -141,7 +153,10 @@ fn extend<P: Pages>(
         level,
         children,
         levels,
-    )?;
+    ) {
+        Ok(view) => view,
+        Err(e) => return Err(e),
+    };
     let next = view.node.next;
     if let Err(failed) = chain.push(view) {
         drop(failed);

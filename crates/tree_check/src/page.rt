@@ -109,11 +109,16 @@ pub fn first_child(alloc: Global, node: &Node) -> Result<Option<Pid>>
     ensures ok { IfOk result (λ child. child ≡ child_of_first (pointers_in node.now.content)) }
     ensures err { IfErr result (λ e. e ≡ NoMemory) }
 {
-    let list = pointers_of(alloc, node)?;
-    match list.first() {
-        Some(pointer) => Ok(Some(pointer.1)),
-        None => Ok(None),
-    }
+    let list = match pointers_of(alloc, node) {
+        Ok(list) => list,
+        Err(e) => return Err(e),
+    };
+    let child = match list.first() {
+        Some(pointer) => Some(pointer.1),
+        None => None,
+    };
+    drop(list);
+    Ok(child)
 }
 
 // Tests an index by itself.
@@ -168,17 +173,27 @@ fn check_content(alloc: Global, node: &Node, height: u64) -> Result<()>
             if height != 0 {
                 return Err(corruption(MIXED_PAGES));
             }
-            let pairs = leaf.pairs(alloc)?;
+            let pairs = match leaf.pairs(alloc) {
+                Ok(pairs) => pairs,
+                Err(e) => return Err(e),
+            };
             let done = check_leaf(node, pairs.as_slice());
             drop(pairs);
-            done?;
-            Ok(())
+            match done {
+                Ok(()) => Ok(()),
+                Err(e) => Err(e),
+            }
         }
         Data::Index(index) => {
-            let pointers = index.pairs(alloc)?;
+            let pointers = match index.pairs(alloc) {
+                Ok(pointers) => pointers,
+                Err(e) => return Err(e),
+            };
             let done = check_index(node, pointers.as_slice());
             drop(pointers);
-            done?;
+            if let Err(e) = done {
+                return Err(e);
+            }
             if height == 0 {
                 return Err(corruption(MIXED_PAGES));
             }

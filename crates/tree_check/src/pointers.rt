@@ -78,10 +78,10 @@ fn check_level_of(
                 Err(found_twice(old, level))
             }
         }
-        None => {
-            check_received(alloc, &found.node, level.height)?;
-            set_level(levels, found.pid, level)
-        }
+        None => match check_received(alloc, &found.node, level.height) {
+            Ok(()) => set_level(levels, found.pid, level),
+            Err(e) => Err(e),
+        },
     }
 }
 
@@ -99,15 +99,20 @@ fn check_pointer<P: Pages>(
     ensures adds { OnOk result (FindsReceived (now (P.store pages.now)) (view.now ∷ []) level levels.old levels.new) }
     ensures err { IfErr result (RefusesCheck (P.store pages.now)) }
 {
-    let found = page_at(alloc, pages, child, DANGLING_POINTER)?;
+    let found = match page_at(alloc, pages, child, DANGLING_POINTER) {
+        Ok(found) => found,
+        Err(e) => return Err(e),
+    };
     if let Err(e) = check_fits(&found.node, key, merges(&view.node, child)) {
         drop(found);
         return Err(e);
     }
     let done = check_level_of(alloc, &found, level, levels);
     drop(found);
-    done?;
-    Ok(())
+    match done {
+        Ok(()) => Ok(()),
+        Err(e) => Err(e),
+    }
 }
 
 // Tests all pointers of a page.
@@ -122,10 +127,17 @@ fn check_pointers_of<P: Pages>(
     ensures adds { OnOk result (FindsReceived (now (P.store pages.now)) (view.now ∷ []) level levels.old levels.new) }
     ensures err { IfErr result (RefusesCheck (P.store pages.now)) }
 {
-    let list = pointers_of(alloc, &view.node)?;
+    let list = match pointers_of(alloc, &view.node) {
+        Ok(list) => list,
+        Err(e) => return Err(e),
+    };
     for pointer in list.as_slice() {
-        check_pointer(alloc, pages, view, &pointer.0, pointer.1, level, levels)?;
+        if let Err(e) = check_pointer(alloc, pages, view, &pointer.0, pointer.1, level, levels) {
+            drop(list);
+            return Err(e);
+        }
     }
+    drop(list);
     Ok(())
 }
 
@@ -142,7 +154,9 @@ pub fn check_pointers<P: Pages>(
     ensures err { IfErr result (RefusesCheck (P.store pages.now)) }
 {
     for view in above {
-        check_pointers_of(alloc, pages, view, level, levels)?;
+        if let Err(e) = check_pointers_of(alloc, pages, view, level, levels) {
+            return Err(e);
+        }
     }
     Ok(())
 }

@@ -9,7 +9,7 @@ use crate::findings::{DANGLING_POINTER, FOUND_TWICE, MISSING_ROOT, WRONG_ENTRIES
 use crate::levels::Level;
 use crate::page::{first_child, page_at};
 use crate::pointers::check_pointers;
-use sled_nodes::{Pid, Result};
+use sled_nodes::{Error, Pid, Result};
 use sled_store::{Pages, View};
 use std::alloc::Global;
 use std::collections::{BTreeMap, BTreeSet};
@@ -30,10 +30,15 @@ fn child_of<P: Pages>(
     } else {
         DANGLING_POINTER
     };
-    if !passed.insert(pid.0)? {
-        return Err(corruption(FOUND_TWICE));
+    match passed.insert(pid.0) {
+        Ok(true) => (),
+        Ok(false) => return Err(corruption(FOUND_TWICE)),
+        Err(_) => return Err(Error::NoMemory),
     }
-    let view = page_at(alloc, pages, pid, fault)?;
+    let view = match page_at(alloc, pages, pid, fault) {
+        Ok(view) => view,
+        Err(e) => return Err(e),
+    };
     let child = first_child(alloc, &view.node);
     drop(view);
     child
@@ -69,9 +74,10 @@ fn first_below(alloc: Global, above: &[View]) -> Result<Pid>
     ensures err { IfErr result RefusesPage }
 {
     match above.first() {
-        Some(view) => match first_child(alloc, &view.node)? {
-            Some(child) => Ok(child),
-            None => Err(corruption(WRONG_ENTRIES)),
+        Some(view) => match first_child(alloc, &view.node) {
+            Ok(Some(child)) => Ok(child),
+            Ok(None) => Err(corruption(WRONG_ENTRIES)),
+            Err(e) => Err(e),
         },
         None => Err(corruption(WRONG_ENTRIES)),
     }
@@ -88,11 +94,20 @@ fn check_level<P: Pages>(
     ensures ok { IfOk result (λ chain. FindsLevel (now (P.store pages.now)) above.now level chain.items levels.old levels.new) }
     ensures err { IfErr result (RefusesCheck (P.store pages.now)) }
 {
-    let first = first_below(alloc, above)?;
-    let children = merging_children(alloc, above)?;
+    let first = match first_below(alloc, above) {
+        Ok(first) => first,
+        Err(e) => return Err(e),
+    };
+    let children = match merging_children(alloc, above) {
+        Ok(children) => children,
+        Err(e) => return Err(e),
+    };
     let read = read_chain(alloc, pages, first, level, &children, levels);
     drop(children);
-    let chain = read?;
+    let chain = match read {
+        Ok(chain) => chain,
+        Err(e) => return Err(e),
+    };
     if let Err(e) = check_pointers(alloc, pages, above, level, levels) {
         drop(chain);
         return Err(e);
@@ -113,16 +128,24 @@ pub fn check_tree<P: Pages>(
     ensures ok { OnOk result (FindsTree (now (P.store pages.now)) root tree levels.old levels.new) }
     ensures err { IfErr result (RefusesCheck (P.store pages.now)) }
 {
-    let top = height_of(alloc, pages, root)?;
+    let top = match height_of(alloc, pages, root) {
+        Ok(top) => top,
+        Err(e) => return Err(e),
+    };
     let no_children = BTreeSet::new(alloc);
-    let mut above = read_chain(
+    let read = read_chain(
         alloc,
         pages,
         root,
         Level { tree, height: top },
         &no_children,
         levels,
-    )?;
+    );
+    drop(no_children);
+    let mut above = match read {
+        Ok(chain) => chain,
+        Err(e) => return Err(e),
+    };
     for passed in 0..top {
         let height = top - passed - 1;
         match check_level(

@@ -41,15 +41,20 @@ pub fn verify_integrity<P: Pages>(alloc: Global, pages: &P) -> Result<()>
     ensures ok { OnOk result (IsValid (now (P.store pages.now))) }
     ensures err { IfErr result (RefusesCheck (P.store pages.now)) }
 {
-    let roots = pages.roots(alloc)?;
+    let roots = match pages.roots(alloc) {
+        Ok(roots) => roots,
+        Err(e) => return Err(e),
+    };
     let mut levels = BTreeMap::new(alloc);
     let list = roots.as_slice();
     for i in 0..list.len() {
         if let Err(e) = check_tree(alloc, pages, list[i].1, i as u64, &mut levels) {
+            drop(roots);
             drop(levels);
             return Err(e);
         }
     }
+    drop(roots);
     drop(levels);
     Ok(())
 }

@@ -5,12 +5,12 @@ use Rattle.tree_check.proofs.tree.check_level.Goals as goal
 
 pub returns-clause-ok : goal.returns-clause-ok
 returns-clause-ok g c = record {
-  first = c.in_ok-first.first;
-  down = c.in_ok-first.ensures.ok;
-  children = contains nat_cmp c.in_ok-children.children;
-  has = c.in_ok-children.ensures.ok;
+  first = c.in-Ok.first;
+  down = c.in-Ok.ensures.ok;
+  children = contains nat_cmp c.in-Ok-merging_children.children;
+  has = c.in-Ok-merging_children.ensures.ok;
   middle = c.read_chain-read.new.levels;
-  chain = c.in_ok-chain.ensures.ok;
+  chain = c.in-Ok-read.ensures.ok;
   lead = all_lead _ _ _ _ c.in_default.ensures.lead;
   received = c.in_default.ensures.adds;
 }
