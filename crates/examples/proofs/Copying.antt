@@ -157,6 +157,7 @@ none_later : (maps : Maps) (k : Key) (ts : List (Key × ℕ)) → below_all key_
 none_later maps k [] t = refl
 none_later maps k (r ∷ rs) t = let s = both_true _ _ t in puts_other k r.0 (unwrap_or (maps r.0) []) (parts_of (collections maps rs)) (below_other k r.0 (is_less (key_cmp k r.0) s.0)) ∙ none_later maps k rs s.1
 
+-- names that differ by their order differ by the test
 apart_by_order : (a b : Key) → eq_by_cmp key_cmp a b ≡ false → bytes_eq a b ≡ false
 apart_by_order a b off = other_name a b (λ e. differ (sym off ∙ ap (λ z. eq_by_cmp key_cmp z b) e ∙ ap is_eq (tied_itself key_total b)))
   where

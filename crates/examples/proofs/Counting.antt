@@ -9,6 +9,7 @@ use Rattle.std.specs.declared.alloc.Global.{Global}
 use denote.Ref.{Bor}
 use Rattle.std.specs.Int.{w64, to_be_bytes}
 use Rattle.sled_nodes.proofs.Basics.{none_some, some_is}
+use Rattle.sled_nodes.proofs.Put.{found_here, found_there}
 use Rattle.sled_nodes.specs.Order.{Key, key_cmp}
 use Rattle.sled_store.specs.theory.Facts.{put_name_here, put_name_elsewhere}
 use Rattle.sled_store.specs.Store.{Store}
@@ -31,7 +32,6 @@ use Rattle.sled.specs.Direct.{PointRefused}
 use Rattle.sled.specs.Fetch.{Closure, FetchDecided, FetchRefused}
 use Rattle.examples.specs.Reads.{found_in, maps_now}
 use Rattle.examples.specs.Counters.{number_in, sum_of, bytes_of_sum, adding, counter_in, SetsCounter}
-use Rattle.examples.proofs.Keys.{put_here, put_there}
 
 -- the bytes of a sum are its number
 pub sum_read : (stood : Option Key) (n : ℕ) → number_in (Some (bytes_of_sum stood n)) ≡ sum_of (number_in stood) n
@@ -64,8 +64,8 @@ module _ (old new : State) (tree : Tree) (c : Call) (reply : Reply) (d : Decides
 
     pub writes : SetsCounter (maps_of old) (maps_of new) tree.name k (number_in (Some v))
     writes = record {
-      here = ap (λ o. number_in (found_in o k)) here ∙ ap number_in (put_here k v d.named.map);
-      names = λ other off. ap (λ o. found_in o other) here ∙ put_there other k v d.named.map off ∙ sym (ap (λ o. found_in o other) was);
+      here = ap (λ o. number_in (found_in o k)) here ∙ ap number_in (found_here k v d.named.map);
+      names = λ other off. ap (λ o. found_in o other) here ∙ found_there other k v d.named.map off ∙ sym (ap (λ o. found_in o other) was);
       trees = λ other off. ap (λ (s : State). maps_of s other) d.is ∙ ap (option_map (λ (t : NamedTree). t.map)) (put_name_elsewhere old.trees tree.name other (Some (record d.named { map = (answer_of d.named.merge c d.named.map).map })) off);
     }
 

@@ -1,16 +1,16 @@
 -- What a change of a stock writes, and that the index agrees with the table after it.
-use Rattle.std.proofs.Common.{◌≡◌, ◌≢◌, ◌⊎◌, inl, inr, false, cond, List, [], ◌∷◌, ◌++◌, T, Option, Some, None, unwrap_or, Less, Equal, Greater, is_eq, sym, refl, ap, ◌∙◌, subst}
-use Rattle.std.specs.FinMap.Entries.{find, put, is_sorted, find-put, is_sorted-put}
+use Rattle.std.proofs.Common.{◌≡◌, ◌≢◌, ◌⊎◌, inl, inr, false, List, [], ◌∷◌, ◌++◌, T, Option, Some, None, unwrap_or, Less, Equal, Greater, is_eq, sym, refl, ap, ◌∙◌, subst}
+use Rattle.std.specs.FinMap.Entries.{find, put, is_sorted, is_sorted-put}
 use Rattle.std.specs.declared.cmp.Ordering.{Ordering}
 use Rattle.std.proofs.lemmas.Cmp.{tied_itself}
 use Rattle.sled_nodes.proofs.Basics.{none_some, some_is, false_true, key_total, key_same}
+use Rattle.sled_nodes.proofs.Put.{found_here, found_there}
 use Rattle.ordered_keys.specs.Keys.{IsOneToOne}
 use Rattle.ordered_keys.specs.declared.part.Kind.TheVariants as kind
 use Rattle.ordered_keys.specs.declared.part.Part.{Part}
 use Rattle.ordered_keys.specs.declared.part.Part.TheVariants.{Text}
 use Rattle.sled_nodes.specs.Order.{Key, key_cmp}
 use Rattle.sled_batch.specs.Batch.{Writes}
-use Rattle.sled_batch.proofs.Found.{found_here}
 use Rattle.examples.specs.Stock.{entry_key, Agree, item_taken, entry_taken, item_put, entry_put}
 
 -- ---- keys
@@ -25,14 +25,6 @@ same_or_apart q k = go (key_cmp q k) refl
     go Less e = inr (apart q k (ap is_eq e))
     go Equal e = inl (key_same q k e)
     go Greater e = inr (apart q k (ap is_eq e))
-
-pub found_there : (q k : Key) (v : Option Key) (ws : Writes) → q ≢ k → find key_cmp q (put key_cmp k v ws) ≡ find key_cmp q ws
-found_there q k v ws off = find-put key_cmp key_total q k v ws ∙ go (key_cmp q k) refl
-  where
-    go : (o : Ordering) → key_cmp q k ≡ o → cond (is_eq o) (Some v) (find key_cmp q ws) ≡ find key_cmp q ws
-    go Less e = refl
-    go Equal e = absurd (off (key_same q k e))
-    go Greater e = refl
 
 -- ---- what a change writes
 

@@ -1,5 +1,6 @@
 -- What an index by endings has, what it has after events, and how it begins anew.
 use Rattle.std.proofs.Common.{◌≡◌, ◌≢◌, ◌≤◌, ◌+◌, ◌||◌, ℕ, not, nat_eq, nat_le, min, Bool, true, false, cond, drop, length, List, [], ◌∷◌, ◌++◌, Option, Some, None, option_map, length-append, length-drop, le_of_eq, ◌<◌, sym, refl, ap, ◌∙◌, subst, append_assoc, arith}
+use Rattle.std.proofs.Math.Bool.{or-false}
 use Rattle.std.proofs.lemmas.Bool.{eq-eqb, eqb-true}
 use Rattle.std.specs.FinMap.Entries.{find}
 use Rattle.std.specs.List.{starts_with, AllByRecursion}
@@ -40,10 +41,6 @@ use Rattle.examples.proofs.Turned.{copies_prefix}
 use Rattle.examples.specs.declared.endings.Progress.{Progress}
 use Rattle.examples.specs.declared.endings.Progress.TheVariants.{UpToDate, Partly, Lost}
 use Rattle.examples.specs.Endings.{HasSame, EndingsValue, to_come, has_missed, IsIndex, IsUpToDate, BeginsIndex, TakesEvents, takes_as, TakesOldest, CatchesUp, caught_as, CatchesUpBy, BeginsAnew, StillFollowsLaw, KeepsFollowing, FindsInTree}
-
-or_false : (b : Bool) → (b || false) ≡ b
-or_false true = refl
-or_false false = refl
 
 -- ---- events
 
@@ -182,7 +179,7 @@ module _ (old new : State) (t : Tree) (p : Key) (n : ℕ) (l o : Option Event) (
     at_next None g = (
       took [] b (g.1 ∙ sym (ap (drop 1) g.1) ∙ sym (events_left g.0)) (stays_counted g.0),
       ap (λ o. option_to_list o ++ waiting_in (new.queues n)) none ∙ events_left g.0 ∙ ap (drop 1) g.1,
-      ap (λ z. b || not z) (count_left g.0) ∙ or_false b,
+      ap (λ z. b || not z) (count_left g.0) ∙ or-false b,
     )
     at_next (Some (next.Event e)) g = took (e ∷ []) b (g.1 ∙ ap (λ l. e ∷ l) (sym (events_left g.0))) (stays_counted g.0)
     at_next (Some (next.Missed k)) g = took [] true

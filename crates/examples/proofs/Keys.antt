@@ -1,10 +1,8 @@
 -- An insert in a map.
-use Rattle.std.proofs.Common.{◌≡◌, ◌≢◌, Bool, true, false, cond, Option, Some, None, Less, Equal, Greater, is_eq, refl, ap, ◌∙◌}
-use Rattle.std.specs.FinMap.Entries.{put, find, find-put}
+use Rattle.std.proofs.Common.{◌≡◌, ◌≢◌, Bool, true, false, cond, Option, Some, None, refl, ap, ◌∙◌}
+use Rattle.std.specs.FinMap.Entries.{find}
 use Rattle.std.specs.Str.{bytes_eq}
-use Rattle.std.specs.declared.cmp.Ordering.{Ordering}
-use Rattle.std.proofs.lemmas.Cmp.{tied_itself}
-use Rattle.sled_nodes.proofs.Basics.{key_total, key_same}
+use Rattle.sled_nodes.proofs.Put.{found_here, found_there}
 use Rattle.sled_nodes.specs.Order.{Key, key_cmp}
 use Rattle.sled_store.specs.theory.Facts.{same_name}
 use Rattle.sled_model.specs.Maps.{Map, Merge}
@@ -12,27 +10,16 @@ use Rattle.sled_model.specs.Answer.{answer_of, decision_of, map_after}
 use Rattle.sled_model.specs.declared.call.Call.TheVariants.{Insert}
 use Rattle.sled_model.specs.declared.decision.Effect.TheVariants.{Nothing, Set}
 
-pub put_here : (k v : Key) (m : Map) → find key_cmp k (put key_cmp k v m) ≡ Some v
-put_here k v m = find-put key_cmp key_total k k v m ∙ ap (λ o. cond (is_eq o) (Some v) (find key_cmp k m)) (tied_itself key_total k)
-
-pub put_there : (q k v : Key) (m : Map) → q ≢ k → find key_cmp q (put key_cmp k v m) ≡ find key_cmp q m
-put_there q k v m off = find-put key_cmp key_total q k v m ∙ go (key_cmp q k) refl
-  where
-    go : (o : Ordering) → key_cmp q k ≡ o → cond (is_eq o) (Some v) (find key_cmp q m) ≡ find key_cmp q m
-    go Less e = refl
-    go Equal e = absurd (off (key_same q k e))
-    go Greater e = refl
-
 -- after an insert the key has the value
 pub insert_here : (merge : Option Merge) (k v : Key) (m : Map) → find key_cmp k (answer_of merge (Insert k v) m).map ≡ Some v
 insert_here merge k v m = go (find key_cmp k m) refl
   where
     over : (old : Key) (b : Bool) → bytes_eq old v ≡ b → find key_cmp k m ≡ Some old → find key_cmp k (map_after (cond b Nothing (Set v)) k m) ≡ Some v
     over old true same e = e ∙ ap Some (same_name old v same)
-    over old false other e = put_here k v m
+    over old false other e = found_here k v m
 
     go : (o : Option Key) → find key_cmp k m ≡ o → find key_cmp k (map_after (decision_of merge (Insert k v) o).effect k m) ≡ Some v
-    go None e = put_here k v m
+    go None e = found_here k v m
     go (Some old) e = over old (bytes_eq old v) refl e
 
 -- .. and every other key what it had
@@ -41,8 +28,8 @@ insert_there merge q k v m off = go (find key_cmp k m)
   where
     over : (old : Key) (b : Bool) → find key_cmp q (map_after (cond b Nothing (Set v)) k m) ≡ find key_cmp q m
     over old true = refl
-    over old false = put_there q k v m off
+    over old false = found_there q k v m off
 
     go : (o : Option Key) → find key_cmp q (map_after (decision_of merge (Insert k v) o).effect k m) ≡ find key_cmp q m
-    go None = put_there q k v m off
+    go None = found_there q k v m off
     go (Some old) = over old (bytes_eq old v)

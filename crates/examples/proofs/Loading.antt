@@ -14,8 +14,9 @@ use Rattle.sled_model.specs.Maps.{Map, Maps}
 use Rattle.sled_model.specs.Groups.{writes_on, after_writes}
 use Rattle.sled_model.specs.State.{State, NamedTree, maps_of}
 use Rattle.sled_model.specs.declared.tree.Tree.{Tree}
+use Rattle.sled.proofs.Written.{writes_elsewhere}
 use Rattle.examples.specs.Batches.{put_all, with_pairs, written}
-use Rattle.examples.proofs.Written.{Holds, batch_there, batch_elsewhere}
+use Rattle.examples.proofs.Written.{Holds, batch_there}
 
 -- ---- maps
 
@@ -95,7 +96,7 @@ batch_puts tree ps old new t there is rises all-rise = fun_ext (λ name. go name
         ∙ sym (ap (option_map (put_all ps)) (ap (maps_of old) named ∙ ap (option_map (λ (n : NamedTree). n.map)) there))
     go name false e =
         ap (λ (s : State). maps_of s name) is
-        ∙ ap (option_map (λ (n : NamedTree). n.map)) (batch_elsewhere tree (written ps []) old name (λ named. apart (sym e ∙ ap (λ n. bytes_eq n tree.name) named ∙ name_itself tree.name)))
+        ∙ ap (option_map (λ (n : NamedTree). n.map)) (writes_elsewhere tree (written ps []) old name (λ named. apart (sym e ∙ ap (λ n. bytes_eq n tree.name) named ∙ name_itself tree.name)))
       where
         apart : false ≡ true → ⊥
         apart f = cc

@@ -31,14 +31,14 @@ use Rattle.sled.specs.Reads.{ReadsMap}
 use Rattle.sled.specs.Sound.{IsDb}
 use Rattle.sled.specs.Values.{DbValue, db_state, numbers_of}
 use Rattle.sled.proofs.Grouped.{tested_open}
-use Rattle.sled.proofs.Written.{after_both}
+use Rattle.sled.proofs.Written.{after_both, writes_elsewhere}
 use Rattle.examples.specs.Reads.{found_in, maps_now}
 use Rattle.examples.specs.Stock.{entry_key, AgreeIn, Agrees, Moves, Stays, item_taken, entry_taken, item_put, entry_put}
 use Rattle.examples.proofs.Entering.{items_rise, entries_rise, lies, others, still_agree}
 use Rattle.examples.proofs.Leaving.{left_by, kept_all}
 use Rattle.examples.proofs.Opened.{map_of_named, numbered}
 use Rattle.examples.proofs.Streams.{opens}
-use Rattle.examples.proofs.Written.{Holds, batch_there, batch_elsewhere}
+use Rattle.examples.proofs.Written.{Holds, batch_there}
 use Rattle.examples.proofs.Following.{second_none}
 
 -- ---- two trees in maps
@@ -83,6 +83,7 @@ numbered_tree n (Some t) name later e = go (is_number n (Some t)) e
 not_dropped : (s : State) (trees : List Tree) → must_refuse_of s trees ≡ None → dropped_test s trees ≡ None
 not_dropped s trees e = second_none (foreign_test s.name trees) (dropped_test s trees) (second_none (cond s.is_open None (Some IsClosed)) _ e)
 
+-- where the tests pass each tree is there
 pub first_there : (s : State) (t : Tree) (more : List Tree) → must_refuse_of s (t ∷ more) ≡ None → (n : NamedTree) × (s.trees t.name ≡ Some n)
 first_there s t more e = (numbered_tree t.number (s.trees t.name) t.name (dropped_test s more) (not_dropped s (t ∷ more) e)).0
 
@@ -208,12 +209,12 @@ module _ {P M : Type 0} (store : P → Store) (meant : M → Merge) where
       table_holds n there =
           let h = batch_there t items before (λ q. find key_cmp q n.map) (items_rise item from to) (record { tree = n; there = there; has = λ q. refl }) in
           subst (λ x. Holds x t.name (λ q. unwrap_or (find key_cmp q items) (find key_cmp q n.map))) (sym is_now)
-          (record { tree = h.tree; there = batch_elsewhere u entries middle t.name agrees.apart ∙ h.there; has = h.has })
+          (record { tree = h.tree; there = writes_elsewhere u entries middle t.name agrees.apart ∙ h.there; has = h.has })
 
       index_holds : (n : NamedTree) → before.trees u.name ≡ Some n → Holds (db_state store meant new) u.name (λ q. unwrap_or (find key_cmp q entries) (find key_cmp q n.map))
       index_holds n there =
           subst (λ x. Holds x u.name (λ q. unwrap_or (find key_cmp q entries) (find key_cmp q n.map))) (sym is_now)
-          (batch_there u entries middle (λ q. find key_cmp q n.map) (entries_rise item from to) (record { tree = n; there = batch_elsewhere t items before u.name (λ e. agrees.apart (sym e)) ∙ there; has = λ q. refl }))
+          (batch_there u entries middle (λ q. find key_cmp q n.map) (entries_rise item from to) (record { tree = n; there = writes_elsewhere t items before u.name (λ e. agrees.apart (sym e)) ∙ there; has = λ q. refl }))
 
       found_now : (name : Key) (ws : Writes) (n : NamedTree) → before.trees name ≡ Some n → Holds (db_state store meant new) name (λ q. unwrap_or (find key_cmp q ws) (find key_cmp q n.map))
           → (q : Key) → found_in (maps_now store meant new name) q ≡ unwrap_or (find key_cmp q ws) (found_in (maps_now store meant old name) q)

@@ -1,5 +1,5 @@
 -- What the writes of a batch make of a tree.
-use Rattle.std.proofs.Common.{◌≡◌, ◌≢◌, Bool, true, false, not, cond, ◌&&◌, T, [], ◌∷◌, Option, Some, None, is_some, unwrap_or, Less, Equal, Greater, is_eq, sym, refl, ap, ◌∙◌}
+use Rattle.std.proofs.Common.{◌≡◌, Bool, true, false, not, cond, ◌&&◌, T, [], ◌∷◌, Option, Some, None, is_some, unwrap_or, Less, Equal, Greater, is_eq, sym, refl, ap, ◌∙◌}
 use Rattle.std.specs.FinMap.Entries.{find, is_sorted, below_all, find-where_key}
 use Rattle.std.specs.Ordering.{is_lt, ordering_reverse, eq_by_cmp}
 use Rattle.std.specs.declared.cmp.Ordering.{Ordering}
@@ -7,10 +7,10 @@ use Rattle.sled_nodes.proofs.Basics.{key_total, key_same}
 use Rattle.sled_nodes.specs.Order.{Key, key_cmp}
 use Rattle.sled_nodes.specs.Node.{without}
 use Rattle.sled_batch.specs.Batch.{Writes}
-use Rattle.sled_store.specs.theory.Facts.{put_name_here, put_name_elsewhere}
+use Rattle.sled_store.specs.theory.Facts.{put_name_here}
 use Rattle.sled_model.specs.Maps.{Map, Merge}
 use Rattle.sled_model.specs.Answer.{answer_of, map_after}
-use Rattle.sled_model.specs.Groups.{Write, writes_on, call_with, answer_of_write, after_write, after_write_on, after_writes}
+use Rattle.sled_model.specs.Groups.{writes_on, call_with, after_write, after_write_on, after_writes}
 use Rattle.sled_model.specs.State.{State, NamedTree}
 use Rattle.sled_model.specs.declared.decision.Effect.TheVariants as effect
 use Rattle.sled_model.specs.declared.tree.Tree.{Tree}
@@ -113,14 +113,3 @@ pub batch_there : (tree : Tree) (ws : Writes) (s : State) (value : Key → Optio
 batch_there tree ws s value rises h =
     let b = batch_holds tree ws s value h in
     record { tree = b.tree; there = b.there; has = λ q. b.has q ∙ over_found q ws (value q) rises }
-
--- another tree is as it was
-write_elsewhere : (o : Option NamedTree) (w : Write) (s : State) (other : Key) → other ≢ w.tree.name → (after_write_on o w s).trees other ≡ s.trees other
-write_elsewhere None w s other off = refl
-write_elsewhere (Some t) w s other off = put_name_elsewhere s.trees w.tree.name other (Some (record t { map = (answer_of_write t w).map })) off
-
-pub batch_elsewhere : (tree : Tree) (ws : Writes) (s : State) (other : Key) → other ≢ tree.name → (after_writes (writes_on tree ws) s).trees other ≡ s.trees other
-batch_elsewhere tree [] s other off = refl
-batch_elsewhere tree (w ∷ ws) s other off =
-    batch_elsewhere tree ws (after_write (record { tree = tree; key = w.0; value = w.1 }) s) other off
-    ∙ write_elsewhere (s.trees tree.name) (record { tree = tree; key = w.0; value = w.1 }) s other off

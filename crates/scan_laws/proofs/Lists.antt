@@ -1,12 +1,10 @@
 -- Lists of pairs in the order of a scan.
 use Rattle.std.proofs.Common.{◌≡◌, ◌∙◌, ◌⊎◌, inl, inr, Bool, true, false, cond, not, filter, List, [], ◌∷◌, ◌++◌, sym, refl, ap, subst, Less, Equal, Greater, is_gt}
-use Rattle.std.specs.Prelude.{reverse}
-use Rattle.std.specs.Ordering.{is_lt}
+use Rattle.std.specs.Prelude.{reverse, Option, Some, None}
+use Rattle.std.specs.Ordering.{is_lt, ordering_reverse}
 use Rattle.std.specs.FinMap.Entries.{is_sorted, below_all}
 use Rattle.std.proofs.lemmas.List.{reverse-append}
 use Rattle.std.specs.declared.cmp.Ordering.{Ordering}
-use Rattle.std.specs.Ordering.{ordering_reverse}
-use Rattle.std.specs.Prelude.{Option, Some, None}
 use Rattle.std.proofs.lemmas.Cmp.{upto}
 use Rattle.std.specs.declared.ops.Bound.{Bound}
 use Rattle.std.specs.declared.ops.Bound.TheVariants.{Included, Excluded, Unbounded}
@@ -16,8 +14,8 @@ use Rattle.sled_nodes.specs.Order.{Key, key_cmp, Below, UpTo}
 use Rattle.sled_nodes.specs.Ranges.{Range, is_reversed}
 use Rattle.sled_store.specs.In.{In}
 use Rattle.sled_model.specs.Scan.{is_in_rest, Before, is_read}
-use Rattle.scan_laws.specs.Scanned.{InOrder}
 use Rattle.tree_laws.proofs.Order.{least, upto_below-trans, below_upto-trans}
+use Rattle.scan_laws.specs.Scanned.{InOrder}
 
 abbrev Pair : Type 0
 Pair = Key × Key
@@ -114,6 +112,7 @@ below_each x [] h f i = absurd i
 below_each x (e ∷ es) h f (inl i) = subst (λ (z : Pair). Below x z.0) (sym i) (is_less (key_cmp x e.0) (first_true _ _ h))
 below_each x (e ∷ es) h f (inr i) = below_each x es (second_true _ _ h) f i
 
+-- a map that rises is in the order of a scan from its least key up
 pub ordered_map : (es : List Pair) → is_sorted key_cmp es ≡ true → InOrder false es
 ordered_map [] h = tt
 ordered_map (e ∷ es) h = (below_each e.0 es (first_true _ _ h), ordered_map es (second_true _ _ h))
@@ -143,6 +142,7 @@ not_below a b e h = false_true (sym (not_true _ e) ∙ ap is_lt h)
 not_upto : (a b : Key) → is_gt (key_cmp a b) ≡ true → UpTo a b → ⊥
 not_upto a b e h = false_true (sym h ∙ e)
 
+-- bounds that give nothing have no key between them
 between : (lo hi : Bound Key) (k : Key) → is_reversed lo hi ≡ true → is_from lo k ≡ true → is_up_to hi k ≡ true → ⊥
 between (Included a) (Included b) k e p q = not_upto a b e (upto key_total a k b (from_key a k p) (up_to k b q))
 between (Included a) (Excluded b) k e p q = not_below a b e (upto_below-trans a k b (from_key a k p) (is_less _ q))

@@ -28,6 +28,7 @@ use Rattle.scan_laws.proofs.Staying.{AscendOpen, Leaves, leaves}
 abbrev Pair : Type 0
 Pair = Key × Key
 
+-- where no test refuses a step of a call, the database is open, and the tree of its name has its number
 tests_passed : (s : State) (f : CallInFlight) → must_refuse s (ToStep f) ≡ None → (s.is_open ≡ true) × (is_number f.tree.number (s.trees f.tree.name) ≡ true)
 tests_passed s f e =
     let of_all = (first_none (must_refuse_of s (f.tree ∷ [])) (operator_test s (ToStep f)) e).0 in

@@ -6,6 +6,7 @@ use Rattle.std.specs.Str.{bytes_eq}
 use Rattle.std.specs.declared.cmp.Ordering.{Ordering}
 use Rattle.std.proofs.lemmas.Cmp.{tied_itself}
 use Rattle.sled_nodes.proofs.Basics.{none_some, false_true, key_total, key_same}
+use Rattle.sled_nodes.proofs.Put.{found_here, found_there}
 use Rattle.sled_nodes.specs.Order.{Key, key_cmp}
 use Rattle.sled_nodes.specs.Node.{without}
 use Rattle.sled_store.specs.theory.Facts.{same_name, name_itself}
@@ -14,9 +15,8 @@ use Rattle.sled_model.specs.Answer.{map_after, effect_of_write, same_value}
 use Rattle.sled_model.specs.declared.decision.Effect.{Effect}
 use Rattle.sled_model.specs.declared.decision.Effect.TheVariants as effect
 use Rattle.sled_model.specs.declared.tree.Tree.{Tree}
-use Rattle.shared_examples.specs.Places.{is_at}
-use Rattle.examples.proofs.Keys.{put_here, put_there}
 use Rattle.examples.proofs.Written.{tied_back}
+use Rattle.shared_examples.specs.Places.{is_at}
 
 turned : (b : Bool) (value : Option Key) → cond (not b) value None ≡ cond b None value
 turned true value = refl
@@ -48,12 +48,12 @@ after_effect effect.Remove value = None
 
 pub effect_here : (e : Effect) (k : Key) (m : Map) → find key_cmp k (map_after e k m) ≡ after_effect e (find key_cmp k m)
 effect_here effect.Nothing k m = refl
-effect_here (effect.Set v) k m = put_here k v m
+effect_here (effect.Set v) k m = found_here k v m
 effect_here effect.Remove k m = without_here k m
 
 pub effect_there : (e : Effect) (q k : Key) (m : Map) → q ≢ k → find key_cmp q (map_after e k m) ≡ find key_cmp q m
 effect_there effect.Nothing q k m off = refl
-effect_there (effect.Set v) q k m off = put_there q k v m off
+effect_there (effect.Set v) q k m off = found_there q k v m off
 effect_there effect.Remove q k m off = without_there q k m off
 
 pub write_leaves : (new value : Option Key) → after_effect (effect_of_write new) value ≡ new

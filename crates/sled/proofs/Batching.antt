@@ -1,18 +1,15 @@
 -- The tests that come before a group, each of all its trees.
-use Rattle.std.proofs.Common.{◌≡◌, Bool, true, false, cond, List, [], ◌∷◌, ◌++◌, append_assoc, Option, Some, None, refl, sym, ap, ◌∙◌}
+use Rattle.std.proofs.Common.{◌≡◌, Bool, true, false, cond, List, [], ◌∷◌, ◌++◌, append_assoc, Some, None, refl, sym, ap, ◌∙◌}
 use Rattle.std.specs.Str.{bytes_eq}
 use Rattle.sled_nodes.proofs.Basics.{none_some}
 use Rattle.sled_nodes.specs.Order.{Key}
 use Rattle.sled_batch.specs.Batch.{Writes}
 use Rattle.sled_model.specs.State.{State}
-use Rattle.sled_model.specs.Refusal.{MustRefuse, IsClosed, IsForeign, IsDropped, first_of, is_number, foreign_test, dropped_test, must_refuse_of, trees_of_batches}
+use Rattle.sled_model.specs.Refusal.{IsClosed, IsForeign, IsDropped, first_of, is_number, foreign_test, dropped_test, must_refuse_of, trees_of_batches}
 use Rattle.sled_model.specs.declared.tree.Tree.{Tree}
-use Rattle.sled_model.proofs.Tests.{first_none}
+use Rattle.sled_model.proofs.Tests.{first_none, none_first}
 
 -- ---- the tests of a list of trees
-
-pub none_first : {a b : Option MustRefuse} → a ≡ None → b ≡ None → first_of a b ≡ None
-none_first {a} {b} p q = ap (λ z. first_of z b) p ∙ q
 
 -- the trees of a list pass where those of its parts do
 foreign_parts : (name : Key) (some more : List Tree) → foreign_test name (some ++ more) ≡ None → (foreign_test name some ≡ None) × (foreign_test name more ≡ None)
@@ -39,7 +36,7 @@ tested_parts s some more e =
     let both = first_none (foreign_test s.name (some ++ more)) (dropped_test s (some ++ more)) opens.1 in
     let foreign = foreign_parts s.name some more both.0 in
     let dropped = dropped_parts s some more both.1 in
-    (none_first opens.0 (none_first foreign.0 dropped.0), none_first opens.0 (none_first foreign.1 dropped.1))
+    (none_first _ _ opens.0 (none_first _ _ foreign.0 dropped.0), none_first _ _ opens.0 (none_first _ _ foreign.1 dropped.1))
 
 -- .. of batches and the tree of one more
 pub tested_last : (s : State) (before : List (Tree × Writes)) (tree : Tree) → must_refuse_of s (trees_of_batches before ++ tree ∷ []) ≡ None → must_refuse_of s (tree ∷ []) ≡ None

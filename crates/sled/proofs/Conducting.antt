@@ -1,13 +1,11 @@
 -- Calls that are made at once, in no slot.
-use Rattle.std.proofs.Common.{◌≡◌, ℕ, zero, suc, ◌+◌, ◌<◌, ◌⊎◌, Bool, true, false, List, [], ◌∷◌, ◌++◌, length, Option, Some, None, option_map, sym, refl, ap, ◌∙◌, subst, inl, inr, arith, ◌≢◌}
+use Rattle.std.proofs.Common.{◌≡◌, ℕ, zero, suc, ◌+◌, ◌<◌, ◌⊎◌, Bool, true, false, List, [], ◌∷◌, ◌++◌, length, Option, Some, None, sym, refl, ap, ◌∙◌, subst, inl, inr, arith, ◌≢◌}
 use Rattle.std.proofs.lemmas.Bool.{cases_lt}
 use Rattle.sled_nodes.proofs.Basics.{none_some, some_is}
 use Rattle.sled_nodes.specs.Order.{Key}
 use Rattle.sled_store.specs.In.{In}
-use Rattle.sled_store.specs.State.{nodes_of}
 use Rattle.sled_store.specs.Store.{Store, now}
 use Rattle.sled_nodes.specs.declared.node.Node.{Node}
-use Rattle.sled_store.specs.declared.page.Page.{Page}
 use Rattle.sled_nodes.specs.declared.error.Error.{Error}
 use Rattle.sled_nodes.specs.declared.error.Error.TheVariants as error
 use Rattle.sled_model.specs.Maps.{Maps, Merge}
@@ -60,13 +58,6 @@ acts_of_step (Decided reply) a b d = often_once a b d
 acts_of_step (Refused e) a b d = (a, NoAction, d)
 
 -- ---- the pages of the trees
-
-page_there : (s : Rattle.sled_store.specs.State.State) (p : ℕ) (n : Node) → nodes_of s p ≡ Some n → (g : Page) × (s.pages p ≡ Some g)
-page_there s p n e = go (s.pages p) refl e
-  where
-    go : (o : Option Page) → s.pages p ≡ o → option_map (λ (g : Page). g.node) o ≡ Some n → (g : Page) × (s.pages p ≡ Some g)
-    go None is e = none_some e
-    go (Some g) is e = (g, is)
 
 module _ (m n o : Snapshot) (w : Forest) (was : HasForest m w) where
   lasts_then : PagesLast m n → PagesLast n o → PagesLast m o

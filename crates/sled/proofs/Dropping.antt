@@ -35,7 +35,7 @@ use Rattle.sled_tree.specs.Known.{IsKnown}
 use Rattle.sled_tree.specs.declared.flight.InFlight.{InFlight}
 use Rattle.sled_tree.proofs.Known.{stage_kept}
 use Rattle.tree_groups.specs.Writes.{PagesLast}
-use Rattle.tree_groups.proofs.Writing.{page_gone}
+use Rattle.tree_groups.proofs.Writing.{page_gone, number_given}
 use Rattle.sled.specs.Drops.{IsBeginning}
 use Rattle.sled.specs.theory.Drops.{first_pages_down, CountsFaults, FreesPage, FreesPages, FreesNone, FreesOne, Counts, KeepsOrFrees, AreFirsts, FreesLevel, FreesLevels, FreesFrom, DropsRoot}
 use Rattle.sled.proofs.Walks.{no_level}
@@ -238,16 +238,6 @@ lasts_then {m} {n} {o} given a b = record {
   gone = λ p e none. b.gone p (a.pids p e) (a.gone p e none);
 }
 
-page_there : (s : State) (p : ℕ) (n : Node) → nodes_of s p ≡ Some n → (g : Page) × (s.pages p ≡ Some g)
-page_there s p n e = go (s.pages p) refl e
-  where
-    go : (o : Option Page) → s.pages p ≡ o → option_map (λ (g : Page). g.node) o ≡ Some n → (g : Page) × (s.pages p ≡ Some g)
-    go None is e = none_some e
-    go (Some g) is e = (g, is)
-
-pub number_given : {m : Snapshot} {w : Forest} → HasForest m w → (p : ℕ) (n : Node) → nodes_at m p ≡ Some n → m.pids p ≡ true
-number_given {m} is p n live = let g = page_there m.state p n live in is.pids p g.0 g.1
-
 pub lasts_goes : {mine : List ℕ} {lost : Option Tree} {m n : Snapshot} {w v : Forest} → Guarantee mine lost m w n v → PagesLast m n
 lasts_goes {m = m} g = record {
   pids = g.pids;
@@ -294,7 +284,7 @@ module _ (numbers : Tree → Option ℕ) (given : ℕ → Bool) (was w : Forest)
     extends = extends_then x.extends y.extends;
     same = λ u. y.same u ∙ x.same u;
     others = λ h off k. y.others h off (x.others h off k);
-    last = lasts_then (number_given is) x.last y.last;
+    last = lasts_then (number_given _ w is) x.last y.last;
     untouched = λ p off. y.untouched p off ∙ x.untouched p off;
     mark = y.mark ∙ x.mark;
   }

@@ -7,7 +7,6 @@ use Rattle.sled_nodes.proofs.Basics.{none_some, some_is}
 use Rattle.sled_nodes.specs.Order.{Key}
 use Rattle.sled_store.specs.In.{In}
 use Rattle.sled_store.specs.Update.{put_at, put_name}
-use Rattle.sled_store.specs.State.{nodes_of}
 use Rattle.sled_store.specs.Store.{Store, now}
 use Rattle.sled_store.specs.declared.page.Page.{Page}
 use Rattle.sled_nodes.specs.declared.error.Fault.{Fault}
@@ -55,29 +54,21 @@ use Rattle.sled_tree.specs.Follows.{Follows, FollowsOn, TakesWay}
 use Rattle.sled_tree.specs.theory.Linking.{StepsBy}
 use Rattle.sled_tree.specs.StageAction.{ActsOnce, ActsAtMostOnce, LeaksNoPage}
 use Rattle.sled_tree.specs.theory.StageAction.{StageActionBy, KeepsContents, DecidesAs, Only, is_action_refused_as}
-use Rattle.sled.specs.Values.{DbValue, numbers_of, given_to, named, state_of, db_state, snapshot_of_db}
-use Rattle.sled.specs.Sound.{IsDb}
-use Rattle.sled.specs.Calls.{MustBeRefused, must_be_refused_as}
-use Rattle.tree_groups.specs.Writes.{PagesLast}
-use Rattle.tree_groups.proofs.Writing.{limit_is}
-use Rattle.tree_scans.specs.Scans.{waiting_of, rest_of, waiting_in, rest_in}
-use Rattle.sled.specs.Flights.{call_in_flight_of, follows_as, has_path, DbFollows, StaysInChain, KeepsTreePages, IsStepRefused, DbStepContract, DbSteps, Ends, GoesOn, has_turns, TakesAtMost, DbRunsToEnd}
-use Rattle.sled.specs.theory.Watched.{told, told_by, AdvancesOver}
 use Rattle.sled_tree.proofs.Known.{not_own, known_kept}
 use Rattle.sled_tree.proofs.Deciding.{IsReading, decided_law}
 use Rattle.sled_tree.proofs.Replying.{links_on_key}
+use Rattle.tree_groups.specs.Writes.{PagesLast}
+use Rattle.tree_groups.proofs.Writing.{limit_is, page_gone}
+use Rattle.tree_scans.specs.Scans.{waiting_of, rest_of, waiting_in, rest_in}
+use Rattle.sled.specs.Values.{DbValue, numbers_of, given_to, named, state_of, db_state, snapshot_of_db}
+use Rattle.sled.specs.Sound.{IsDb}
+use Rattle.sled.specs.Calls.{MustBeRefused, must_be_refused_as}
+use Rattle.sled.specs.Flights.{call_in_flight_of, follows_as, has_path, DbFollows, StaysInChain, KeepsTreePages, IsStepRefused, DbStepContract, DbSteps, Ends, GoesOn, has_turns, TakesAtMost, DbRunsToEnd}
+use Rattle.sled.specs.theory.Watched.{told, told_by, AdvancesOver}
 use Rattle.sled.proofs.Watching.{same_queues}
 use Rattle.sled.proofs.Resting.{Rests, rests_refused, now_rests, rests_extends, rests_left}
 use Rattle.sled.proofs.Testing.{tree_tested, tested_calm}
 use Rattle.sled.proofs.Trees.{trees_at, trees_same, trees_put, maps_are, current, numbered}
-
--- a page is there where its node is
-page_gone : (s : Rattle.sled_store.specs.State.State) (p : ℕ) → nodes_of s p ≡ None → s.pages p ≡ None
-page_gone s p e = go (s.pages p) e
-  where
-    go : (o : Option Page) → option_map (λ (g : Page). g.node) o ≡ None → o ≡ None
-    go None e = refl
-    go (Some g) e = none_some (sym e)
 
 -- a call on a key has no pairs that wait, and nothing to read
 pub waits_never : (f : InFlight) → IsOnKey f.job.call → (waiting_of f ≡ []) × (rest_of f ≡ None)

@@ -19,10 +19,10 @@ use Rattle.sled_model.specs.declared.decision.Effect.{Effect}
 use Rattle.sled_model.specs.declared.decision.Effect.TheVariants as effect
 use Rattle.sled_model.specs.declared.event.Event.{Event}
 use Rattle.sled_model.specs.declared.tree.Tree.{Tree}
+use Rattle.sled_model.proofs.Tests.{first_none}
 use Rattle.sled_tree.specs.declared.flight.Job.{Job}
 use Rattle.tree_groups.specs.Groups.{AreNumbered, map_after_jobs}
 use Rattle.sled.specs.theory.Groups.{jobs_of_write, jobs_of_writes, events_of_call, events_of_jobs}
-use Rattle.sled.proofs.Trees.{first_none}
 
 -- ---- what writes make of the state
 
@@ -213,11 +213,11 @@ batches_current (b ∷ bs) s none =
 
 -- where the tests pass each write's tree has its number,
 pub tested_current : (batches : List (Tree × Writes)) (s : State) → must_refuse_of s (trees_of_batches batches) ≡ None → AreCurrent (writes_of batches) s
-tested_current batches s none = batches_current batches s (first_none (first_none none).1).1
+tested_current batches s none = batches_current batches s (first_none _ _ (first_none _ _ none).1).1
 
 -- .. and the database is open
 pub tested_open : (s : State) (trees : List Tree) → must_refuse_of s trees ≡ None → s.is_open ≡ true
-tested_open s trees none = go s.is_open (first_none none).0
+tested_open s trees none = go s.is_open (first_none _ _ none).0
   where
     go : (b : Bool) → cond b None (Some IsClosed) ≡ None → b ≡ true
     go true e = refl

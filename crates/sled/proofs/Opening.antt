@@ -24,6 +24,7 @@ use Rattle.sled_model.specs.Maps.{Map, Maps}
 use Rattle.sled_model.specs.State.{default_name}
 use Rattle.tree_laws.specs.Forest.{Tree, Forest, Place, WellFormed, IsSized, contents}
 use Rattle.tree_laws.specs.Contents.{trees_of}
+use Rattle.tree_laws.specs.Paths.{IsClean}
 use Rattle.tree_laws.specs.Crashes.{IsValid, IsCrashConsistent, AddsCrashStates, Flushes}
 use Rattle.tree_laws.specs.Snapshot.{Snapshot, snapshot_of, nodes_at, HasForest, IsOrphan}
 use Rattle.tree_laws.specs.theory.Laws.{IsAlone}
@@ -32,6 +33,7 @@ use Rattle.tree_laws.proofs.Known.{store_moment}
 use Rattle.tree_laws.proofs.Outside.{outside_kept, outside_contents, outside_sized}
 use Rattle.tree_laws.proofs.Roots.{plant_law}
 use Rattle.tree_laws.proofs.Fuel.{contents_law}
+use Rattle.tree_reads.proofs.Seeking.{empty_least}
 use Rattle.sled.specs.declared.TheConstants.{DEFAULT_TREE}
 use Rattle.sled.specs.Values.{DbValue, numbers_of, given_to, snapshot_of_db}
 use Rattle.sled_queues.specs.Values.{WaitingValue, Waitings}
@@ -39,8 +41,6 @@ use Rattle.sled_queues.specs.Queues.{Becomes, no_queues}
 use Rattle.sled.specs.Sound.{IsDb}
 use Rattle.sled.specs.Opens.{or_empty, with_tree, planted, MakesTree, StopsMaking, numbered, IsOnePage, CanBeOpened, RefusesTree, Opens}
 use Rattle.sled.specs.theory.Opens.{HasTree, AreNumbered}
-use Rattle.tree_laws.specs.Paths.{IsClean}
-use Rattle.tree_reads.proofs.Seeking.{empty_least}
 
 -- a root that is a leaf, open and not long, is a clean path of every key
 leaf_is_clean : (s : State) (name : Key) (p : ℕ) (n : Node) (es : List (Key × Key)) → s.roots name ≡ Some p → nodes_of s p ≡ Some n → n.lo ≡ [] → n.hi ≡ [] → n.merging ≡ false → n.merging_child ≡ None → n.content ≡ kind.Leaf es → length es ≤ 16
@@ -384,9 +384,9 @@ number_apart n (name ∷ names) t u k e f = go (number_apart (n + 1) names t u k
     go rest false true p q g h = later t (some_is h) g
     go rest false false p q g h = rest g h
 
-pub none_no : {X : Type 0} (o : Option X) → is_some o ≡ true → (x : X) × (o ≡ Some x)
-none_no None e = false_true e
-none_no (Some x) e = (x, refl)
+pub some_there : {X : Type 0} (o : Option X) → is_some o ≡ true → (x : X) × (o ≡ Some x)
+some_there None e = false_true e
+some_there (Some x) e = (x, refl)
 
 -- the name of the default tree is the one that the constant has
 pub default_is : DEFAULT_TREE.now ≡ default_name
@@ -413,8 +413,8 @@ module _ (s : Store) {trees : List (Key × ℕ)} (all : AreNumbered (now s) tree
 
   pub moment_here : (given : ℕ) → given ≡ length trees → AreGiven s → (w : Forest) → WellFormed (nodes_of (now s)) (now s).roots w → HasForest (snapshot_of s (numbers_of trees) (given_to given)) w
   moment_here given count are w f = store_moment s (numbers_of trees) (given_to given) w are
-      (λ t r e. none_no (numbers_of trees t) (is_number t ∙ ap is_some e))
-      (λ t n e. none_no ((now s).roots t) (sym (is_number t) ∙ ap is_some e))
+      (λ t r e. some_there (numbers_of trees t) (is_number t ∙ ap is_some e))
+      (λ t n e. some_there ((now s).roots t) (sym (is_number t) ∙ ap is_some e))
       (λ t n e. let b = number_in 0 (names_in all.roots) t n (in_all t n e) in within n (length (numbered 0 (names_in all.roots))) given b.0 b.1 (count ∙ ap length all.is))
       (λ t u n e g. number_apart 0 (names_in all.roots) t u n (in_all t n e) (in_all u n g))
       f
@@ -430,7 +430,7 @@ module _ (s : Store) {trees : List (Key × ℕ)} (all : AreNumbered (now s) tree
         sized = subst (λ (m : Snapshot). IsSized (nodes_at m) well.forest) (sym at) well.sized;
         safe = subst IsCrashConsistent (sym e) (flushes_valid_law s (after_flush s) (flushes_same s) h.again.no_group well);
         ascends = ap (is_sorted key_cmp) same ∙ ascends;
-        default = subst (λ ts. (n : ℕ) × (numbers_of ts default_name ≡ Some n)) (sym same) (none_no (numbers_of trees default_name) (is_number default_name ∙ there));
+        default = subst (λ ts. (n : ℕ) × (numbers_of ts default_name ≡ Some n)) (sym same) (some_there (numbers_of trees default_name) (is_number default_name ∙ there));
         ungiven = λ n above. ap (find nat_cmp n) operators;
         calm = record { none = λ n w there. unqueued (sym (ap (λ (q : Waitings). q n) queues.held) ∙ there) };
         ids = at_most d.greatest_id (store d.pages).mark ids;

@@ -46,11 +46,12 @@ use Rattle.sled_queues.specs.Values.{queue_at}
 use Rattle.sled_queues.specs.Queues.{queues_of}
 use Rattle.sled.specs.Sound.{IsDb}
 use Rattle.tree_groups.specs.Writes.{PagesLast, ActsOften, NoAction, OneAction}
+use Rattle.tree_groups.proofs.Writing.{number_given}
 use Rattle.sled.specs.Flights.{StaysInChain, KeepsTreePages, IsStepRefused}
 use Rattle.sled.specs.Direct.{ActsAndCounts, WholeDecided, WholeRefused}
 use Rattle.sled.specs.Drops.{IsBeginning, RemovesTree, DropsNamed, DropsTree, MightDrop, refuses_drop_as, RefusesDrop}
 use Rattle.sled.specs.theory.Drops.{FreesPages, FreesNone, FreesOne, Counts, FreesLevels, DropsRoot}
-use Rattle.sled.proofs.Dropping.{known_on, off_chains, lasts_goes, lasts_then, number_given, Leaves, leaves_all}
+use Rattle.sled.proofs.Dropping.{known_on, off_chains, lasts_goes, lasts_then, Leaves, leaves_all}
 use Rattle.sled.proofs.Conducting.{loses_once, leaves_none}
 use Rattle.sled.proofs.Flushing.{same_state}
 use Rattle.sled.proofs.Opening.{default_is}
@@ -282,7 +283,7 @@ module _ {P M : Type 0} (store : P → Store) (meant : M → Merge) (old : DbVal
       others_new h k = subst (λ (z : Snapshot). IsKnown z h) (sym at_new) (rest.others h (λ p i own chained. off_chains db.is h k (place name i) p own chained) (known_on db.is mid_is mid_goes mid_grows h (λ p own none. none) k))
 
       lasts_new : PagesLast m (snapshot_of (store q) numbers given)
-      lasts_new = lasts_then (number_given db.is) (lasts_goes mid_goes) rest.last
+      lasts_new = lasts_then (number_given _ _ db.is) (lasts_goes mid_goes) rest.last
 
       loses_new : KeepsTreePages (Some name) m (snapshot_of_db store new)
       loses_new u z was is =

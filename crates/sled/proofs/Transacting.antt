@@ -17,7 +17,7 @@ use Rattle.sled_model.specs.Maps.{Merge}
 use Rattle.sled_model.specs.State as model
 use Rattle.sled_model.specs.Refusal.{IsClosed, IsForeign, IsDropped, first_of, is_number, foreign_test, dropped_test, must_refuse_of, trees_of_batches}
 use Rattle.sled_model.specs.declared.tree.Tree.{Tree}
-use Rattle.sled_model.proofs.Tests.{first_none}
+use Rattle.sled_model.proofs.Tests.{first_none, none_first}
 use Rattle.tree_laws.specs.Snapshot.{Snapshot}
 use Rattle.tree_check.proofs.Listed.{map_append}
 use Rattle.tree_reads.specs.Leaves.{OfContents}
@@ -44,7 +44,7 @@ use Rattle.sled.specs.Sound.{IsDb}
 use Rattle.sled.specs.theory.Transactions.{CommitsGroup, StopsCommit}
 use Rattle.sled.specs.Groups.{GroupDecided, IsQuietGroup}
 use Rattle.sled.specs.Transactions.{TakesIds, flushes_as, MakesWrites, Commits, Stops, ByTest, ByClosure, ByGroup, ByFlush, fails_as, Fails, ShowsLaw, ShowsAtLaw, RefusesInside, RefusesToShowLaw, RefusesToShowAtLaw, trees_of_list}
-use Rattle.sled.proofs.Batching.{none_first, tested_parts}
+use Rattle.sled.proofs.Batching.{tested_parts}
 use Rattle.sled.proofs.Changes.{parted}
 use Rattle.sled.proofs.Numbering.{state_taken, left_taken, leaves_taken}
 use Rattle.sled.proofs.Flushing.{same_moment}
@@ -144,7 +144,7 @@ pub tested_zip : (s : model.State) (trees : List Tree) (writes : List Writes) â†
 tested_zip s trees writes e =
     let opens = first_none (cond s.is_open None (Some IsClosed)) (first_of (foreign_test s.name trees) (dropped_test s trees)) e in
     let both = first_none (foreign_test s.name trees) (dropped_test s trees) opens.1 in
-    none_first opens.0 (none_first (foreign_zip s.name trees writes both.0) (dropped_zip s trees writes both.1))
+    none_first _ _ opens.0 (none_first _ _ (foreign_zip s.name trees writes both.0) (dropped_zip s trees writes both.1))
 
 -- ---- lists of trees
 

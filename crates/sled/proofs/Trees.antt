@@ -12,8 +12,9 @@ use Rattle.sled_store.specs.State.{nodes_of}
 use Rattle.sled_store.specs.Store.{Store, now}
 use Rattle.sled_model.specs.Maps.{Map, Merge}
 use Rattle.sled_model.specs.State.{State, NamedTree, maps_of}
-use Rattle.sled_model.specs.Refusal.{MustRefuse, IsDropped, first_of, is_number, must_refuse_of}
+use Rattle.sled_model.specs.Refusal.{IsDropped, is_number, must_refuse_of}
 use Rattle.sled_model.specs.declared.tree.Tree.{Tree}
+use Rattle.sled_model.proofs.Tests.{first_none}
 use Rattle.tree_laws.specs.Forest.{Forest, contents}
 use Rattle.tree_laws.specs.Contents.{trees_of}
 use Rattle.tree_laws.specs.Snapshot.{snapshot_of, HasForest}
@@ -82,15 +83,8 @@ module _ {P M : Type 0} (store : P → Store) (meant : M → Merge) where
       go t map (Some n) e = ap (is_sorted key_cmp) (sym (some_is e)) ∙ holds (is_sorted key_cmp (contents (nodes_of (now (store d.pages))) db.forest t)) (sorted_law (nodes_of (now (store d.pages))) (now (store d.pages)).roots db.forest db.is.formed t)
 
 -- a tree that passes the tests is current
-pub first_none : {a b : Option MustRefuse} → first_of a b ≡ None → (a ≡ None) × (b ≡ None)
-first_none {a} {b} e = go a e
-  where
-    go : (x : Option MustRefuse) → first_of x b ≡ None → (x ≡ None) × (b ≡ None)
-    go None f = (refl, f)
-    go (Some x) f = none_some (sym f)
-
 pub current : (s : State) (t : Tree) → must_refuse_of s (t ∷ []) ≡ None → is_number t.number (s.trees t.name) ≡ true
-current s t e = go (is_number t.number (s.trees t.name)) (first_none (first_none e).1).1
+current s t e = go (is_number t.number (s.trees t.name)) (first_none _ _ (first_none _ _ e).1).1
   where
     go : (b : Bool) → cond b None (Some (IsDropped t.name)) ≡ None → b ≡ true
     go true f = refl

@@ -1,3 +1,2 @@
 pub mod Writing
 pub mod Copying
-pub mod Found

@@ -5,6 +5,7 @@ use Rattle.std.specs.declared.ops.Bound.TheVariants.{Included}
 use Rattle.sled_nodes.proofs.Basics.{none_some, some_is}
 use Rattle.sled_store.specs.Update.{put_at}
 use Rattle.sled_store.specs.Store.{Store, now}
+use Rattle.sled_store.specs.theory.Facts.{put_here}
 use Rattle.sled_nodes.specs.declared.error.Error.{Error}
 use Rattle.sled_model.specs.Answer.{key_of}
 use Rattle.sled_model.specs.Maps.{Merge}
@@ -24,7 +25,6 @@ use Rattle.sled_tree.specs.declared.flight.Aim.TheVariants.{Own}
 use Rattle.sled_tree.specs.declared.flight.InFlight.{InFlight}
 use Rattle.sled_tree.proofs.Known.{known_new as known_begun}
 use Rattle.tree_laws.specs.declared.flight.Stage.TheVariants.{Root}
-use Rattle.tree_laws.proofs.Update.{put_here}
 use Rattle.sled_tree.specs.declared.flight.Went.{Went}
 use Rattle.sled_tree.specs.declared.flight.Went.TheVariants.{Moved, Yielded, Decided, Refused}
 use Rattle.sled.specs.Values.{DbValue, db_state, snapshot_of_db}

@@ -3,10 +3,10 @@ use Rattle.std.proofs.Common.{◌≡◌, ◌≢◌, ℕ, ◌+◌, ◌<◌, ◌�
 use Rattle.std.proofs.Math.Path.{fun_ext}
 use Rattle.std.specs.Borrow.{Bor}
 use Rattle.std.specs.Option.{option_copied}
-use Rattle.std.proofs.lemmas.Bool.{ne_eqb}
 use Rattle.sled_nodes.proofs.Basics.{none_some, some_is, false_true, same_or_not}
 use Rattle.sled_store.specs.Update.{put_at}
 use Rattle.sled_store.specs.Store.{Store, now}
+use Rattle.sled_store.specs.theory.Facts.{put_here, put_elsewhere}
 use Rattle.sled_nodes.specs.declared.error.Error.{Error}
 use Rattle.sled_model.specs.Maps.{Maps, Merge}
 use Rattle.sled_model.specs.Answer.{answer_of}
@@ -48,7 +48,6 @@ use Rattle.sled_calls.specs.Values.{MachineValue, kept_at, slots_of, job_of_call
 use Rattle.tree_laws.specs.Forest.{Forest}
 use Rattle.sled_tree.specs.Passing.{IsOnPath}
 use Rattle.tree_laws.specs.Stages.{owned}
-use Rattle.tree_laws.proofs.Update.{put_here}
 use Rattle.sled_tree.specs.StageAction.{LeaksNoPage}
 use Rattle.sled_tree.proofs.Facts.{leaves_same as leaves_same_pages}
 use Rattle.sled_calls.specs.CrashMaps.{AreCrashMaps, crash_maps_after}
@@ -61,9 +60,6 @@ pub none_there : {A : Type 0} (o : Option A) → is_some o ≡ false → o ≡ N
 none_there None e = refl
 none_there (Some a) e = false_true (sym e)
 
-put_there : {X : Type 0} (f : ℕ → X) (p q : ℕ) (a : X) → q ≢ p → put_at f p a q ≡ f q
-put_there f p q a h = ap (λ b. cond b a (f q)) (ne_eqb q p h)
-
 -- a function after a change at one place
 put_map : {X Y : Type 0} (f : X → Y) (k : ℕ → Option X) (n : ℕ) (x : Option X) (q : ℕ) → option_map f (put_at k n x q) ≡ put_at (λ i. option_map f (k i)) n (option_map f x) q
 put_map f k n x q = elim (nat_eq q n) as (λ b. option_map f (cond b x (k q)) ≡ cond b (option_map f x) (option_map f (k q))) [ true ↦ refl | false ↦ refl ]
@@ -73,20 +69,20 @@ slots_put fs gs slot x e = fun_ext (λ q. ap (option_map call_in_flight_of) (e q
 
 -- what is kept in the other slots is as it was
 elsewhere : (fs gs : List (ℕ × InFlight)) (slot : ℕ) (x : Option InFlight) → ((q : ℕ) → kept_at gs q ≡ put_at (kept_at fs) slot x q) → (q : ℕ) → Some slot ≢ Some q → kept_at gs q ≡ kept_at fs q
-elsewhere fs gs slot x e q off = e q ∙ put_there (kept_at fs) slot q x (λ s. off (ap Some (sym s)))
+elsewhere fs gs slot x e q off = e q ∙ put_elsewhere (kept_at fs) slot q x (λ s. off (ap Some (sym s)))
 
 -- whoever is in the list with one number less was in it before
 fewer : (fs gs : List (ℕ × InFlight)) (slot : ℕ) → ((q : ℕ) → kept_at gs q ≡ put_at (kept_at fs) slot None q) → (j : ℕ) (f : InFlight) → kept_at gs j ≡ Some f → (kept_at fs j ≡ Some f) × (j ≢ slot)
 fewer fs gs slot e j f there = elim (same_or_not j slot) [
   | inl s ↦ none_some (sym (put_here (kept_at fs) slot None) ∙ ap (put_at (kept_at fs) slot None) (sym s) ∙ sym (e j) ∙ there)
-  | inr o ↦ (sym (put_there (kept_at fs) slot j None o) ∙ sym (e j) ∙ there, o)
+  | inr o ↦ (sym (put_elsewhere (kept_at fs) slot j None o) ∙ sym (e j) ∙ there, o)
 ]
 
 -- a call was put into the slot
 other_or_new : (fs gs : List (ℕ × InFlight)) (slot : ℕ) (x : InFlight) → ((q : ℕ) → kept_at gs q ≡ put_at (kept_at fs) slot (Some x) q) → (j : ℕ) (f : InFlight) → kept_at gs j ≡ Some f → ((j ≡ slot) × (f ≡ x)) ⊎ ((j ≢ slot) × (kept_at fs j ≡ Some f))
 other_or_new fs gs slot x e j f there = elim (same_or_not j slot) [
   | inl s ↦ inl (s, some_is (sym there ∙ e j ∙ ap (put_at (kept_at fs) slot (Some x)) s ∙ put_here (kept_at fs) slot (Some x)))
-  | inr o ↦ inr (o, sym (put_there (kept_at fs) slot j (Some x) o) ∙ sym (e j) ∙ there)
+  | inr o ↦ inr (o, sym (put_elsewhere (kept_at fs) slot j (Some x) o) ∙ sym (e j) ∙ there)
 ]
 
 -- a call that begins has nothing that waits, and all of its range to read

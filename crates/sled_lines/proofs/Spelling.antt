@@ -2,13 +2,12 @@
 use Rattle.std.proofs.Common.{◌≡◌, ℕ, ◌+◌, ◌*◌, ◌/◌, ◌%◌, ◌<◌, ◌==◌, Bool, true, false, List, [], ◌∷◌, ◌++◌, ◌≢◌, length, take, drop, Option, Some, None, refl, ap, ◌∙◌, sym, arith, option_map, append_assoc, append-nil, take-append-drop, length-drop}
 use Rattle.std.proofs.lemmas.List.{take_all}
 use Rattle.std.proofs.lemmas.Grind.{flat_map-append}
-use Rattle.std.proofs.lemmas.Bool.{cond-true, cond-false}
+use Rattle.std.proofs.lemmas.Bool.{cond-true, cond-false, false_from_ne_true}
 use Rattle.std.proofs.lemmas.Bool.Decides.{nat_tests}
 use Rattle.std.proofs.lemmas.Slice.Eq.{bytes_eq-Decides}
 use Rattle.std.specs.List.{flat_map, list_all}
 use Rattle.std.specs.Str.{bytes_eq}
 use Rattle.sled_nodes.proofs.Basics.{some_none, some_is, false_true, both_true}
-use Rattle.tree_laws.proofs.Staying.{not_true}
 use Rattle.sled_lines.specs.Words.{is_plain, hex_digit, hex_value, escape, spelled, printed, plain_byte, byte_of, and_then, bytes_of, read_word, AreBytes, ReadsPrinted, ReadsValues}
 
 -- a byte that is no `%` stands for itself, or for nothing
@@ -124,7 +123,7 @@ pushed-last out more rest run tail n plain front back none one sofar =
 -- ---- what is printed is read
 
 differs : (xs ys : List ℕ) → (xs ≡ ys → ⊥) → bytes_eq xs ys ≡ false
-differs xs ys never = not_true (bytes_eq xs ys) (λ e. never ((bytes_eq-Decides xs ys).0 e))
+differs xs ys never = false_from_ne_true (bytes_eq xs ys) (λ e. never ((bytes_eq-Decides xs ys).0 e))
 
 hex_value-hex_digit : (n : ℕ) → n < 16 → hex_value (hex_digit n) ≡ Some n
 hex_value-hex_digit n small = grind (arith, nat_tests)

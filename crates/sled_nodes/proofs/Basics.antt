@@ -1,4 +1,4 @@
--- What many files of proofs need of options, tests, orders and results.
+-- What many files of proofs need of options, tests, numbers, orders and results.
 use Rattle.std.proofs.Common.{◌≡◌, ◌≢◌, ℕ, Bool, true, false, not, ◌&&◌, ◌||◌, T, cond, Some, None, Result, Ok, Err, IfOk, IfErr, IsTrue, ◌↔◌, Ordering, Less, Equal, Greater, is_lt, is_eq, is_gt, refl, ◌⊎◌, arith}
 use Rattle.std.specs.Cmp.{IsTotalOrder}
 use Rattle.std.specs.FinMap.{slice_cmp-IsAntisymmetric, nat_cmp-IsAntisymmetric}
@@ -93,13 +93,14 @@ pub second_false : (a b : Bool) → (a || b) ≡ false → b ≡ false
 second_false true b e = cc
 second_false false b e = e
 
-pub or_true : (b : Bool) → (b || true) ≡ true
-or_true true = refl
-or_true false = refl
-
 pub or_false : (a b : Bool) → a ≡ false → b ≡ false → (a || b) ≡ false
 or_false true b e f = e
 or_false false b e f = f
+
+-- one of two
+pub or_true : (b : Bool) → (b || true) ≡ true
+or_true true = refl
+or_true false = refl
 
 -- ---- numbers
 

@@ -1,11 +1,14 @@
 -- A pair put in its place, one pair at a time from the front.
-use Rattle.std.proofs.Common.{◌≡◌, ℕ, suc, ◌<◌, ◌+◌, List, [], ◌∷◌, ◌++◌, length, get_or, take, drop, set, sym, ap, ◌∙◌, arith, drop-cons, append_assoc, add-one}
+use Rattle.std.proofs.Common.{◌≡◌, ◌≢◌, ℕ, suc, ◌<◌, ◌+◌, cond, List, [], ◌∷◌, ◌++◌, length, get_or, take, drop, set, Some, is_eq, refl, sym, ap, ◌∙◌, arith, drop-cons, append_assoc, add-one}
+use Rattle.std.proofs.lemmas.Cmp.{tied_itself}
 use Rattle.std.proofs.lemmas.List.{set_split, get_or_default}
 use Rattle.std.proofs.Math.Seq.{take-suc, drop-length}
 use Rattle.std.specs.FinMap.{put}
-use Rattle.std.specs.FinMap.Entries.{by_order}
+use Rattle.std.specs.FinMap.Entries.{by_order, find, find-put}
 use Rattle.std.specs.declared.cmp.Ordering.{Ordering}
 use Rattle.std.specs.declared.cmp.Ordering.TheVariants.{Less, Equal, Greater}
+use Rattle.sled_nodes.proofs.Basics.{key_total, key_same}
+use Rattle.sled_nodes.specs.Order.{Key, key_cmp}
 use Rattle.sled_nodes.specs.theory.Pairs.{Stands, Goes}
 
 module _ {K X : Type 0} (R : K → K → Ordering) where
@@ -44,3 +47,18 @@ module _ {K X : Type 0} (R : K → K → Ordering) where
     in_range = omega arith;
     put_is = λ v. sym (ap (λ r. take (length ps) ps ++ put R k v r) (drop-length ps) ∙ ap (λ r. take (length ps) ps ++ (k, v) ∷ r) (sym (drop-length ps))) ∙ past.kept v;
   }
+
+-- ---- what is found once a pair was put
+
+-- at its key
+pub found_here : {X : Type 0} (k : Key) (v : X) (es : List (Key × X)) → find key_cmp k (put key_cmp k v es) ≡ Some v
+found_here k v es = find-put key_cmp key_total k k v es ∙ ap (λ o. cond (is_eq o) (Some v) (find key_cmp k es)) (tied_itself key_total k)
+
+-- .. and at another key than the one that was written
+pub found_there : {X : Type 0} (q k : Key) (v : X) (es : List (Key × X)) → q ≢ k → find key_cmp q (put key_cmp k v es) ≡ find key_cmp q es
+found_there q k v es off = find-put key_cmp key_total q k v es ∙ go (key_cmp q k) refl
+  where
+    go : (o : Ordering) → key_cmp q k ≡ o → cond (is_eq o) (Some v) (find key_cmp q es) ≡ find key_cmp q es
+    go Less e = refl
+    go Equal e = absurd (off (key_same q k e))
+    go Greater e = refl

@@ -2,34 +2,33 @@
 use Rattle.std.proofs.Common.{◌≡◌, ℕ, ◌+◌, ◌-◌, ◌^◌, ◌<◌, ◌≤◌, Bool, true, false, cond, ◌&&◌, nat_eq, nat_le, nat_lt, List, [], ◌∷◌, ◌++◌, Option, Some, None, refl, sym, ap, ◌∙◌, arith, length-append}
 use Rattle.std.specs.Option.{option_map}
 use Rattle.std.specs.List.{find, list_all}
-use Rattle.sled_nodes.specs.Node.{pointers}
-use Rattle.sled_nodes.proofs.All.{all_push, all_weaker}
 use Rattle.std.specs.Ordering.{nat_cmp}
 use Rattle.std.specs.Cmp.{unsigned_ties}
 use Rattle.std.specs.BTreeMap.{BTreeMap, get, is_at}
+use Rattle.std.specs.Str.{bytes_eq}
 use Rattle.std.proofs.lemmas.Bool.Decides.{nat_tests}
 use Rattle.std.proofs.lemmas.List.{reverse-append}
 use mathlib.Core.List.{reverse}
+use Rattle.sled_nodes.proofs.Basics.{first_true, second_true, and_true}
+use Rattle.sled_nodes.proofs.All.{all_push, all_weaker, le_is, le_later}
+use Rattle.sled_nodes.specs.Order.{Key}
+use Rattle.sled_nodes.specs.Node.{pointers}
+use Rattle.sled_nodes.specs.Image.{last_of, node_in, root_in, all_of, all_named, all_numbers}
 use Rattle.sled_nodes.specs.declared.node.Node.{Node}
+use Rattle.sled_store.specs.Update.{put_name}
+use Rattle.sled_store.specs.Roots.{roots_of}
+use Rattle.sled_store.proofs.Roots.{same_test}
+use Rattle.sled_store.specs.declared.page.Page.{Page}
 use Rattle.sled_pages.specs.declared.memory.slots.Slot.{Slot}
 use Rattle.sled_pages.specs.theory.Held.{Holds}
 use Rattle.sled_pages.specs.Slots.{slot_in, given_in}
 use Rattle.sled_pages.specs.Joined.{joined}
-use Rattle.sled_store.specs.Roots.{roots_of}
 use Rattle.sled_pages.specs.Table.{slot_given, page_of}
 use Rattle.sled_pages.specs.theory.Table.{table}
 use Rattle.sled_pages.specs.Memory.{meaning}
-use Rattle.sled_store.specs.declared.page.Page.{Page}
 use Rattle.sled_pages.specs.declared.memory.undo.Undo.{Undo}
-use Rattle.sled_nodes.specs.Image.{last_of, node_in, root_in, all_of, all_named, all_numbers}
 use Rattle.sled_pages.specs.Image.{IsImage}
 use Rattle.sled_pages.proofs.Kept.{slot_later}
-use Rattle.std.specs.Str.{bytes_eq}
-use Rattle.sled_nodes.proofs.Basics.{first_true, second_true, and_true}
-use Rattle.sled_nodes.specs.Order.{Key}
-use Rattle.sled_store.specs.Update.{put_name}
-use Rattle.sled_store.proofs.Roots.{same_test}
-use Rattle.sled_nodes.proofs.All.{le_is, le_later}
 
 -- one entry more
 pub last_more : {K X : Type 0} (passes : K → Bool) (es : List (K × X)) (k : K) (x : X) → last_of passes (es ++ (k, x) ∷ []) ≡ cond (passes k) (Some x) (last_of passes es)

@@ -2,7 +2,7 @@
 use Rattle.std.proofs.Common.{◌≡◌, ◌≢◌, ℕ, zero, suc, ◌+◌, ◌*◌, ◌/◌, ◌%◌, ◌<◌, ◌≤◌, true, false, cond, nat_lt, List, [], ◌∷◌, ◌++◌, length, get_or, Option, Some, None, is_some, refl, sym, ap, ◌∙◌, arith, slice_get, slice_set}
 use Rattle.std.proofs.Math.Path.{fun_ext}
 use Rattle.std.proofs.Math.Nat.{mod-lt, div-add-mod}
-use Rattle.std.proofs.lemmas.Bool.{eqb-true, eqb-false}
+use Rattle.std.proofs.lemmas.Bool.{eqb-true, eqb-false, lt-ltb}
 use Rattle.std.proofs.lemmas.Bool.Decides.{nat_tests}
 use Rattle.std.proofs.lemmas.Option.{slice_get_past, slice_get_within, slice_get-get_or}
 use Rattle.std.specs.Global.{Vec}
@@ -41,9 +41,6 @@ length_set : {X : Type 0} (xs : List X) (i : ℕ) (x : X) → length (slice_set 
 length_set [] i x = refl
 length_set (y ∷ ys) zero x = refl
 length_set (y ∷ ys) (suc i) x = ap suc (length_set ys i x)
-
-lt_is : (a b : ℕ) → a < b → nat_lt a b ≡ true
-lt_is a b h = grind (arith, nat_tests)
 
 lt_of : (a b : ℕ) → nat_lt a b ≡ true → a < b
 lt_of a b h = grind (arith, nat_tests)
@@ -92,14 +89,14 @@ has_more rows b row h p f =
       | true ↦ λ e.
           let l : length (rows (p / 64)) ≡ length (rows b) = ap (λ c. length (rows c)) (eqb-true (p / 64) b e) in
           let k = lt_of (p % 64) (length (rows (p / 64))) f in
-          lt_is (p % 64) (length row) (omega (arith, l, k, h))
+          lt-ltb (p % 64) (length row) (omega (arith, l, k, h))
       | false ↦ λ e. f
     ] refl
 
 has_all : (rows : Rows) (i : ℕ) (row : List (Option Slot)) → 64 ≤ length row → has_in (put_at rows (i / 64) row) i ≡ true
 has_all rows i row h =
     let m : i % 64 < 64 = mod-lt i (omega arith) in
-    ap (λ r. nat_lt (i % 64) (length r)) (put_here rows (i / 64) row) ∙ lt_is (i % 64) (length row) (omega (arith, m, h))
+    ap (λ r. nat_lt (i % 64) (length r)) (put_here rows (i / 64) row) ∙ lt-ltb (i % 64) (length row) (omega (arith, m, h))
 
 -- ---- the same of a list of blocks
 

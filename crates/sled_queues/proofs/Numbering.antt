@@ -5,11 +5,11 @@ use Rattle.std.specs.Option.{option_to_list}
 use Rattle.std.specs.Str.{bytes_eq}
 use Rattle.std.proofs.lemmas.List.{map-append}
 use Rattle.std.proofs.lemmas.Bool.{eq-eqb, eqb-true}
-use Rattle.std.proofs.lemmas.Slice.Eq.{bytes_eq-Decides}
 use Rattle.sled_nodes.proofs.Basics.{none_some, some_is, true_false}
 use Rattle.sled_nodes.specs.Order.{Key}
 use Rattle.sled_store.specs.Update.{put_name}
 use Rattle.sled_store.specs.Store.{Store}
+use Rattle.sled_store.specs.theory.Facts.{same_name, name_itself}
 use Rattle.sled_nodes.specs.declared.error.Error.{Error}
 use Rattle.sled_model.specs.Collections.{Content}
 use Rattle.sled_model.specs.Refusal.{must_refuse_of}
@@ -85,12 +85,6 @@ same_trees a b e g n = record {
   maps = λ name t there kept. record { tree = t; there = ap (λ (f : Key → Option NamedTree). f name) e ∙ there; number = refl; map = refl };
 }
 
-bytes_same : (a b : Key) → bytes_eq a b ≡ true → a ≡ b
-bytes_same a b e = (bytes_eq-Decides a b).0 e
-
-bytes_itself : (a : Key) → bytes_eq a a ≡ true
-bytes_itself a = (bytes_eq-Decides a a).1 refl
-
 -- what a decision on one tree makes of the map of that tree, and of no other
 came_of_event : (n : ℕ) (e : Option Event) (m : Map) → after_event_of e m ≡ after_events (came_to n (turns_of_event n e)) m
 came_of_event n None m = refl
@@ -127,12 +121,12 @@ decided s at t call here n = record {
     was name u there = go (bytes_eq name at) refl there
       where
         go : (b : Bool) → bytes_eq name at ≡ b → cond b (Some changed) (s.trees name) ≡ Some u → (v : NamedTree) × (s.trees name ≡ Some v) × (u.number ≡ v.number)
-        go true e h = (t, ap s.trees (bytes_same name at e) ∙ here, sym (ap (λ (z : NamedTree). z.number) (some_is h)))
+        go true e h = (t, ap s.trees (same_name name at e) ∙ here, sym (ap (λ (z : NamedTree). z.number) (some_is h)))
         go false e h = (u, h, refl)
 
     after : (name : Key) (u : NamedTree) → s.trees name ≡ Some u → (b : Bool) → bytes_eq name at ≡ b → IsTreeAfter name u (turns_of_call t call) (after_decision_on s at t (answer_of t.merge call t.map))
     after name u there true e =
-        let same : u ≡ t = some_is (sym there ∙ ap s.trees (bytes_same name at e) ∙ here) in record {
+        let same : u ≡ t = some_is (sym there ∙ ap s.trees (same_name name at e) ∙ here) in record {
           tree = changed;
           there = ap (λ b. cond b (Some changed) (s.trees name)) e;
           number = ap (λ (z : NamedTree). z.number) (sym same);
@@ -149,7 +143,7 @@ decided s at t call here n = record {
       where
         off : (b : Bool) → nat_eq u.number t.number ≡ b → b ≡ false
         off false h = refl
-        off true h = true_false (sym (bytes_itself at) ∙ ap (λ k. bytes_eq k at) (sym (n.apart name at u t there here (eqb-true u.number t.number h))) ∙ e)
+        off true h = true_false (sym (name_itself at) ∙ ap (λ k. bytes_eq k at) (sym (n.apart name at u t there here (eqb-true u.number t.number h))) ∙ e)
 
 -- the state is another, but has its trees
 with_state : (a b c : State) (keeps : Key → Bool) (turns : List Turn) → c ≡ b → Tells a keeps turns b → Tells a keeps turns c
@@ -193,13 +187,13 @@ opened None s at here n = record {
     clash p q e l same = omega (arith, e, l, same)
 
     alone : (x y : Key) (u v : NamedTree) (b : Bool) → bytes_eq x at ≡ b → (c : Bool) → bytes_eq y at ≡ c → trees x ≡ Some u → trees y ≡ Some v → u.number ≡ v.number → x ≡ y
-    alone x y u v true e true f p q same = bytes_same x at e ∙ sym (bytes_same y at f)
+    alone x y u v true e true f p q same = same_name x at e ∙ sym (same_name y at f)
     alone x y u v true e false f p q same = absurd (clash u.number v.number (number_new x u e p) (n.given y v (number_old y v f q)) same)
     alone x y u v false e true f p q same = absurd (clash v.number u.number (number_new y v f q) (n.given x u (number_old x u e p)) (sym same))
     alone x y u v false e false f p q same = n.apart x y u v (number_old x u e p) (number_old y v f q) same
 
     stays : (name : Key) (u : NamedTree) → s.trees name ≡ Some u → (b : Bool) → bytes_eq name at ≡ b → trees name ≡ Some u
-    stays name u there true e = none_some (sym here ∙ ap s.trees (sym (bytes_same name at e)) ∙ there)
+    stays name u there true e = none_some (sym here ∙ ap s.trees (sym (same_name name at e)) ∙ there)
     stays name u there false e = ap (λ b. cond b (Some (new_tree s)) (s.trees name)) e ∙ there
 
 -- a name is dropped: all other names have their trees

@@ -22,7 +22,7 @@ use Rattle.sled_model.specs.declared.outcome.Outcome.{Outcome}
 use Rattle.sled_model.specs.declared.outcome.Outcome.TheVariants as outcome
 use Rattle.sled_model.specs.declared.outcome.Step.TheVariants as step
 use Rattle.sled_model.specs.Transition.{transition_as}
-use Rattle.sled_model.proofs.Tests.{first_none}
+use Rattle.sled_model.proofs.Tests.{first_none, none_first}
 use Rattle.sled.specs.Kept.{kept_of}
 use Rattle.sled.specs.Parts.{ImportRefusedAfter}
 use Rattle.sled.specs.Imports.{ImportRefused}
@@ -143,9 +143,6 @@ pub no_parts : (v : WholeValue) (n : ℕ) → n ≡ 0 → noted_with v None n �
 no_parts v n e = ap (noted_with v None) e
 
 -- tests
-none_both : (a b : Option MustRefuse) → a ≡ None → b ≡ None → first_of a b ≡ None
-none_both a b e f = ap (λ x. first_of x b) e ∙ f
-
 then_none : (t : Bool) (a : Option MustRefuse) (x : MustRefuse) → (if t then a else Some x) ≡ None → (t ≡ true) × (a ≡ None)
 then_none true a x e = (refl, e)
 then_none false a x e = some_none e
@@ -178,12 +175,12 @@ none_dropped s (b ∷ bs) h = ap (λ t. if t then dropped_test s (trees_of_batch
 
 -- all trees pass where each does
 pub all_pass : (s : State) (bs : List (Tree × Writes)) → s.is_open ≡ true → All (BatchPasses s) bs → must_refuse_of s (trees_of_batches bs) ≡ None
-all_pass s bs opens h = none_both (if s.is_open then None else Some IsClosed) (first_of (foreign_test s.name (trees_of_batches bs)) (dropped_test s (trees_of_batches bs))) (ap (λ t. if t then None else Some IsClosed) opens)
-    (none_both (foreign_test s.name (trees_of_batches bs)) (dropped_test s (trees_of_batches bs)) (none_foreign s bs h) (none_dropped s bs h))
+all_pass s bs opens h = none_first (if s.is_open then None else Some IsClosed) (first_of (foreign_test s.name (trees_of_batches bs)) (dropped_test s (trees_of_batches bs))) (ap (λ t. if t then None else Some IsClosed) opens)
+    (none_first (foreign_test s.name (trees_of_batches bs)) (dropped_test s (trees_of_batches bs)) (none_foreign s bs h) (none_dropped s bs h))
 
 alone : (s : State) (t : Tree) → s.is_open ≡ true → bytes_eq t.database s.name ≡ true → is_number t.number (s.trees t.name) ≡ true → PassesAlone s t
-alone s t o d n = none_both (if s.is_open then None else Some IsClosed) (first_of (foreign_test s.name (t ∷ [])) (dropped_test s (t ∷ []))) (ap (λ t. if t then None else Some IsClosed) o)
-    (none_both (foreign_test s.name (t ∷ [])) (dropped_test s (t ∷ [])) (ap (λ b. if b then None else Some IsForeign) d) (ap (λ b. if b then None else Some (IsDropped t.name)) n))
+alone s t o d n = none_first (if s.is_open then None else Some IsClosed) (first_of (foreign_test s.name (t ∷ [])) (dropped_test s (t ∷ []))) (ap (λ t. if t then None else Some IsClosed) o)
+    (none_first (foreign_test s.name (t ∷ [])) (dropped_test s (t ∷ [])) (ap (λ b. if b then None else Some IsForeign) d) (ap (λ b. if b then None else Some (IsDropped t.name)) n))
 
 each : (s : State) (bs : List (Tree × Writes)) → s.is_open ≡ true → foreign_test s.name (trees_of_batches bs) ≡ None → dropped_test s (trees_of_batches bs) ≡ None → All (BatchPasses s) bs
 each s [] o f d = All-nil (BatchPasses s)

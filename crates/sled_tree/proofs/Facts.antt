@@ -9,7 +9,7 @@ use Rattle.sled_store.specs.In.{In}
 use Rattle.sled_nodes.specs.Node.{count}
 use Rattle.sled_store.specs.Update.{put_at}
 use Rattle.sled_store.specs.State.{State, PageBecomes, RootBecomes}
-use Rattle.sled_store.specs.theory.Facts.{now_acts, now_acted, now_allocates}
+use Rattle.sled_store.specs.theory.Facts.{now_acts, now_acted, now_allocates, put_here, put_elsewhere, put_name_here}
 use Rattle.sled_store.specs.Store.{Store, now, after_action, view_of, IsRefused, IsReadRefused, Changes, ActsAt, Allocates}
 use Rattle.sled_nodes.specs.declared.error.Error.{Error}
 use Rattle.sled_nodes.specs.declared.error.Error.TheVariants as error
@@ -23,7 +23,6 @@ use Rattle.tree_laws.specs.Snapshot.{Snapshot, snapshot_of, nodes_at, HasForest}
 use Rattle.tree_laws.specs.theory.Snapshot.{KeepsForest, GrowsByReceiving}
 use Rattle.tree_laws.specs.theory.StageLaws.{StageActionLaw}
 use Rattle.tree_laws.proofs.Known.{goes_same, root_in}
-use Rattle.tree_laws.proofs.Update.{put_here, put_there, name_here}
 use Rattle.sled_tree.specs.Course.{Course, course_of}
 use Rattle.tree_laws.specs.declared.flight.Stage.{Stage}
 use Rattle.tree_laws.specs.declared.flight.Stage.TheVariants as stage
@@ -33,7 +32,7 @@ use Rattle.sled_tree.specs.declared.flight.InFlight.{InFlight}
 use Rattle.sled_tree.specs.declared.flight.Went.{Went}
 use Rattle.sled_tree.specs.declared.flight.Went.TheVariants as went
 use Rattle.tree_laws.specs.Stages.{IsStage, owned}
-use Rattle.tree_laws.proofs.States.{true_on}
+use Rattle.tree_laws.proofs.States.{stays_true}
 use Rattle.tree_laws.proofs.Viewed.{viewed}
 use Rattle.sled_tree.specs.Stages.{Knows, changes_at}
 use Rattle.sled_tree.specs.StageAction.{ActsOnce, LeaksNoPage, leaks_no_page_as}
@@ -74,11 +73,11 @@ leaves_replaced mine own m p g n v live rid kept = record {
   kept = λ q i. inr (inr (kept q i));
   made = λ q e. elim (same_or_not q p) [
     | inl s ↦ none_some (sym e ∙ ap m.state.pages s ∙ live)
-    | inr off ↦ inl (put_there m.state.pages p (Some n) q off ∙ e)
+    | inr off ↦ inl (put_elsewhere m.state.pages p q (Some n) off ∙ e)
   ];
   merged = λ q c a b was child now. elim (same_or_not q p) [
     | inl s ↦ inr (rid c (ap (λ (z : Page). z.node.merging_child) (some_is (sym live ∙ ap m.state.pages (sym s) ∙ was)) ∙ child))
-    | inr off ↦ inl (ap (λ (z : Page). z.node.merging_child) (some_is (sym now ∙ put_there m.state.pages p (Some n) q off ∙ was)) ∙ child)
+    | inr off ↦ inl (ap (λ (z : Page). z.node.merging_child) (some_is (sym now ∙ put_elsewhere m.state.pages p q (Some n) off ∙ was)) ∙ child)
   ];
 }
 
@@ -92,11 +91,11 @@ leaves_allocated m w p n v is fresh = record {
   kept = λ q i. absurd i;
   made = λ q e. elim (same_or_not q p) [
     | inl s ↦ inr (inl s)
-    | inr off ↦ inl (put_there m.state.pages p (Some n) q off ∙ e)
+    | inr off ↦ inl (put_elsewhere m.state.pages p q (Some n) off ∙ e)
   ];
   merged = λ q c a b was child now. elim (same_or_not q p) [
     | inl s ↦ absurd (apart (sym fresh ∙ ap m.pids (sym s) ∙ is.pids q a was))
-    | inr off ↦ inl (ap (λ (z : Page). z.node.merging_child) (some_is (sym now ∙ put_there m.state.pages p (Some n) q off ∙ was)) ∙ child)
+    | inr off ↦ inl (ap (λ (z : Page). z.node.merging_child) (some_is (sym now ∙ put_elsewhere m.state.pages p q (Some n) off ∙ was)) ∙ child)
   ];
 }
   where
@@ -107,7 +106,7 @@ leaves_allocated m w p n v is fresh = record {
 pub leaves_hoisted : (m : Snapshot) (t : Tree) (r : ℕ) (v : Forest) → HasForest (after_hoist m t r) v → LeaksNoPage (r ∷ []) [] m.state (after_hoist m t r).state v
 leaves_hoisted m t r v is = record {
   kept = λ q i. elim i [
-    | inl e ↦ let o = root_in is.formed t r (name_here m.state.roots t (Some r)) in inr (inr (place t o.0, subst (λ z. In z (v.chain (place t o.0))) (sym e) o.2))
+    | inl e ↦ let o = root_in is.formed t r (put_name_here m.state.roots t (Some r)) in inr (inr (place t o.0, subst (λ z. In z (v.chain (place t o.0))) (sym e) o.2))
     | inr b ↦ absurd b
   ];
   made = λ q e. inl e;
@@ -123,11 +122,11 @@ leaves_freed m p v = record {
   ];
   made = λ q e. elim (same_or_not q p) [
     | inl s ↦ inl (ap (put_at m.state.pages p None) s ∙ put_here m.state.pages p None)
-    | inr off ↦ inl (put_there m.state.pages p None q off ∙ e)
+    | inr off ↦ inl (put_elsewhere m.state.pages p q None off ∙ e)
   ];
   merged = λ q c a b was child now. elim (same_or_not q p) [
     | inl s ↦ none_some (sym (ap (put_at m.state.pages p None) s ∙ put_here m.state.pages p None) ∙ now)
-    | inr off ↦ inl (ap (λ (z : Page). z.node.merging_child) (some_is (sym now ∙ put_there m.state.pages p None q off ∙ was)) ∙ child)
+    | inr off ↦ inl (ap (λ (z : Page). z.node.merging_child) (some_is (sym now ∙ put_elsewhere m.state.pages p q None off ∙ was)) ∙ child)
   ];
 }
 
@@ -214,7 +213,7 @@ moves_on j old new a b once plain known = record {
 
 -- one changing action: a page was changed, a page was made, a page went, or a root became another
 pub once_acts : {p given : ℕ} {page : Option Page} {old new : Store} → ActsAt (PageBecomes p page) given old new → ActsOnce old new
-once_acts {p} {given} {page} {old} {new} a = record { action = PageBecomes p page; pids = old.pids; versions = put_at old.versions given true; is = a.is; pids_stay = λ p e. e; versions_stay = true_on old.versions given; no_group = ap (λ (s : State). s.in_group) (now_acts _ _ old new a) }
+once_acts {p} {given} {page} {old} {new} a = record { action = PageBecomes p page; pids = old.pids; versions = put_at old.versions given true; is = a.is; pids_stay = λ p e. e; versions_stay = stays_true old.versions given; no_group = ap (λ (s : State). s.in_group) (now_acts _ _ old new a) }
 
 pub once_made : {node : Node} {p version : ℕ} {old new : Store} → Allocates node p version old new → ActsOnce old new
 once_made {node} {p} {version} {old} {new} a = record {
@@ -222,8 +221,8 @@ once_made {node} {p} {version} {old} {new} a = record {
   pids = put_at old.pids p true;
   versions = put_at old.versions version true;
   is = a.is;
-  pids_stay = true_on old.pids p;
-  versions_stay = true_on old.versions version;
+  pids_stay = stays_true old.pids p;
+  versions_stay = stays_true old.versions version;
   no_group = ap (λ (s : State). s.in_group) (now_allocates node p version old new a);
 }
 
@@ -260,6 +259,7 @@ not_up_to a b off = key_total.antisymm b a ∙ go (key_cmp a b) off
     go Equal off = absurd (off refl)
     go Greater off = refl
 
+-- a page as it is read
 pub live_view : (s : Store) (pid : ℕ) (v : View) → Some v ≡ view_of pid ((now s).pages pid) → (now s).pages v.pid ≡ Some (record { version = v.version; node = v.node })
 live_view s pid v e = let k = viewed pid ((now s).pages pid) v e in ap (now s).pages k.0 ∙ k.1
 

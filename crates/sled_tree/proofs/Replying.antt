@@ -1,5 +1,6 @@
 -- What the read of a call's value tells.
 use Rattle.std.proofs.Common.{◌≡◌, ◌≢◌, Bool, true, false, cond, Option, Some, None, is_some, Ok, Err, refl, subst}
+use Rattle.sled_nodes.proofs.Basics.{some_none}
 use Rattle.sled_nodes.specs.Order.{Key}
 use Rattle.sled_model.specs.Maps.{Merge as Operator}
 use Rattle.sled_model.specs.Answer.{decision_of, effect_of_write, reply_of_read, read_decides_as, same_value}
@@ -44,9 +45,6 @@ read_law operator (Scan lo hi back) value = refl
 -- a call that has no reply yet has an effect
 pub links_law : (operator : Option Operator) (call : Call) (value : Option Key) → reply_of_read call value ≡ None → (decision_of operator call value).effect ≢ effect.Nothing
 links_law operator call value none = subst (read_decides_as (decision_of operator call value)) none (read_law operator call value)
-
-some_none : {X P : Type 0} {x : X} → Some x ≡ None → P
-some_none e = cc
 
 -- .. and is on a key
 pub links_on_key : (call : Call) (value : Option Key) → reply_of_read call value ≡ None → IsOnKey call

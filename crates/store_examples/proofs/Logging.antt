@@ -10,8 +10,8 @@ use Rattle.std.specs.List.Sorted.{IsBinarySearchResult, IsSearchInRange}
 use Rattle.std.specs.Option.{option_map}
 use Rattle.std.specs.Ordering.{nat_cmp}
 use Rattle.std.specs.Str.{bytes_eq}
-use Rattle.sled_nodes.proofs.Basics.{first_true, second_true, and_true}
 use mathlib.Core.Bool.{true≢false}
+use Rattle.sled_nodes.proofs.Basics.{first_true, second_true, and_true}
 use Rattle.sled_nodes.specs.declared.node.Node.{Node}
 use Rattle.sled_store.specs.declared.page.Page.{Page}
 use Rattle.sled_store.specs.Crash.{Crashes}

@@ -2,10 +2,10 @@
 use Rattle.std.proofs.Common.{◌≡◌, ◌≢◌, ◌⊎◌, ℕ, false, Bool, List, [], ◌∷◌, zip, T, Option, Some, None, unwrap_or, Result, Ok, Err, IfOk, IfErr, sym, refl, ap, ◌∙◌, subst, inl, inr}
 use Rattle.std.specs.FinMap.Entries.{find, put, is_sorted, is_sorted-put}
 use Rattle.sled_nodes.proofs.Basics.{none_some, some_is, key_total}
+use Rattle.sled_nodes.proofs.Put.{found_here, found_there}
 use denote.Ref.{MutBor}
 use Rattle.sled_nodes.specs.Order.{Key, key_cmp}
 use Rattle.sled_batch.specs.Batch.{Writes}
-use Rattle.sled_batch.proofs.Found.{found_here}
 use Rattle.sled_store.specs.Store.{Store}
 use Rattle.sled_model.specs.Maps.{Maps, Merge}
 use Rattle.sled_model.specs.declared.tree.Tree.{Tree}
@@ -21,7 +21,7 @@ use Rattle.sled.specs.Sound.{IsDb}
 use Rattle.sled.specs.Transactions.{RunsOnList, ListMade, ListNotMade, ShowsAtLaw}
 use Rattle.sled.specs.Values.{DbValue}
 use Rattle.examples.specs.Reads.{found_in, maps_now}
-use Rattle.examples.proofs.Entering.{same_or_apart, found_there}
+use Rattle.examples.proofs.Entering.{same_or_apart}
 use Rattle.transaction_examples.specs.Throughout.{HoldsThroughout}
 use Rattle.transaction_examples.specs.Indexed.{agree_in, PutsRow, EndsPut}
 use Rattle.transaction_examples.specs.declared.indexed.EmailTaken.{EmailTaken}

@@ -17,11 +17,11 @@ use Rattle.sled.specs.Groups.{GroupDecided, GroupRefused}
 use Rattle.sled.specs.Sound.{IsDb}
 use Rattle.sled.specs.Transactions.{TakesIds}
 use Rattle.sled.specs.Values.{DbValue, db_state}
-use Rattle.sled.proofs.Written.{after_both}
+use Rattle.sled.proofs.Written.{after_both, writes_elsewhere}
 use Rattle.examples.specs.Reads.{found_in, maps_now}
 use Rattle.examples.proofs.Leaving.{left_by}
 use Rattle.examples.proofs.Stocking.{maps_are, open_now, open_before, first_there, second_there}
-use Rattle.examples.proofs.Written.{Holds, batch_there, batch_elsewhere}
+use Rattle.examples.proofs.Written.{Holds, batch_there}
 use Rattle.transaction_examples.specs.Throughout.{HoldsThroughout}
 
 -- what a tree has once these were written, and nothing else
@@ -147,7 +147,7 @@ module _ {P M : Type 0} (store : P → Store) (meant : M → Merge) where
     pub one_kept : (other : Key) → other ≢ t.name → maps_now store meant new other ≡ maps_now store meant old other
     one_kept other off =
         ap (λ (s : State). maps_of s other) one_is
-        ∙ ap (option_map (λ (n : NamedTree). n.map)) (batch_elsewhere t ws (db_state store meant m.run) other off)
+        ∙ ap (option_map (λ (n : NamedTree). n.map)) (writes_elsewhere t ws (db_state store meant m.run) other off)
         ∙ ap (λ (maps : Maps). maps other) (same_maps old m.run m.takes)
 
   module _ (old new : DbValue P M) (t u : Tree) (ws vs : Writes) (apart : t.name ≢ u.name) (ws-rise : T (is_sorted key_cmp ws)) (vs-rise : T (is_sorted key_cmp vs)) (m : MakesGroup old ((t, ws) ∷ (u, vs) ∷ []) new) where
@@ -169,17 +169,17 @@ module _ {P M : Type 0} (store : P → Store) (meant : M → Merge) where
         let h = batch_there t ws before (λ q. find key_cmp q n.0.map) ws-rise (record { tree = n.0; there = n.1; has = λ q. refl }) in
         subst (λ maps. Wrote maps (maps_now store meant new) t.name ws) (same_maps old m.run m.takes)
         (found_after m.run new t.name ws n.0 n.1 (subst (λ s. Holds s t.name (λ q. unwrap_or (find key_cmp q ws) (find key_cmp q n.0.map))) (sym two_is)
-        (record { tree = h.tree; there = batch_elsewhere u vs middle t.name apart ∙ h.there; has = h.has })))
+        (record { tree = h.tree; there = writes_elsewhere u vs middle t.name apart ∙ h.there; has = h.has })))
 
     pub second_wrote : Wrote (maps_now store meant old) (maps_now store meant new) u.name vs
     second_wrote =
         let n = second_there before t u [] made_two.free in
         subst (λ maps. Wrote maps (maps_now store meant new) u.name vs) (same_maps old m.run m.takes)
         (found_after m.run new u.name vs n.0 n.1 (subst (λ s. Holds s u.name (λ q. unwrap_or (find key_cmp q vs) (find key_cmp q n.0.map))) (sym two_is)
-        (batch_there u vs middle (λ q. find key_cmp q n.0.map) vs-rise (record { tree = n.0; there = batch_elsewhere t ws before u.name (λ e. apart (sym e)) ∙ n.1; has = λ q. refl }))))
+        (batch_there u vs middle (λ q. find key_cmp q n.0.map) vs-rise (record { tree = n.0; there = writes_elsewhere t ws before u.name (λ e. apart (sym e)) ∙ n.1; has = λ q. refl }))))
 
     pub two_kept : (other : Key) → other ≢ t.name → other ≢ u.name → maps_now store meant new other ≡ maps_now store meant old other
     two_kept other off-t off-u =
         ap (λ (s : State). maps_of s other) two_is
-        ∙ ap (option_map (λ (n : NamedTree). n.map)) (batch_elsewhere u vs middle other off-u ∙ batch_elsewhere t ws before other off-t)
+        ∙ ap (option_map (λ (n : NamedTree). n.map)) (writes_elsewhere u vs middle other off-u ∙ writes_elsewhere t ws before other off-t)
         ∙ ap (λ (maps : Maps). maps other) (same_maps old m.run m.takes)

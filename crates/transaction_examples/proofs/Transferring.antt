@@ -3,10 +3,10 @@ use Rattle.std.proofs.Common.{◌≡◌, ℕ, ◌+◌, ◌<◌, ◌≤◌, ◌^�
 use Rattle.std.specs.FinMap.Entries.{put, is_sorted, is_sorted-put}
 use Rattle.std.specs.Int.{w64, to_be_bytes}
 use Rattle.sled_nodes.proofs.Basics.{key_total}
+use Rattle.sled_nodes.proofs.Put.{found_here, found_there}
 use denote.Ref.{MutBor}
 use Rattle.sled_nodes.specs.Order.{Key, key_cmp}
 use Rattle.sled_batch.specs.Batch.{Writes}
-use Rattle.sled_batch.proofs.Found.{found_here}
 use Rattle.sled_store.specs.Store.{Store}
 use Rattle.sled_model.specs.Maps.{Maps, Merge}
 use Rattle.sled_model.specs.declared.tree.Tree.{Tree}
@@ -24,7 +24,6 @@ use Rattle.sled.specs.Values.{DbValue}
 use Rattle.examples.specs.Counters.{number_in, counter_in}
 use Rattle.examples.specs.Reads.{found_in, maps_now}
 use Rattle.examples.proofs.Counting.{number_read}
-use Rattle.examples.proofs.Entering.{found_there}
 use Rattle.transaction_examples.specs.Throughout.{HoldsThroughout, IsSettled, Recovers}
 use Rattle.transaction_examples.specs.Transfers.{come_to, Transfers, is_reason, EndsTransfer}
 use Rattle.transaction_examples.specs.declared.transfers.TransferError.{TransferError}

@@ -1,5 +1,6 @@
 -- A tree, pages by pages, and tree by tree.
 use Rattle.std.proofs.Common.{Vec, Global, ◌≡◌, ◌≢◌, ℕ, zero, suc, ◌+◌, ◌-◌, ◌≤◌, ◌<◌, Bool, true, false, cond, nat_eq, List, [], ◌∷◌, length, get_or, take, Option, Some, None, MatchOption, sym, refl, ap, ◌∙◌, subst, inl, inr, ◌⊎◌, arith}
+use Rattle.std.proofs.lemmas.Bool.{eqb-true}
 use Rattle.std.specs.BTreeSet.{BTreeSet, contains, IsEmpty}
 use Rattle.std.specs.BTreeMap.{is_at}
 use Rattle.std.specs.List.{list_any}
@@ -17,7 +18,7 @@ use Rattle.tree_laws.specs.Forest.{Tree, Place, place, head, first_child, Run}
 use Rattle.sled_store.specs.Store.{IsRoots}
 use Rattle.sled_store.proofs.Lists.{map_in}
 use Rattle.tree_laws.specs.Crashes.{IsValid}
-use Rattle.tree_laws.proofs.Matching.{itself, same_is}
+use Rattle.tree_laws.proofs.Matching.{itself}
 use Rattle.tree_check.specs.declared.levels.Level.{Level}
 use Rattle.tree_check.specs.theory.Tree.{IsPointerTo, IsAtHeight, IsTreeFrom}
 use Rattle.tree_check.specs.theory.Walk.{Levels, level_of, ReadsChain, IsReceived, FindsReceived, LeadsTo, HasMergingChild, LeadsDown, pids, height_in, home_in, IsNewTree, FindsLevel, FindsTree, WalksTree, Verifies}
@@ -35,7 +36,7 @@ height_of tree g None e = none_some e
 height_of tree g (Some z) e = go (nat_eq z.tree tree) refl e
   where
     go : (b : Bool) → nat_eq z.tree tree ≡ b → cond b (Some z.height) None ≡ Some g → Some z ≡ Some (level_at tree g)
-    go true h e = ap (λ t. Some (level_at t z.height)) (same_is z.tree tree h) ∙ ap (λ k. Some (level_at tree k)) (some_is e)
+    go true h e = ap (λ t. Some (level_at t z.height)) (eqb-true z.tree tree h) ∙ ap (λ k. Some (level_at tree k)) (some_is e)
     go false h e = none_some e
 
 height_is : (tree g : ℕ) → height_in tree (Some (level_at tree g)) ≡ Some g

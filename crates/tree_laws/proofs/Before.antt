@@ -1,5 +1,6 @@
 -- The pointer before the merging child's, and the pointer that a bound leads to.
 use Rattle.std.proofs.Common.{◌≡◌, ◌≢◌, ℕ, suc, Bool, true, false, ◌||◌, nat_eq, List, [], ◌∷◌, ◌++◌, Some, sym, refl, ap, ◌∙◌, subst, inl, inr, append_assoc, arith}
+use Rattle.std.proofs.lemmas.Bool.{eqb-true}
 use Rattle.std.proofs.lemmas.Bool.Decides.{nat_tests}
 use Rattle.std.specs.List.{list_any}
 use Rattle.sled_nodes.proofs.Basics.{none_some, some_is}
@@ -17,9 +18,6 @@ use Rattle.tree_laws.proofs.Cover.{holds_at, later_in, later_above}
 use Rattle.tree_laws.proofs.Known.{sound_at}
 use Rattle.tree_laws.proofs.Looking.{pointer_in}
 use Rattle.tree_laws.proofs.Halving.{before_child}
-
-same_child : (c d : ℕ) → nat_eq d c ≡ true → d ≡ c
-same_child c d e = grind (arith, nat_tests)
 
 other_child : (c d : ℕ) → d ≢ c → nat_eq d c ≡ false
 other_child c d e = grind (arith, nat_tests)
@@ -62,7 +60,7 @@ find_before k c front p (y ∷ ys) none i = go (nat_eq y.1 c) refl (λ off. find
         low = p.0;
         key = y.0;
         after = ys;
-        is = sym (append_assoc front (p ∷ []) (y ∷ ys)) ∙ ap (λ z. (front ++ p ∷ []) ++ (y.0, z) ∷ ys) (same_child c y.1 e);
+        is = sym (append_assoc front (p ∷ []) (y ∷ ys)) ∙ ap (λ z. (front ++ p ∷ []) ++ (y.0, z) ∷ ys) (eqb-true y.1 c e);
         none = none;
       },
     )

@@ -14,7 +14,7 @@ use Rattle.tree_laws.specs.Forest.{later, Holds, Forest, Place, place, Run, IsPo
 use Rattle.tree_laws.proofs.Order.{below-trans, below_irrefl, below_upto-trans}
 use Rattle.tree_laws.proofs.Pairs.{under}
 use Rattle.tree_laws.proofs.Runs.{rises_on, run_from, run_to, run_parts, In_cases}
-use Rattle.tree_laws.proofs.Replace.{place_is, false_true}
+use Rattle.tree_laws.proofs.Replace.{place_is, not_both}
 
 -- of two pages of a run, one ends at or below where the other begins
 pub run_order : (nodes : Nodes) (ps : List ℕ) (from to : Option ℕ) (lo hi : Key) → Run nodes ps from lo to hi → (p q : ℕ) (n m : Node) → In p ps → In q ps → p ≢ q → nodes p ≡ Some n → nodes q ≡ Some m
@@ -203,7 +203,7 @@ module _ {nodes : Nodes} {roots : Tree → Option ℕ} {w : Forest} (f : WellFor
       let e = one_later t h xs ys p c n d is pn cd q r a b k.0 i j qa rb k.1 bc in
       let ab : a ≡ b = some_is (sym qa ∙ ap nodes e ∙ rb) in
       let pc : p ≡ c = some_is (sym ap' ∙ ap (λ (z : Node). z.merging_child) ab ∙ bc) in
-      false_true n.merging calm (subst (λ (z : Node). z.merging ≡ true) (some_is (sym cd ∙ ap nodes (sym pc) ∙ pn)) cap)
+      not_both n.merging calm (subst (λ (z : Node). z.merging ≡ true) (some_is (sym cd ∙ ap nodes (sym pc) ∙ pn)) cap)
 
   -- who has a merging child is an index, with a later pointer to it
   pub child_below : (x : Place) (p : ℕ) (n : Node) (c : ℕ) → In p (w.chain x) → nodes p ≡ Some n → n.merging_child ≡ Some c

@@ -6,7 +6,7 @@ use Rattle.std.proofs.lemmas.List.{map-append}
 use Rattle.sled_store.specs.Store.{Store, now, after_action, after_flush, Allocates}
 use Rattle.sled_nodes.specs.declared.node.Node.{Node}
 use Rattle.sled_store.specs.Crash.{left_from, crash_states}
-use Rattle.sled_store.specs.theory.Facts.{after_last}
+use Rattle.sled_store.specs.theory.Facts.{after_last, left_end}
 use Rattle.tree_laws.specs.Contents.{trees_of}
 use Rattle.tree_laws.specs.Crashes.{IsValid, Stutters, StutterEquivalent, Trees, AddsCrashStates, Flushes}
 use Rattle.tree_laws.specs.theory.Crashes.{AddsAction}
@@ -101,16 +101,6 @@ left_more s (c ∷ actions) a =
       | false ↦ ap (λ z. s ∷ z) h
     ]
 
--- where no group is open, the state now is the last
-pub left_last : (s : State) (actions : List Action) → (after_all actions s).in_group ≡ false → (xs : List State) × (left_from s actions ≡ xs ++ after_all actions s ∷ [])
-left_last s [] e = ([], ap (λ b. cond b [] (s ∷ [])) e)
-left_last s (c ∷ actions) e =
-    let h = left_last (after c s) actions e in
-    elim s.in_group as (λ b. (xs : List State) × (cond b (left_from (after c s) actions) (s ∷ left_from (after c s) actions) ≡ xs ++ after_all actions (after c s) ∷ [])) [
-      | true ↦ h
-      | false ↦ (s ∷ h.0, ap (λ z. s ∷ z) h.1)
-    ]
-
 module _ {act : Action} {a b : Store} (d : AddsAction act a b) where
   pub adds_now : now b ≡ after act (now a)
   adds_now = ap (λ s. after_all b.recent s) d.base ∙ ap (λ l. after_all l a.base) d.recent ∙ after_last a.recent act a.base
@@ -151,7 +141,7 @@ module _ {act : Action} {a b : Store} (d : AddsAction act a b) where
   -- and nothing where they are as before
   pub adds_unseen : (now a).in_group ≡ false → (now b).in_group ≡ false → IsValid (now b) → trees_of (now b) ≡ trees_of (now a) → AddsCrashStates [] a b
   adds_unseen before out well same =
-      let last = left_last a.base a.recent before in
+      let last = left_end a.recent a.base before in
       let was : map trees_of (crash_states a) ≡ map trees_of last.0 ++ trees_of (now a) ∷ [] = ap (map trees_of) last.1 ∙ map-append trees_of last.0 (now a ∷ []) in
       let is : map trees_of (crash_states b) ≡ (map trees_of last.0 ++ trees_of (now a) ∷ []) ++ trees_of (now a) ∷ [] = grown_out out ∙ ap (λ z. map trees_of (crash_states a) ++ z ∷ []) same ∙ ap (λ z. z ++ trees_of (now a) ∷ []) was in
       record {
@@ -215,7 +205,7 @@ extends_then {k} {l} {a} {b} {c} e g = record {
 -- a call that is decided and changes nothing: the trees now stand once more
 pub extends_again : {maps : List Trees} {a b : Store} → AddsCrashStates maps a b → (now b).in_group ≡ false → AddsCrashStates (maps ++ trees_of (now b) ∷ []) a b
 extends_again {maps} {a} {b} e out =
-    let last = left_last b.base b.recent out in
+    let last = left_end b.recent b.base out in
     let is : map trees_of (crash_states b) ≡ map trees_of last.0 ++ trees_of (now b) ∷ [] = ap (map trees_of) last.1 ∙ map-append trees_of last.0 (now b ∷ []) in
     record {
       base = e.base;
@@ -229,7 +219,7 @@ extends_again {maps} {a} {b} e out =
 
 -- the state now may be left, where no group is open
 pub now_left : (s : Store) → (now s).in_group ≡ false → In (now s) (crash_states s)
-now_left s out = let last = left_last s.base s.recent out in subst (λ l. In (now s) l) (sym last.1) (In-right last.0 (now s ∷ []) (now s) (inl refl))
+now_left s out = let last = left_end s.recent s.base out in subst (λ l. In (now s) l) (sym last.1) (In-right last.0 (now s ∷ []) (now s) (inl refl))
 
 -- after a flush a crash can leave the state now alone
 pub flushes_left : {a b : Store} → Flushes a b → (now a).in_group ≡ false → crash_states b ≡ now a ∷ []

@@ -10,6 +10,7 @@ use Rattle.sled_nodes.specs.Node.{Within, pairs, pointers, count, unpointed, aft
 use Rattle.sled_nodes.specs.Order.{Key, key_cmp, Below}
 use Rattle.sled_store.specs.State.{Nodes}
 use Rattle.sled_store.specs.Update.{put_at}
+use Rattle.sled_store.specs.theory.Facts.{put_here, put_elsewhere}
 use Rattle.sled_nodes.specs.declared.node.Data.TheVariants.{Leaf, Index}
 use Rattle.sled_nodes.specs.declared.node.Data.{Data}
 use Rattle.sled_nodes.specs.declared.link.Link.TheVariants.{ParentMergeIntention, ParentMergeConfirm}
@@ -19,8 +20,7 @@ use Rattle.tree_laws.specs.Forest.{first_key, first_child, later, Holds, IsNodeA
 use Rattle.tree_laws.specs.Snapshot.{IsOrphan}
 use Rattle.tree_laws.specs.theory.PageLaws.{Unseen, CapLaw, IntentionLaw, ConfirmLaw}
 use Rattle.tree_laws.proofs.Order.{below_irrefl}
-use Rattle.tree_laws.proofs.Update.{put_here, put_there}
-use Rattle.tree_laws.proofs.Replace.{false_true}
+use Rattle.tree_laws.proofs.Replace.{not_both}
 use Rattle.tree_laws.proofs.Split.{pointer_like}
 use Rattle.tree_laws.proofs.Cover.{holds_at, later_in, later_above}
 use Rattle.tree_laws.proofs.Reflag.{Reflags, after, reflagged_kept, reflagged_keeps, reflagged_contents, reflagged_sized, reflagged_grows}
@@ -38,7 +38,7 @@ cap_law nodes roots w f x p n o q d j up is =
       chained = i;
       was = live;
       now = put_here nodes p _;
-      others = put_there nodes p _;
+      others = λ q. put_elsewhere nodes p q _;
       lo = refl;
       hi = refl;
       next = refl;
@@ -72,15 +72,15 @@ intention_law nodes roots w f t h p c n k o j =
       chained = i;
       was = live;
       now = put_here nodes p _;
-      others = put_there nodes p _;
+      others = λ q. put_elsewhere nodes p q _;
       lo = refl;
       hi = refl;
       next = refl;
       sound = let s = sound_at f (place t (suc h)) p n i live in record { holds = s.holds };
       smaller = le_refl _;
       not_merging = not_merging;
-      calm = λ u. false_true n.merging not_merging u;
-      parent = λ u. false_true n.merging not_merging u;
+      calm = λ u. not_both n.merging not_merging u;
+      parent = λ u. not_both n.merging not_merging u;
       comes = λ z y e. e;
       stays = λ z y e. inl e;
       keeps_child = λ d y g e. none_some (sym free ∙ e);
@@ -203,14 +203,14 @@ module _ (nodes : Nodes) (roots : Tree → Option ℕ) (w : Forest) (f : WellFor
 
   home_other : (d : ℕ) → d ≢ c → home d ≡ w.home d
   unfolding home
-  home_other d off = put_there w.home c None d off
+  home_other d off = put_elsewhere w.home c d None off
 
   parts : Reflags nodes (put_node nodes p dropped) w home (place t (suc h)) p n dropped
   parts = record {
     chained = i;
     was = live;
     now = put_here nodes p _;
-    others = put_there nodes p _;
+    others = λ q. put_elsewhere nodes p q _;
     lo = refl;
     hi = refl;
     next = refl;
@@ -218,7 +218,7 @@ module _ (nodes : Nodes) (roots : Tree → Option ℕ) (w : Forest) (f : WellFor
     smaller = subst (λ z. length (unpointed c es) ≤ count z) (sym index) (length_unpointed c es);
     not_merging = not_merging;
     calm = λ u. refl;
-    parent = λ u. false_true n.merging not_merging u;
+    parent = λ u. not_both n.merging not_merging u;
     comes = λ q y e. elim (same_or_not q c) [ inl a ↦ none_some (sym (ap home a ∙ home_c) ∙ e) | inr a ↦ sym (home_other q a) ∙ e ];
     stays = λ q y e. elim (same_or_not q c) [
       | inl a ↦ inr (has ∙ ap Some (sym a), λ j. out (subst (λ z. In z (w.chain (place t h))) a (subst (λ z. In q (w.chain z)) (some_is (sym e ∙ ap w.home a ∙ c_pointer.homed)) j)))

@@ -1,39 +1,33 @@
 -- What a node's own functions make of it is what the laws ask for: halves, joined pages, pointers.
-use Rattle.std.proofs.Common.{◌≡◌, ℕ, zero, suc, ◌-◌, ◌/◌, ◌≤◌, T, List, [], ◌∷◌, ◌++◌, length, Some, sym, refl, ap, ◌∙◌, subst, inl, inr, ◌⊎◌, is_lt, Ordering, Less, Equal, Greater, arith}
+use Rattle.std.proofs.Common.{◌≡◌, ℕ, zero, suc, ◌-◌, ◌/◌, ◌≤◌, T, List, [], ◌∷◌, ◌++◌, length, Some, sym, refl, ap, ◌∙◌, subst, inl, inr, ◌⊎◌, arith}
 use Rattle.std.proofs.lemmas.List.{take-append-drop, length-take-le, length-drop}
 use Rattle.std.specs.List.{AllByRecursion}
 use Rattle.std.specs.FinMap.{is_sorted}
 use Rattle.std.specs.FinMap.Entries.{below_all}
-use Rattle.sled_nodes.proofs.Basics.{none_some, left_of, right_of, both_of}
+use Rattle.sled_nodes.proofs.Basics.{none_some, left_of, right_of, both_of, less_of}
 use Rattle.sled_store.specs.In.{In}
 use Rattle.sled_nodes.specs.Order.{Key, key_cmp, Below, UpTo}
 use Rattle.sled_nodes.specs.Node.{Within, pointers, count}
 use Rattle.sled_nodes.specs.Halves.{first_half, second_half, first_half_of, second_half_of, first_key_of, left_half, right_half, appended, after_receiving}
 use Rattle.sled_nodes.specs.Halves as halves
 use Rattle.sled_nodes.specs.Posting as posting
-use Rattle.tree_laws.specs.theory.StageLaws.{HalvedLaw, JoinedLaw, BeforeLaw}
+use Rattle.tree_laws.specs.theory.StageLaws.{HalvedLaw, JoinedLaw, BeforeLaw, IsHalved, IsJoined}
 use Rattle.sled_nodes.specs.Among.{IsBefore}
 use Rattle.sled_nodes.specs.declared.node.Node.{Node}
 use Rattle.sled_nodes.specs.declared.node.Data.{Data}
 use Rattle.sled_nodes.specs.declared.node.Data.TheVariants.{Leaf, Index}
 use Rattle.tree_laws.specs.Forest.{Holds, IsNodeAt, first_key}
 use Rattle.tree_laws.specs.Action.{AreHalvesOf, IsSplit}
-use Rattle.tree_laws.specs.theory.StageLaws.{IsHalved, IsJoined}
 use Rattle.tree_laws.specs.Snapshot.{IsOpen}
 use Rattle.tree_laws.proofs.Order.{upto-refl, upto-below, upto-trans, below-trans, upto_below-trans}
 use Rattle.tree_laws.proofs.Pairs.{each_weaker, each_append, under}
 use Rattle.tree_laws.proofs.Reading.{sorted-append}
 use Rattle.tree_laws.proofs.Runs.{In-right, In-left}
 
-pub less : {o : Ordering} → T (is_lt o) → o ≡ Less
-less {o = Less} p = refl
-less {o = Equal} p = absurd p
-less {o = Greater} p = absurd p
-
 -- what is below all of a list, one by one
 each_above : {X : Type 0} (k : Key) (es : List (Key × X)) → T (below_all key_cmp k es) → AllByRecursion (λ e. Below k e.0) es
 each_above k [] p = tt
-each_above k (e ∷ es) p = (less (left_of _ _ p), each_above k es (right_of _ _ p))
+each_above k (e ∷ es) p = (less_of _ (left_of _ _ p), each_above k es (right_of _ _ p))
 
 each_parts : {X : Type 0} (P : X → Type 0) (xs ys : List X) → AllByRecursion P (xs ++ ys) → AllByRecursion P xs × AllByRecursion P ys
 each_parts P [] ys a = (tt, a)

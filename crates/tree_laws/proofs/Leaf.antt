@@ -8,6 +8,7 @@ use Rattle.sled_store.specs.In.{In}
 use Rattle.sled_nodes.specs.Node.{Covers, with_pair, without_key, Within, pairs, pointers, count, without}
 use Rattle.sled_nodes.specs.Order.{Key, key_cmp, Below}
 use Rattle.sled_store.specs.State.{Nodes}
+use Rattle.sled_store.specs.theory.Facts.{put_here, put_elsewhere}
 use Rattle.sled_nodes.specs.declared.node.Data.{Data}
 use Rattle.sled_nodes.specs.declared.node.Data.TheVariants.{Leaf, Index}
 use Rattle.sled_nodes.specs.declared.node.Node.{Node}
@@ -20,7 +21,6 @@ use Rattle.tree_laws.proofs.Pairs.{each_weaker, put-middle, without-middle}
 use Rattle.tree_laws.proofs.Runs.{In_split}
 use Rattle.tree_laws.proofs.Sizes.{replaced_sized, replaced_grows}
 use Rattle.tree_laws.proofs.Cover.{holds_at}
-use Rattle.tree_laws.proofs.Update.{put_here, put_there}
 use Rattle.tree_laws.proofs.Replace.{Replaces, replaced_kept, replaced_keeps, pairs_of, pairs_else, pairs_old, pairs_new, pairs_low, pairs_high}
 
 abbrev pub with_content : Node → Data → Node
@@ -39,7 +39,7 @@ module _ (nodes : Nodes) (roots : Tree → Option ℕ) (w : Forest) (f : WellFor
         elsewhere = λ y e. refl;
         was = live;
         now = put_here nodes p (Some (with_content n c));
-        others = put_there nodes p (Some (with_content n c));
+        others = λ q. put_elsewhere nodes p q (Some (with_content n c));
         stays = λ q y h. h;
         comes = λ q y h. inl h;
         adds = λ q h. absurd h;

@@ -4,12 +4,12 @@ use Rattle.sled_nodes.proofs.Basics.{none_some, some_is}
 use Rattle.sled_store.specs.In.{In}
 use Rattle.sled_nodes.specs.Order.{Key}
 use Rattle.sled_store.specs.State.{Nodes}
+use Rattle.sled_store.specs.theory.Facts.{put_elsewhere}
 use Rattle.sled_nodes.specs.declared.node.Node.{Node}
 use Rattle.tree_laws.specs.Forest.{Tree, Forest, Place, place, head, Run}
 use Rattle.tree_laws.specs.Snapshot.{Snapshot, nodes_at, IsOrphan}
 use Rattle.tree_laws.specs.theory.Drops.{Leads, Different, IsLeft}
 use Rattle.tree_laws.specs.theory.Laws.{StepsForest, LeftLaw, FreesLeftLaw, after_free}
-use Rattle.tree_laws.proofs.Update.{put_there}
 use Rattle.tree_laws.proofs.Fuel.{run_different}
 use Rattle.tree_laws.proofs.States.{free_law, nodes_freed}
 
@@ -43,7 +43,7 @@ left_off {t} {h} k q stray i = stray (place t h) (k.had q i)
 -- a page that is freed leaves the others of a list that it is not in
 frees_other : {m : Snapshot} {w was : Forest} {t : Tree} {h : ℕ} {from : Option ℕ} {left : List ℕ} (p : ℕ) → ((q : ℕ) → In q left → q ≢ p) → IsLeft m w was t h from left → IsLeft (after_free m p) w was t h from left
 frees_other {m} p off k = record {
-  leads = leads_frame (nodes_at m) (nodes_at (after_free m p)) _ _ (λ q i. ap (λ z. z q) (nodes_freed m p) ∙ put_there (nodes_at m) p None q (off q i)) k.leads;
+  leads = leads_frame (nodes_at m) (nodes_at (after_free m p)) _ _ (λ q i. ap (λ z. z q) (nodes_freed m p) ∙ put_elsewhere (nodes_at m) p q None (off q i)) k.leads;
   different = k.different;
   stray = k.stray;
   had = k.had;

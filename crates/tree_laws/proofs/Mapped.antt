@@ -2,12 +2,12 @@
 use Rattle.std.proofs.Common.{◌≡◌, ℕ, suc, [], Option, Some, None, MatchOption, option_map, sym, refl, ap, ◌∙◌, subst, inl}
 use Rattle.sled_nodes.proofs.Basics.{none_some}
 use Rattle.sled_nodes.specs.declared.node.Data.TheVariants.{Leaf}
+use Rattle.sled_store.specs.theory.Facts.{put_name_here, put_name_elsewhere}
 use Rattle.tree_laws.specs.Forest.{Tree, Forest, place, head, contents}
 use Rattle.tree_laws.specs.Contents.{trees_of}
 use Rattle.tree_laws.specs.Snapshot.{Snapshot, snapshot_of, nodes_at, HasForest}
 use Rattle.tree_laws.specs.theory.Laws.{no_forest, IsAlone, after_creation, after_drop}
 use Rattle.tree_laws.specs.theory.MapLaws.{MapLaw, QuietLaw, ChangedLaw, QuietCrashLaw, WellLaw, PlantsLaw, DropsLaw, NewLaw}
-use Rattle.tree_laws.proofs.Update.{name_here, name_there}
 use Rattle.tree_laws.proofs.Roots.{plant_law, drop_law}
 use Rattle.tree_laws.proofs.States.{planted_law, dropped_law}
 use Rattle.tree_laws.proofs.Fuel.{contents_law}
@@ -69,8 +69,8 @@ plants_law m w t r version number n is unnamed free own alone =
       here = u.1;
       others = u.0.others;
       sized = u.0.sized;
-      map_here = map_law new u.0.after s.is t ∙ ap (λ c. option_map (λ _. c) (new.state.roots t)) u.1 ∙ ap (option_map (λ _. [])) (name_here m.state.roots t (Some r));
-      map_others = λ z off. map_law new u.0.after s.is z ∙ ap (λ c. option_map (λ _. c) (new.state.roots z)) (u.0.others z off) ∙ ap (option_map (λ _. contents (nodes_at m) w z)) (name_there m.state.roots t (Some r) z off) ∙ sym (map_law m w is z);
+      map_here = map_law new u.0.after s.is t ∙ ap (λ c. option_map (λ _. c) (new.state.roots t)) u.1 ∙ ap (option_map (λ _. [])) (put_name_here m.state.roots t (Some r));
+      map_others = λ z off. map_law new u.0.after s.is z ∙ ap (λ c. option_map (λ _. c) (new.state.roots z)) (u.0.others z off) ∙ ap (option_map (λ _. contents (nodes_at m) w z)) (put_name_elsewhere m.state.roots t z (Some r) off) ∙ sym (map_law m w is z);
     }
   where
     no_root : (o : Option ℕ) → m.state.roots t ≡ o → o ≡ None
@@ -88,8 +88,8 @@ drops_law m w t is =
       steps = s;
       others = u.0.others;
       sized = u.0.sized;
-      map_here = map_law new u.0.after s.is t ∙ ap (option_map (λ _. contents (nodes_at new) u.0.after t)) (name_here m.state.roots t None);
-      map_others = λ z off. map_law new u.0.after s.is z ∙ ap (λ c. option_map (λ _. c) (new.state.roots z)) (u.0.others z off) ∙ ap (option_map (λ _. contents (nodes_at m) w z)) (name_there m.state.roots t None z off) ∙ sym (map_law m w is z);
+      map_here = map_law new u.0.after s.is t ∙ ap (option_map (λ _. contents (nodes_at new) u.0.after t)) (put_name_here m.state.roots t None);
+      map_others = λ z off. map_law new u.0.after s.is z ∙ ap (λ c. option_map (λ _. c) (new.state.roots z)) (u.0.others z off) ∙ ap (option_map (λ _. contents (nodes_at m) w z)) (put_name_elsewhere m.state.roots t z None off) ∙ sym (map_law m w is z);
       left = left_law m w t is u.0 u.1;
     }
 

@@ -1,11 +1,9 @@
 -- When lists match.
 use Rattle.std.proofs.Common.{◌≡◌, ℕ, Bool, true, false, cond, nat_eq, List, [], ◌∷◌, sym, refl, ap, ◌∙◌, subst, inl, inr, arith}
+use Rattle.std.proofs.lemmas.Bool.{eqb-true}
 use Rattle.std.proofs.lemmas.Bool.Decides.{nat_tests}
 use Rattle.tree_laws.specs.Crashes.{Stutters}
 use Rattle.tree_laws.specs.theory.CrashLaws.{ahead, once_each, MatchesLaw}
-
-pub same_is : (x y : ℕ) → nat_eq x y ≡ true → x ≡ y
-same_is x y e = grind (arith, nat_tests)
 
 pub itself : (x : ℕ) → nat_eq x x ≡ true
 itself x = grind (arith, nat_tests)
@@ -31,7 +29,7 @@ ahead_repeats x [] xs r = (refl, inl r)
 ahead_repeats x (y ∷ ys) xs r = go (nat_eq x y) refl
   where
     go : (b : Bool) → nat_eq x y ≡ b → Stutters (cond b (y ∷ ys) (x ∷ y ∷ ys)) (x ∷ xs)
-    go true e = (sym (same_is x y e), inr r)
+    go true e = (sym (eqb-true x y e), inr r)
     go false e = (refl, inl r)
 
 once_repeats : (xs : List ℕ) → Stutters (once_each xs) xs

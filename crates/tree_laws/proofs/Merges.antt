@@ -2,6 +2,7 @@
 use Rattle.std.proofs.Common.{◌≡◌, ◌≢◌, ℕ, suc, true, false, List, [], ◌∷◌, Some, None, option_map, sym, refl, ap, ◌∙◌, subst, inl, inr}
 use Rattle.sled_nodes.proofs.Basics.{none_some, some_is}
 use Rattle.sled_store.specs.In.{In}
+use Rattle.sled_store.specs.theory.Facts.{put_here, put_elsewhere}
 use Rattle.sled_nodes.specs.Halves.{after_receiving}
 use Rattle.sled_nodes.specs.Node.{pointers, after_link, after_intention}
 use Rattle.sled_nodes.specs.Order.{Key, Below}
@@ -18,8 +19,7 @@ use Rattle.tree_laws.specs.Stages.{IsFrozen, child_of}
 use Rattle.tree_laws.specs.theory.StageLaws.{StoodMergesLaw, IntendAction, ChildSeeks, ChildCaps, CapAction, SeekLaw, ReceiveAction, ReceiveLate, ConfirmAction}
 use Rattle.tree_laws.proofs.Pairs.{not_below_empty}
 use Rattle.tree_laws.proofs.Runs.{In-right}
-use Rattle.tree_laws.proofs.Update.{put_here, put_there}
-use Rattle.tree_laws.proofs.Replace.{false_true}
+use Rattle.tree_laws.proofs.Replace.{not_both}
 use Rattle.tree_laws.proofs.Cover.{later_in}
 use Rattle.tree_laws.proofs.Inside.{behind, reached_law, covers_itself}
 use Rattle.tree_laws.proofs.Flags.{intention_law, cap_law, confirm_law}
@@ -50,7 +50,7 @@ intend_action m w t number aim a version node is current unused k =
     let node_now : nodes_at new p ≡ Some taken = ap (option_map (λ (z : Page). z.node)) live in
     let stood = acts.goes.keeps.stood (place t (suc h)) p n (λ e. none_some e) here.chained here.live in
     let same : stood.0 ≡ taken = some_is (sym stood.1 ∙ node_now) in
-    let chained : In p (u.after.chain (place t (suc h))) = elim stood.3 [ inl i ↦ i | inr y ↦ false_true n.merging here.is_open.not_merging (subst (λ (z : Node). z.merging ≡ true) same y) ] in (
+    let chained : In p (u.after.chain (place t (suc h))) = elim stood.3 [ inl i ↦ i | inr y ↦ not_both n.merging here.is_open.not_merging (subst (λ (z : Node). z.merging ≡ true) same y) ] in (
       u.after,
       record {
         acts = acts;
@@ -86,7 +86,7 @@ child_caps m w t number aim a version d is named live calm k = record {
     | inr b ↦ elim b [
       | inl e ↦ none_some (sym e ∙ node)
       | inr b ↦ elim b [
-        | inl x ↦ false_true d.merging calm.not_merging (subst (λ (z : Node). z.merging ≡ true) (some_is (sym x.1 ∙ node)) x.2)
+        | inl x ↦ not_both d.merging calm.not_merging (subst (λ (z : Node). z.merging ≡ true) (some_is (sym x.1 ∙ node)) x.2)
         | inr x ↦ x
       ]
     ]
@@ -125,7 +125,7 @@ cap_action m w t number aim a version node is current unused k =
     let b = is.formed.child (place t (suc h)) up.parent up.node up.chained up.live c up.child in
     let g = is.formed.pointer t h up.parent up.node up.chained up.live b.0 c (later_in up.node.content b.0 c b.1) in
     let p = is.formed.page (place t h) c g.homed in
-    let chained : In c (w.chain (place t h)) = elim p.1.stands [ inl i ↦ i | inr y ↦ false_true a.node.merging k.is_open.not_merging (subst (λ (z : Node). z.merging ≡ true) (some_is (sym p.1.live ∙ live)) y) ] in
+    let chained : In c (w.chain (place t h)) = elim p.1.stands [ inl i ↦ i | inr y ↦ not_both a.node.merging k.is_open.not_merging (subst (λ (z : Node). z.merging ≡ true) (some_is (sym p.1.live ∙ live)) y) ] in
     let u = cap_law (nodes_at m) m.state.roots w is.formed (place t h) c a.node (record { chained = chained; live = live; is_open = k.is_open }) up.parent up.node up.chained up.live up.child in
     let acts : KeepsForest [] [] m w new u.after = unseen_acts c _ (record { version = version; node = next }) is current.page (subst (λ (z : Node). z.merging ≡ false) (sym node_is) k.is_open.not_merging) unused (inl (place t h, g.homed)) u tt in
     let there : new.state.pages c ≡ Some (record { version = version; node = next }) = put_here m.state.pages c (Some (record { version = version; node = next })) in (
@@ -216,11 +216,11 @@ receive_action m w t number aim a version node is current unused k =
     let r = (joined_law n d).joined h (sound_at f x p n here.chained here.live) (sound_at f x c d there.0 there.1) meets k.before (covers_itself f x c d there.0 there.1).1 in
     let u = receive_law (nodes_at m) m.state.roots w f x p c n d both here k.next there.1 k.frozen.capped r in
     let acts : KeepsForest [] [] m w new u.0.after = unseen_acts p _ (record { version = version; node = both }) is current.page (awake_now k.seen current) unused (inl (x, f.homed x p here.chained)) u.0 k.fits.fits in
-    let off : c ≢ p = λ e. false_true d.merging (subst (λ (z : Node). z.merging ≡ false) (some_is (sym here.live ∙ ap (nodes_at m) (sym e) ∙ there.1)) here.is_open.not_merging) k.frozen.capped in
+    let off : c ≢ p = λ e. not_both d.merging (subst (λ (z : Node). z.merging ≡ false) (some_is (sym here.live ∙ ap (nodes_at m) (sym e) ∙ there.1)) here.is_open.not_merging) k.frozen.capped in
     let frozen : IsFrozen new c a.version d = record {
       page = k.frozen.page;
       capped = k.frozen.capped;
-      now = elim k.frozen.now [ inl e ↦ inl (put_there m.state.pages p _ c off ∙ e) | inr e ↦ inr (put_there m.state.pages p _ c off ∙ e) ];
+      now = elim k.frozen.now [ inl e ↦ inl (put_elsewhere m.state.pages p c _ off ∙ e) | inr e ↦ inr (put_elsewhere m.state.pages p c _ off ∙ e) ];
     } in (
       u.0.after,
       record {
@@ -255,7 +255,7 @@ confirm_action m w t number aim a version node is current unused k =
             let u = confirm_law (nodes_at m) m.state.roots w is.formed t h p c n i live g.not_merging g.child out in
             let not_merging : node.merging ≡ false = subst (λ (z : Node). z.merging ≡ false) (sym node_is) g.not_merging in
             let s = unseen_acts p _ (record { version = version; node = next }) is current.page not_merging unused (inl (x, is.formed.homed x p i)) u.0 tt in
-            let off : c ≢ p = λ e. false_true n.merging g.not_merging (subst (λ (z : Node). z.merging ≡ true) (some_is (sym (ap (option_map (λ (z : Page). z.node)) there) ∙ ap (nodes_at m) e ∙ live)) r.frozen.capped) in (
+            let off : c ≢ p = λ e. not_both n.merging g.not_merging (subst (λ (z : Node). z.merging ≡ true) (some_is (sym (ap (option_map (λ (z : Page). z.node)) there) ∙ ap (nodes_at m) e ∙ live)) r.frozen.capped) in (
               u.0.after,
               record {
                 acts = record {
@@ -266,7 +266,7 @@ confirm_action m w t number aim a version node is current unused k =
                   grows = s.grows;
                 };
                 same = unseen_same m p (record { version = version; node = next }) u.0;
-                knows = record { node = d; own = record { live = put_there m.state.pages p _ c off ∙ there; stray = u.1 } };
+                knows = record { node = d; own = record { live = put_elsewhere m.state.pages p c _ off ∙ there; stray = u.1 } };
               },
             )
       ]

@@ -10,7 +10,7 @@ use Rattle.tree_laws.proofs.Cover.{child_below}
 use Rattle.tree_laws.specs.Snapshot.{IsOrphan}
 use Rattle.tree_laws.specs.theory.Snapshot.{GrowsByReceiving, KeepsNodes}
 use Rattle.tree_laws.proofs.Runs.{run_frame}
-use Rattle.tree_laws.proofs.Replace.{false_true}
+use Rattle.tree_laws.proofs.Replace.{not_both}
 
 one : {n m : Node} → Some n ≡ Some m → n ≡ m
 one e = cc
@@ -60,7 +60,7 @@ module _ (nodes new : Nodes) (roots : Tree → Option ℕ) (w : Forest) (same : 
     capped = λ p n live t. keep p n live;
     stray = λ p s o. (own p s o, s);
     left = λ x p n live t o. o;
-    wakes = λ x p n m i was not_merging now t. false_true m.merging (subst (λ (z : Node). z.merging ≡ false) (one (sym was ∙ sym (chained x p i) ∙ now)) not_merging) t;
+    wakes = λ x p n m i was not_merging now t. not_both m.merging (subst (λ (z : Node). z.merging ≡ false) (one (sym was ∙ sym (chained x p i) ∙ now)) not_merging) t;
     child = λ x p c n o i was is. inl (i, (n, chained x p i ∙ was, is));
   }
 

@@ -5,8 +5,8 @@ use Rattle.std.specs.Str.{bytes_eq}
 use Rattle.std.specs.Bool.{Decides}
 use Rattle.std.proofs.lemmas.Slice.Eq.{bytes_eq-Decides}
 use Rattle.std.proofs.lemmas.Bool.Decides.{nat_tests}
-use Rattle.sled_nodes.proofs.Basics.{none_some, some_is}
 use mathlib.Core.List.{reverse}
+use Rattle.sled_nodes.proofs.Basics.{none_some, some_is}
 use Rattle.sled_store.specs.In.{In}
 use Rattle.sled_nodes.specs.Image.{root_in}
 use Rattle.sled_nodes.specs.Node.{pointers, count}
@@ -20,7 +20,7 @@ use Rattle.tree_laws.specs.theory.Images.{image, Accepts, selves, key, leaf, cap
 use Rattle.tree_laws.specs.Paths.{tree_pages, pages_below}
 use Rattle.tree_laws.proofs.Fuel.{contents_law}
 use Rattle.tree_laws.proofs.Looking.{pages_law}
-use Rattle.tree_laws.proofs.Replace.{false_true, head_in}
+use Rattle.tree_laws.proofs.Replace.{not_both, head_in}
 use Rattle.tree_laws.proofs.Accepted.{forest_of, IsStanding, IsAtHome, IsForest, formed, sized}
 
 zero_suc : {P : Type 0} {g : ℕ} → 0 ≡ suc g → P
@@ -46,7 +46,7 @@ leaf_stands nodes w t p lo hi next m es live home = record {
 pub open_home : (nodes : Nodes) (w : Forest) (t : Tree) (p h : ℕ) (n : Node) → nodes p ≡ Some n → In p (w.chain (place t h)) → n.merging ≡ false → IsNodeAt h n → count n.content ≤ 33 → IsAtHome nodes w t p h
 open_home nodes w t p h n live i not_merging sound fits = record {
   node = n;
-  is = record { live = live; sound = sound; stands = inl i; calm = λ e. false_true n.merging not_merging e; parent = λ e. false_true n.merging not_merging e };
+  is = record { live = live; sound = sound; stands = inl i; calm = λ e. not_both n.merging not_merging e; parent = λ e. not_both n.merging not_merging e };
   fits = fits;
 }
 
@@ -196,7 +196,7 @@ module _ (nodes : Nodes) (w : Forest) where
   }
 
   pub pointer_open : (n d : Node) (k : Key) (c : ℕ) → nodes c ≡ Some d → w.home c ≡ Some (place one_tree 0) → d.lo ≡ k → d.merging ≡ false → IsPointer nodes w n one_tree 0 k c
-  pointer_open n d k c live home lo not_merging = record { node = d; live = live; homed = home; key = lo; merged = λ e. false_true d.merging not_merging e }
+  pointer_open n d k c live home lo not_merging = record { node = d; live = live; homed = home; key = lo; merged = λ e. not_both d.merging not_merging e }
 
   -- the index 3 with the pointer to the first leaf alone
   first_stands : (n : Node) → nodes 1 ≡ Some n → n.lo ≡ [] → n.merging ≡ false → nodes 3 ≡ Some (over first_only) → w.home 1 ≡ Some (place one_tree 0) → w.home 3 ≡ Some (place one_tree 1) → head (w.chain (place one_tree 0)) ≡ Some 1 → IsStanding nodes w one_tree 1 3

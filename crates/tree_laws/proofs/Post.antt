@@ -6,14 +6,14 @@ use Rattle.sled_store.specs.In.{In}
 use Rattle.sled_nodes.specs.Node.{Within, pairs, pointers}
 use Rattle.sled_nodes.specs.Order.{Key, key_cmp, Below}
 use Rattle.sled_store.specs.State.{Nodes}
+use Rattle.sled_store.specs.theory.Facts.{put_here}
 use Rattle.sled_nodes.specs.declared.node.Data.TheVariants.{Index}
 use Rattle.sled_nodes.specs.declared.node.Node.{Node}
 use Rattle.tree_laws.specs.theory.Action.{put_node}
 use Rattle.tree_laws.specs.Forest.{IsNodeAt, later, first_key, first_child, Holds, Forest, Place, place, IsPointer, WellFormed, node_pairs, Tree}
 use Rattle.tree_laws.specs.theory.PageLaws.{IsOpenAt, Unseen, PostLaw}
 use Rattle.tree_laws.proofs.Pairs.{above}
-use Rattle.tree_laws.proofs.Update.{put_here}
-use Rattle.tree_laws.proofs.Replace.{false_true, replaced_kept, replaced_keeps, pairs_kept}
+use Rattle.tree_laws.proofs.Replace.{not_both, replaced_kept, replaced_keeps, pairs_kept}
 use Rattle.tree_laws.proofs.Cover.{holds_at}
 use Rattle.tree_laws.proofs.Leaf.{with_content, in_place, in_place_sized, in_place_grows, each_put}
 use Rattle.tree_laws.proofs.Split.{pointer_like}
@@ -63,7 +63,7 @@ module _ (nodes : Nodes) (roots : Tree → Option ℕ) (w : Forest) (f : WellFor
       live = ap nodes a.0 ∙ there;
       homed = ap w.home a.0 ∙ home ∙ ap Some (lower t h u g at);
       key = sym a.1;
-      merged = λ v. false_true d.merging up v;
+      merged = λ v. not_both d.merging up v;
     }
   ]
     where

@@ -5,13 +5,14 @@ use Rattle.sled_store.specs.In.{In}
 use Rattle.sled_nodes.specs.Node.{pairs, pointers, count}
 use Rattle.sled_nodes.specs.Order.{Key, Below}
 use Rattle.sled_store.specs.State.{Nodes}
+use Rattle.sled_store.specs.theory.Facts.{put_here, put_elsewhere}
 use Rattle.sled_nodes.specs.declared.node.Node.{Node}
 use Rattle.tree_laws.specs.theory.Action.{put_node, IsReceived}
 use Rattle.tree_laws.specs.Forest.{IsSized, Forest, Place, place, Run, IsPointer, WellFormed, node_pairs, head, Tree}
 use Rattle.tree_laws.specs.theory.PageLaws.{IsOpenAt, Unseen, ReceiveLaw}
 use Rattle.tree_laws.proofs.Order.{below-trans, below_irrefl}
 use Rattle.tree_laws.proofs.Runs.{In_split, In-right, In_cases, run_parts, run_to, rises_on}
-use Rattle.tree_laws.proofs.Update.{put_here, put_there, put_chain, chain_here, chain_there}
+use Rattle.tree_laws.proofs.Update.{put_chain, chain_here, chain_there}
 use Rattle.tree_laws.proofs.Sizes.{replaced_sized, replaced_grows}
 use Rattle.tree_laws.proofs.Replace.{same_place, Replaces, replaced_kept, replaced_keeps, pairs_of, pairs_kept, behind_first}
 use Rattle.tree_laws.proofs.Split.{halves_count, halves_pairs, halves_pointers, halves_first, pointer_like}
@@ -91,7 +92,7 @@ module _ (nodes : Nodes) (roots : Tree → Option ℕ) (w : Forest) (f : WellFor
     elsewhere = chain_there w.chain x _;
     was = live;
     now = put_here nodes p (Some both);
-    others = put_there nodes p (Some both);
+    others = λ q. put_elsewhere nodes p q (Some both);
     stays = λ q y h. h;
     comes = λ q y h. inl h;
     adds = λ q h. absurd h;

@@ -8,7 +8,7 @@ use Rattle.sled_store.specs.State.{Nodes}
 use Rattle.sled_nodes.specs.declared.node.Node.{Node}
 use Rattle.tree_laws.specs.Forest.{first_child, later, IsNodeAt, Forest, Place, place, Run, IsHomed, IsPointer, WellFormed, IsSized, contents, node_pairs, head, Tree}
 use Rattle.tree_laws.specs.theory.Snapshot.{KeepsNodes, GrowsByReceiving}
-use Rattle.tree_laws.proofs.Replace.{false_true, pairs_of}
+use Rattle.tree_laws.proofs.Replace.{not_both, pairs_of}
 use Rattle.tree_laws.proofs.Cover.{later_in, one_parent, child_below}
 
 pub record Reflags (nodes new : Nodes) (w : Forest) (home : ℕ → Option Place) (x : Place) (p : ℕ) (n m : Node) : Type 0 where
@@ -197,7 +197,7 @@ module _ {nodes new : Nodes} {roots : Tree → Option ℕ} {w : Forest} {home : 
           let at : x ≡ y = some_is (sym p_home ∙ ap w.home (sym g) ∙ f.homed y q i) in
           let o = r.parent (subst (λ (z : Node). z.merging ≡ true) (is_m q e g now) t) in
           (o.0, o.1, subst (λ (z : Place). In o.0 (w.chain (place z.tree (suc z.height)))) at o.2, o.3, o.4 ∙ ap Some (sym g))
-      | inr g ↦ false_true e.merging (subst (λ (z : Node). z.merging ≡ false) (some_is (sym was ∙ sym (r.others q g) ∙ now)) not_merging) t
+      | inr g ↦ not_both e.merging (subst (λ (z : Node). z.merging ≡ false) (some_is (sym was ∙ sym (r.others q g) ∙ now)) not_merging) t
     ];
     child = λ y q c d o i was is.
         let b = child_below f y q d c i was is in
@@ -213,7 +213,7 @@ module _ {nodes new : Nodes} {roots : Tree → Option ℕ} {w : Forest} {home : 
   }
     where
       asleep : (q : ℕ) (d : Node) → q ≡ p → nodes q ≡ Some d → d.merging ≡ true → (new q ≡ Some d) ⊎ (new q ≡ None)
-      asleep q d e live t = false_true n.merging r.not_merging (subst (λ (z : Node). z.merging ≡ true) (is_n q d e live) t)
+      asleep q d e live t = not_both n.merging r.not_merging (subst (λ (z : Node). z.merging ≡ true) (is_n q d e live) t)
 
   pub reflagged_grows : GrowsByReceiving nodes new w
   reflagged_grows = record {

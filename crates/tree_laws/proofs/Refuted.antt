@@ -7,6 +7,7 @@ use Rattle.sled_nodes.specs.Node.{count, Within, after_link}
 use Rattle.sled_nodes.specs.Order.{Key, key_cmp}
 use Rattle.sled_store.specs.State.{Nodes, nodes_of}
 use Rattle.sled_store.specs.Update.{put_at, put_name}
+use Rattle.sled_store.specs.theory.Facts.{put_elsewhere}
 use Rattle.sled_nodes.specs.declared.link.Link.TheVariants.{Set}
 use Rattle.sled_nodes.specs.declared.node.Node.{Node}
 use Rattle.sled_store.specs.declared.page.Page.{Page}
@@ -22,7 +23,6 @@ use Rattle.tree_laws.proofs.Accepted.{forest_of, IsForest, formed, sized}
 use Rattle.tree_laws.proofs.Faulty.{run_on, run_at, homed_is, index_first}
 use Rattle.tree_laws.proofs.Pictures.{leaf_stands, open_home, index_stands, pointer_open, rooted, alone, left_sound, whole_sound, both_sound, left_below, intended_forest, eight, two_few}
 use Rattle.tree_laws.proofs.Roots.{plant_law}
-use Rattle.tree_laws.proofs.Update.{put_there}
 
 -- a merging child of 17 entries
 abbrev long : Node
@@ -155,7 +155,7 @@ lone = record {
 lone_page : (p : ℕ) (g : Page) → lone.state.pages p ≡ Some g → (p ≡ 1) × (page 0 ≡ g)
 lone_page p g e = elim (same_or_not p 1) [
   | inl is ↦ (is, some_is (ap lone.state.pages (sym is) ∙ e))
-  | inr off ↦ none_some (sym (put_there (λ q. None) 1 (Some (page 0)) p off) ∙ e)
+  | inr off ↦ none_some (sym (put_elsewhere (λ q. None) 1 p (Some (page 0)) off) ∙ e)
 ]
 
 lone_low : 1 < 2 ^ 64
@@ -193,7 +193,7 @@ replace_of_stray law =
     same : (p : ℕ) → put_node (nodes_of lone.state) 1 empty p ≡ nodes_of lone.state p
     same p = elim (same_or_not p 1) [
       | inl is ↦ subst (λ q. put_node (nodes_of lone.state) 1 empty q ≡ nodes_of lone.state q) (sym is) refl
-      | inr off ↦ put_there (nodes_of lone.state) 1 (Some empty) p off
+      | inr off ↦ put_elsewhere (nodes_of lone.state) 1 p (Some empty) off
     ]
 
     keeps : KeepsNodes [] None (nodes_of lone.state) (put_node (nodes_of lone.state) 1 empty) no_forest no_forest

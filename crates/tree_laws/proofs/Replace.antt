@@ -67,8 +67,8 @@ pub record Replaces (nodes new : Nodes) (w v : Forest) (x : Place) (p : ℕ) (n 
   pub child : (c : ℕ) → m.merging_child ≡ Some c → (k : Key) × In (k, c) (later (pointers m.content))
   pub pointer : (t : Tree) (h : ℕ) → x ≡ place t (suc h) → (k : Key) (c : ℕ) → In (k, c) (pointers m.content) → IsPointer nodes w m t h k c
 
-pub false_true : {P : Type 0} (b : Bool) → b ≡ false → b ≡ true → P
-false_true b e f = cc
+pub not_both : {P : Type 0} (b : Bool) → b ≡ false → b ≡ true → P
+not_both b e f = cc
 
 head-append : (xs ys zs : List ℕ) (p : ℕ) → head (xs ++ (p ∷ ys)) ≡ head (xs ++ (p ∷ zs))
 head-append [] ys zs p = refl
@@ -178,8 +178,8 @@ module _ {nodes new : Nodes} {roots : Tree → Option ℕ} {w v : Forest} {x : P
               live = ap new e ∙ r.now;
               sound = subst (λ (z : Place). IsNodeAt z.height m) is r.sound;
               stands = inl (subst (λ z. In q (v.chain z)) is (subst (λ z. In z (v.chain x)) (sym e) p_in_new));
-              calm = λ t. false_true _ r.merging t;
-              parent = λ t. false_true _ r.merging t;
+              calm = λ t. not_both _ r.merging t;
+              parent = λ t. not_both _ r.merging t;
             },
           )
       | inr e ↦
@@ -204,8 +204,8 @@ module _ {nodes new : Nodes} {roots : Tree → Option ℕ} {w v : Forest} {x : P
             live = r.others q (λ e. a.was x (ap w.home e ∙ p_home)) ∙ a.live;
             sound = subst (λ (z : Place). IsNodeAt z.height a.node) (sym b.1) a.sound;
             stands = inl (subst (λ z. In q (v.chain z)) (sym b.1) (subst (λ c. In q c) (sym r.after) (In-right xs _ q (inr (In-left added ys q b.0)))));
-            calm = λ t. false_true _ a.merging t;
-            parent = λ t. false_true _ a.merging t;
+            calm = λ t. not_both _ a.merging t;
+            parent = λ t. not_both _ a.merging t;
           },
         )
   ]
@@ -260,7 +260,7 @@ module _ {nodes new : Nodes} {roots : Tree → Option ℕ} {w v : Forest} {x : P
           live = ap new e ∙ r.now;
           homed = r.stays c _ i.homed;
           key = r.lo ∙ ap (λ (z : Node). z.lo) (sym is) ∙ i.key;
-          merged = λ u. false_true _ r.merging u;
+          merged = λ u. not_both _ r.merging u;
         }
     | inr e ↦ record { node = i.node; live = r.others c e ∙ i.live; homed = r.stays c _ i.homed; key = i.key; merged = i.merged }
   ]
@@ -369,7 +369,7 @@ module _ {nodes new : Nodes} {roots : Tree → Option ℕ} {w v : Forest} {x : P
       (subst (λ (z : Node). Within z.lo z.hi k) (sym node) h)
 
   off_merging : (q : ℕ) (d : Node) → nodes q ≡ Some d → d.merging ≡ true → q ≢ p
-  off_merging q d live t e = false_true d.merging (subst (λ (z : Node). z.merging ≡ false) (some_is (sym r.was ∙ ap nodes (sym e) ∙ live)) r.merging_was) t
+  off_merging q d live t e = not_both d.merging (subst (λ (z : Node). z.merging ≡ false) (some_is (sym r.was ∙ ap nodes (sym e) ∙ live)) r.merging_was) t
 
   stood_on : (y : Place) (q : ℕ) (d : Node) → In q (w.chain y) → nodes q ≡ Some d → IsInChain new v y d.lo q
   stood_on y q d i live = elim (chained_after y q i) [
@@ -393,11 +393,11 @@ module _ {nodes new : Nodes} {roots : Tree → Option ℕ} {w v : Forest} {x : P
     );
     left = λ y q d live t out i. elim (chained_before y q i) [
       | inl a ↦ out a
-      | inr b ↦ let a = r.adds q b.0 in false_true a.node.merging a.merging (subst (λ (z : Node). z.merging ≡ true) (some_is (sym live ∙ a.live)) t)
+      | inr b ↦ let a = r.adds q b.0 in not_both a.node.merging a.merging (subst (λ (z : Node). z.merging ≡ true) (some_is (sym live ∙ a.live)) t)
     ];
     wakes = λ y q d e i was not_merging now t. elim (same_or_not q p) [
-      | inl g ↦ false_true e.merging (subst (λ (z : Node). z.merging ≡ false) (some_is (sym r.now ∙ ap new (sym g) ∙ now)) r.merging) t
-      | inr g ↦ false_true e.merging (subst (λ (z : Node). z.merging ≡ false) (some_is (sym was ∙ sym (r.others q g) ∙ now)) not_merging) t
+      | inl g ↦ not_both e.merging (subst (λ (z : Node). z.merging ≡ false) (some_is (sym r.now ∙ ap new (sym g) ∙ now)) r.merging) t
+      | inr g ↦ not_both e.merging (subst (λ (z : Node). z.merging ≡ false) (some_is (sym was ∙ sym (r.others q g) ∙ now)) not_merging) t
     ];
     child = λ y q c d k i was is. let o = parent_on y q c d i was is in inl o;
   }

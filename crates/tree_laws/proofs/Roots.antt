@@ -7,6 +7,7 @@ use Rattle.sled_nodes.specs.Node.{pairs, pointers, count}
 use Rattle.sled_nodes.specs.Order.{Key, key_cmp, Below}
 use Rattle.sled_store.specs.State.{Nodes}
 use Rattle.sled_store.specs.Update.{put_at, put_name}
+use Rattle.sled_store.specs.theory.Facts.{put_here, put_elsewhere, put_name_here, put_name_elsewhere}
 use Rattle.sled_nodes.specs.declared.node.Data.{Data}
 use Rattle.sled_nodes.specs.declared.node.Data.TheVariants.{Leaf, Index}
 use Rattle.sled_nodes.specs.declared.node.Node.{Node}
@@ -14,8 +15,8 @@ use Rattle.tree_laws.specs.Forest.{first_child, later, Holds, IsNodeAt, Forest, 
 use Rattle.tree_laws.specs.Snapshot.{IsOrphan}
 use Rattle.tree_laws.specs.theory.Laws.{Rooted, HoistLaw, PlantLaw, DropLaw}
 use Rattle.tree_laws.proofs.Order.{upto-refl, upto-below}
-use Rattle.tree_laws.proofs.Update.{put_here, put_there, name_here, name_there, put_chain, chain_here, chain_there}
-use Rattle.tree_laws.proofs.Replace.{same_tree, same_place, false_true, head_in, pairs_of}
+use Rattle.tree_laws.proofs.Update.{put_chain, chain_here, chain_there}
+use Rattle.tree_laws.proofs.Replace.{same_tree, same_place, not_both, head_in, pairs_of}
 
 -- a page with no place becomes the one page of an empty level
 pub record Raises (nodes : Nodes) (roots : Tree → Option ℕ) (w : Forest) (t : Tree) (h r : ℕ) (n : Node) : Type 0 where
@@ -63,7 +64,7 @@ module _ {nodes : Nodes} {roots : Tree → Option ℕ} {w : Forest} {t : Tree} {
   r_home = put_here w.home r (Some (place t h))
 
   home_on : (p : ℕ) (y : Place) → w.home p ≡ Some y → raised.home p ≡ Some y
-  home_on p y e = put_there w.home r (Some (place t h)) p (λ s. a.stray y (ap w.home (sym s) ∙ e)) ∙ e
+  home_on p y e = put_elsewhere w.home r p (Some (place t h)) (λ s. a.stray y (ap w.home (sym s) ∙ e)) ∙ e
 
   pointer_on : (d : Node) (u : Tree) (g : ℕ) (k : Key) (c : ℕ) → IsPointer nodes w d u g k c → IsPointer nodes raised d u g k c
   pointer_on d u g k c i = record { node = i.node; live = i.live; homed = home_on c (place u g) i.homed; key = i.key; merged = i.merged }
@@ -77,12 +78,12 @@ module _ {nodes : Nodes} {roots : Tree → Option ℕ} {w : Forest} {t : Tree} {
             live = ap nodes s ∙ a.live;
             sound = subst (λ (z : Place). IsNodeAt z.height n) at a.sound;
             stands = inl (subst (λ z. In p (raised.chain z)) at (subst (λ c. In p c) (sym here) (inl s)));
-            calm = λ v. false_true n.merging a.merging v;
-            parent = λ v. false_true n.merging a.merging v;
+            calm = λ v. not_both n.merging a.merging v;
+            parent = λ v. not_both n.merging a.merging v;
           },
         )
     | inr s ↦
-        let i = f.page y p (sym (put_there w.home r (Some (place t h)) p s) ∙ e) in (
+        let i = f.page y p (sym (put_elsewhere w.home r p (Some (place t h)) s) ∙ e) in (
           i.0,
           record {
             live = i.1.live;
@@ -143,10 +144,10 @@ module _ {nodes : Nodes} {roots : Tree → Option ℕ} {w : Forest} {t : Tree} {
   top_new : (u : Tree) → MatchOption (put_name roots t (Some r) u) ((g : ℕ) → raised.chain (place u g) ≡ []) (λ q. (g : ℕ) × (head (raised.chain (place u g)) ≡ Some q) × (raised.chain (place u (suc g)) ≡ []))
   top_new u = elim (same_tree u t) [
     | inl e ↦ subst (λ o. MatchOption o ((g : ℕ) → raised.chain (place u g) ≡ []) (λ q. (g : ℕ) × (head (raised.chain (place u g)) ≡ Some q) × (raised.chain (place u (suc g)) ≡ [])))
-        (sym (ap (put_name roots t (Some r)) e ∙ name_here roots t (Some r)))
+        (sym (ap (put_name roots t (Some r)) e ∙ put_name_here roots t (Some r)))
         (h, ap (λ z. head (raised.chain (place z h))) e ∙ ap head here, ap (λ z. raised.chain (place z (suc h))) e ∙ there (place t (suc h)) (λ s. heights (ap (λ (z : Place). z.height) s)) ∙ a.over)
     | inr e ↦ subst (λ o. MatchOption o ((g : ℕ) → raised.chain (place u g) ≡ []) (λ q. (g : ℕ) × (head (raised.chain (place u g)) ≡ Some q) × (raised.chain (place u (suc g)) ≡ [])))
-        (sym (name_there roots t (Some r) u e)) (go (roots u) e (f.top u))
+        (sym (put_name_elsewhere roots t u (Some r) e)) (go (roots u) e (f.top u))
   ]
     where
       heights : suc h ≡ h → ⊥
@@ -173,15 +174,15 @@ module _ {nodes : Nodes} {roots : Tree → Option ℕ} {w : Forest} {t : Tree} {
     keeps = record {
       stood = λ y p d o i live. (d, live, refl, inl (in_on y p i));
       capped = λ p d live v. inl live;
-      stray = λ p s o. (refl, λ y e. elim (same_or_not p r) [ inl g ↦ o (inl g) | inr g ↦ s y (sym (put_there w.home r (Some (place t h)) p g) ∙ e) ]);
-      left = λ y p d live v o i. elim (split_in y p i) [ inl b ↦ o b | inr b ↦ false_true d.merging (subst (λ (z : Node). z.merging ≡ false) (sym (is_r p d b.0 live)) a.merging) v ];
-      wakes = λ y p d e i was not_merging now v. false_true e.merging (subst (λ (z : Node). z.merging ≡ false) (some_is (sym was ∙ now)) not_merging) v;
+      stray = λ p s o. (refl, λ y e. elim (same_or_not p r) [ inl g ↦ o (inl g) | inr g ↦ s y (sym (put_elsewhere w.home r p (Some (place t h)) g) ∙ e) ]);
+      left = λ y p d live v o i. elim (split_in y p i) [ inl b ↦ o b | inr b ↦ not_both d.merging (subst (λ (z : Node). z.merging ≡ false) (sym (is_r p d b.0 live)) a.merging) v ];
+      wakes = λ y p d e i was not_merging now v. not_both e.merging (subst (λ (z : Node). z.merging ≡ false) (some_is (sym was ∙ now)) not_merging) v;
       child = λ y p c d o i was e. inl (in_on y p i, (d, was, e));
     };
     sized = λ z. record {
       fits = λ y p d e live. elim (same_or_not p r) [
         | inl s ↦ subst (λ (k : Node). count k.content ≤ 33) (sym (is_r p d s live)) a.fits
-        | inr s ↦ z.fits y p d (sym (put_there w.home r (Some (place t h)) p s) ∙ e) live
+        | inr s ↦ z.fits y p d (sym (put_elsewhere w.home r p (Some (place t h)) s) ∙ e) live
       ];
       child = λ y p c d e i live is there. elim (split_in y p i) [
         | inl b ↦ z.child y p c d e b live is there
@@ -379,8 +380,8 @@ module _ (nodes : Nodes) (roots : Tree → Option ℕ) (w : Forest) (f : WellFor
 
   top_cut : (u : Tree) → TopAt cut.chain u (put_name roots t None u)
   top_cut u = elim (same_tree u t) [
-    | inl e ↦ subst (λ o. TopAt cut.chain u o) (sym (ap (put_name roots t None) e ∙ name_here roots t None)) (λ g. chain_gone (place u g) e)
-    | inr e ↦ subst (λ o. TopAt cut.chain u o) (sym (name_there roots t None u e)) (go (roots u) e (f.top u))
+    | inl e ↦ subst (λ o. TopAt cut.chain u o) (sym (ap (put_name roots t None) e ∙ put_name_here roots t None)) (λ g. chain_gone (place u g) e)
+    | inr e ↦ subst (λ o. TopAt cut.chain u o) (sym (put_name_elsewhere roots t u None e)) (go (roots u) e (f.top u))
   ]
     where
       go : (o : Option ℕ) → u ≢ t → TopAt w.chain u o → TopAt cut.chain u o
@@ -407,7 +408,7 @@ module _ (nodes : Nodes) (roots : Tree → Option ℕ) (w : Forest) (f : WellFor
         capped = λ p d live v. inl live;
         stray = λ p s o. (refl, λ y e. s y (home_back p y e).0);
         left = λ y p d live v o i. o (in_back y p i).1;
-        wakes = λ y p d e i was not_merging now v. false_true e.merging (subst (λ (z : Node). z.merging ≡ false) (some_is (sym was ∙ now)) not_merging) v;
+        wakes = λ y p d e i was not_merging now v. not_both e.merging (subst (λ (z : Node). z.merging ≡ false) (some_is (sym was ∙ now)) not_merging) v;
         child = λ y p c d o i was e. inl (in_cut y p (λ g. o (ap Some (sym g))) i, (d, was, e));
       };
       sized = λ z. record {

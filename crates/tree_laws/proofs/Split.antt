@@ -6,6 +6,7 @@ use Rattle.sled_nodes.specs.Node.{pairs, pointers, count}
 use Rattle.sled_nodes.specs.Order.{Key, Below}
 use Rattle.sled_store.specs.State.{Nodes}
 use Rattle.sled_store.specs.Update.{put_at}
+use Rattle.sled_store.specs.theory.Facts.{put_here, put_elsewhere}
 use Rattle.sled_nodes.specs.declared.node.Data.{Data}
 use Rattle.sled_nodes.specs.declared.node.Data.TheVariants.{Leaf, Index}
 use Rattle.sled_nodes.specs.declared.node.Node.{Node}
@@ -15,7 +16,7 @@ use Rattle.tree_laws.specs.Forest.{first_child, Holds, Forest, Place, place, Run
 use Rattle.tree_laws.specs.theory.PageLaws.{IsOpenAt, Unseen, SplitLaw}
 use Rattle.tree_laws.proofs.Pairs.{not_below_empty}
 use Rattle.tree_laws.proofs.Runs.{In_split, In-left, In-right}
-use Rattle.tree_laws.proofs.Update.{put_here, put_there, put_chain, chain_here, chain_there}
+use Rattle.tree_laws.proofs.Update.{put_chain, chain_here, chain_there}
 use Rattle.tree_laws.proofs.Sizes.{replaced_sized, replaced_grows}
 use Rattle.tree_laws.proofs.Replace.{IsAdded, Replaces, replaced_kept, replaced_keeps, pairs_of, pairs_kept}
 
@@ -89,13 +90,13 @@ module _ (nodes : Nodes) (roots : Tree → Option ℕ) (w : Forest) (f : WellFor
 
   home_on : (z : ℕ) (y : Place) → w.home z ≡ Some y → split_forest.home z ≡ Some y
   unfolding split_forest
-  home_on z y e = put_there w.home q (Some x) z (λ is. stray y (ap w.home (sym is) ∙ e)) ∙ e
+  home_on z y e = put_elsewhere w.home q z (Some x) (λ is. stray y (ap w.home (sym is) ∙ e)) ∙ e
 
   home_off : (z : ℕ) (y : Place) → split_forest.home z ≡ Some y → (w.home z ≡ Some y) ⊎ (In z (q ∷ []) × (y ≡ x))
   unfolding split_forest
   home_off z y e = elim (same_or_not z q) [
     | inl is ↦ inr (inl is, some_is (sym e ∙ ap (put_at w.home q (Some x)) is ∙ put_here w.home q (Some x)))
-    | inr off ↦ inl (sym (put_there w.home q (Some x) z off) ∙ e)
+    | inr off ↦ inl (sym (put_elsewhere w.home q z (Some x) off) ∙ e)
   ]
 
   added : IsAdded nodes w split_forest x q
@@ -128,7 +129,7 @@ module _ (nodes : Nodes) (roots : Tree → Option ℕ) (w : Forest) (f : WellFor
         record { live = put_here nodes p (Some left); here = refl; lo_is = sym s.left_lo; rises = inr (subst (λ k. Below k left.hi) (sym s.left_lo) (subst (λ k. Below n.lo k) (sym s.left_hi) s.apart)) },
         (
           right,
-          record { live = put_there nodes p (Some left) q q_off ∙ there; here = s.left_next; lo_is = s.left_hi; rises = late },
+          record { live = put_elsewhere nodes p q (Some left) q_off ∙ there; here = s.left_next; lo_is = s.left_hi; rises = late },
           (s.right_next ∙ end.0, s.right_hi ∙ end.1),
         ),
       )
@@ -143,7 +144,7 @@ module _ (nodes : Nodes) (roots : Tree → Option ℕ) (w : Forest) (f : WellFor
         elsewhere = chain_there w.chain x _;
         was = live;
         now = put_here nodes p (Some left);
-        others = put_there nodes p (Some left);
+        others = λ z. put_elsewhere nodes p z (Some left);
         stays = home_on;
         comes = home_off;
         adds = λ z h. elim h [ inl e ↦ subst (λ z. IsAdded nodes w split_forest x z) (sym e) added | inr e ↦ absurd e ];
@@ -165,7 +166,7 @@ module _ (nodes : Nodes) (roots : Tree → Option ℕ) (w : Forest) (f : WellFor
   same_pairs : pairs_of new (p ∷ (q ∷ [])) ≡ pairs_of nodes (p ∷ [])
   unfolding new
   same_pairs =
-      ap (λ z. node_pairs z ++ pairs_of new (q ∷ [])) (put_here nodes p (Some left)) ∙ ap (λ z. pairs left.content ++ (node_pairs z ++ [])) (put_there nodes p (Some left) q q_off ∙ there)
+      ap (λ z. node_pairs z ++ pairs_of new (q ∷ [])) (put_here nodes p (Some left)) ∙ ap (λ z. pairs left.content ++ (node_pairs z ++ [])) (put_elsewhere nodes p q (Some left) q_off ∙ there)
       ∙ sym (append_assoc (pairs left.content) (pairs right.content) []) ∙ ap (λ l. l ++ []) (sym (halves_pairs _ _ _ s.halves)) ∙ ap (λ z. node_pairs z ++ []) (sym live)
 
   left_le : count left.content ≤ count n.content

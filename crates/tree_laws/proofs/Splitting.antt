@@ -3,6 +3,7 @@ use Rattle.std.proofs.Common.{◌≡◌, ℕ, suc, ◌+◌, ◌<◌, ◌≤◌, 
 use Rattle.std.specs.FinMap.Entries.{put}
 use Rattle.sled_nodes.proofs.Basics.{some_is}
 use Rattle.sled_store.specs.In.{In}
+use Rattle.sled_store.specs.theory.Facts.{put_here, put_elsewhere}
 use Rattle.sled_nodes.specs.Node.{Covers, count}
 use Rattle.sled_nodes.specs.Order.{key_cmp, Below}
 use Rattle.sled_nodes.specs.Halves.{right_half}
@@ -23,7 +24,6 @@ use Rattle.tree_laws.specs.declared.flight.Posting.{Posting}
 use Rattle.tree_laws.specs.declared.flight.Posting.TheVariants as posting
 use Rattle.tree_laws.specs.declared.flight.Stage.TheVariants as stage
 use Rattle.tree_laws.proofs.Order.{upto_below-trans}
-use Rattle.tree_laws.proofs.Update.{put_here, put_there}
 use Rattle.tree_laws.proofs.Replace.{same_tree}
 use Rattle.tree_laws.proofs.Inside.{inside_law}
 use Rattle.tree_laws.proofs.Split.{split_law}
@@ -123,7 +123,7 @@ shorten_action m w t number aim a version node is c unused k = (u.0.after, go a.
     acts = unseen_acts a.page.pid _ (record { version = version; node = a.left }) is c.page (awake_now k.seen c) unused (inl (place t k.height, home)) u.0 tt
 
     live : nodes_at (after_replacement m a.page.pid (record { version = version; node = a.left })) a.right ≡ Some k.right
-    live = ap (λ z. z a.right) (nodes_replaced m a.page.pid (record { version = version; node = a.left })) ∙ put_there (nodes_at m) a.page.pid (Some a.left) a.right (λ e. k.own.stray (place t k.height) (ap w.home e ∙ home)) ∙ own_node k.own
+    live = ap (λ z. z a.right) (nodes_replaced m a.page.pid (record { version = version; node = a.left })) ∙ put_elsewhere (nodes_at m) a.page.pid a.right (Some a.left) (λ e. k.own.stray (place t k.height) (ap w.home e ∙ home)) ∙ own_node k.own
 
     same : (z : Tree) → contents (nodes_at (after_replacement m a.page.pid (record { version = version; node = a.left }))) u.0.after z ≡ contents (nodes_at m) w z
     same = unseen_same m a.page.pid (record { version = version; node = a.left }) u.0

@@ -4,6 +4,7 @@ use Rattle.sled_nodes.proofs.Basics.{none_some, some_is, same_or_not}
 use Rattle.sled_store.specs.In.{In}
 use Rattle.sled_store.specs.State.{Nodes, State, RootBecomes, nodes_of, after}
 use Rattle.sled_store.specs.Update.{put_at, put_name}
+use Rattle.sled_store.specs.theory.Facts.{put_here, put_elsewhere, put_name_here, put_name_elsewhere}
 use Rattle.sled_nodes.specs.declared.node.Node.{Node}
 use Rattle.sled_store.specs.declared.page.Page.{Page}
 use Rattle.tree_laws.specs.theory.Action.{put_node}
@@ -11,9 +12,8 @@ use Rattle.tree_laws.specs.Forest.{Tree, Forest, Place, WellFormed, IsSized, con
 use Rattle.tree_laws.specs.Snapshot.{Snapshot, HasForest, nodes_at, IsOrphan}
 use Rattle.tree_laws.specs.theory.Snapshot.{KeepsNodes, GrowsByReceiving}
 use Rattle.tree_laws.specs.theory.Laws.{ReplaceLaw, AllocateLaw, FreeLaw, PlantedLaw, HoistedLaw, DroppedLaw, Rooted, StepsForest, after_replacement, after_free, after_creation, after_hoist, after_drop}
-use Rattle.tree_laws.proofs.Update.{put_here, put_there, name_here, name_there}
 use Rattle.tree_laws.proofs.Outside.{outside_kept, outside_contents, outside_keeps, outside_sized, outside_grows}
-use Rattle.tree_laws.proofs.Replace.{same_tree}
+use Rattle.tree_laws.proofs.Replace.{same_tree, not_both}
 
 -- one more page, seen as nodes
 nodes_put : (f : ℕ → Option Page) (p : ℕ) (o : Option Page) → (λ (q : ℕ). option_map (λ (g : Page). g.node) (put_at f p o q)) ≡ put_at (λ q. option_map (λ (g : Page). g.node) (f q)) p (option_map (λ (g : Page). g.node) o)
@@ -23,11 +23,8 @@ nodes_put f p o = λ i q. at q i
     at q = elim (nat_eq q p) as (λ b. option_map (λ (g : Page). g.node) (cond b o (f q)) ≡ cond b (option_map (λ (g : Page). g.node) o) (option_map (λ (g : Page). g.node) (f q))) [ true ↦ refl | false ↦ refl ]
 
 -- what was true stays so
-pub true_on : (f : ℕ → Bool) (v q : ℕ) → f q ≡ true → put_at f v true q ≡ true
-true_on f v q e = elim (nat_eq q v) as (λ b. cond b true (f q) ≡ true) [ true ↦ refl | false ↦ e ]
-
-not_both : {P : Type 0} (b : Bool) → b ≡ true → b ≡ false → P
-not_both b e f = cc
+pub stays_true : (f : ℕ → Bool) (v q : ℕ) → f q ≡ true → put_at f v true q ≡ true
+stays_true f v q e = elim (nat_eq q v) as (λ b. cond b true (f q) ≡ true) [ true ↦ refl | false ↦ e ]
 
 pub replace_law : ReplaceLaw
 replace_law mine m w v p g new is live not_merging fresh owner formed keeps =
@@ -37,15 +34,15 @@ replace_law mine m w v p g new is live not_merging fresh owner formed keeps =
       is = record {
         pids = λ q h e. elim (same_or_not q p) [
           | inl a ↦ ap m.pids a ∙ is.pids p g live
-          | inr a ↦ is.pids q h (sym (put_there s.pages p (Some new) q a) ∙ e)
+          | inr a ↦ is.pids q h (sym (put_elsewhere s.pages p q (Some new) a) ∙ e)
         ];
         versions = λ q h e. elim (same_or_not q p) [
           | inl a ↦ ap (λ (z : Page). put_at m.versions new.version true z.version) (some_is (sym e ∙ ap (put_at s.pages p (Some new)) a ∙ put_here s.pages p (Some new))) ∙ put_here m.versions new.version true
-          | inr a ↦ true_on m.versions new.version h.version (is.versions q h (sym (put_there s.pages p (Some new) q a) ∙ e))
+          | inr a ↦ stays_true m.versions new.version h.version (is.versions q h (sym (put_elsewhere s.pages p q (Some new) a) ∙ e))
         ];
         below = λ q h e. elim (same_or_not q p) [
           | inl a ↦ subst (λ z. z < 2 ^ 64) (sym a) (is.below p g live)
-          | inr a ↦ is.below q h (sym (put_there s.pages p (Some new) q a) ∙ e)
+          | inr a ↦ is.below q h (sym (put_elsewhere s.pages p q (Some new) a) ∙ e)
         ];
         numbered = is.numbered;
         rooted = is.rooted;
@@ -55,15 +52,15 @@ replace_law mine m w v p g new is live not_merging fresh owner formed keeps =
       };
       goes = record {
         pids = λ q e. e;
-        versions = λ q e. true_on m.versions new.version q e;
+        versions = λ q e. stays_true m.versions new.version q e;
         given = λ n e. e;
         gone = λ q e none. elim (same_or_not q p) [
           | inl a ↦ none_some (sym none ∙ ap s.pages a ∙ live)
-          | inr a ↦ put_there s.pages p (Some new) q a ∙ none
+          | inr a ↦ put_elsewhere s.pages p q (Some new) a ∙ none
         ];
         fresh = λ q h e. elim (same_or_not q p) [
           | inl a ↦ inr (ap (λ (z : Page). m.versions z.version) (some_is (sym e ∙ ap (put_at s.pages p (Some new)) a ∙ put_here s.pages p (Some new))) ∙ fresh)
-          | inr a ↦ inl (sym (put_there s.pages p (Some new) q a) ∙ e)
+          | inr a ↦ inl (sym (put_elsewhere s.pages p q (Some new) a) ∙ e)
         ];
         lasts = λ t n o e. e;
         dropped = λ t n e no. no;
@@ -71,11 +68,11 @@ replace_law mine m w v p g new is live not_merging fresh owner formed keeps =
         rooted = λ t r e. inl e;
         own = λ q stray off. elim (same_or_not q p) [
           | inl a ↦ elim owner [ inl b ↦ absurd (stray b.0 (ap w.home a ∙ b.1)) | inr b ↦ absurd (off (subst (λ z. In z mine) (sym a) b)) ]
-          | inr a ↦ put_there s.pages p (Some new) q a
+          | inr a ↦ put_elsewhere s.pages p q (Some new) a
         ];
         frozen = λ q h e t. elim (same_or_not q p) [
-          | inl a ↦ not_both g.node.merging (ap (λ (z : Page). z.node.merging) (some_is (sym live ∙ ap s.pages (sym a) ∙ e)) ∙ t) not_merging
-          | inr a ↦ inl (put_there s.pages p (Some new) q a ∙ e)
+          | inl a ↦ not_both g.node.merging not_merging (ap (λ (z : Page). z.node.merging) (some_is (sym live ∙ ap s.pages (sym a) ∙ e)) ∙ t)
+          | inr a ↦ inl (put_elsewhere s.pages p q (Some new) a ∙ e)
         ];
         keeps = subst (λ (z : Nodes). KeepsNodes mine None (nodes_at m) z w v) same keeps;
       };
@@ -84,7 +81,7 @@ replace_law mine m w v p g new is live not_merging fresh owner formed keeps =
 -- a page with no place is put or taken
 module _ (m : Snapshot) (w : Forest) (p : ℕ) (o : Option Page) (is : HasForest m w) (stray : IsOrphan w p) where
   off : (q : ℕ) (x : Place) → w.home q ≡ Some x → put_at (nodes_at m) p (option_map (λ (g : Page). g.node) o) q ≡ nodes_at m q
-  off q x e = put_there (nodes_at m) p _ q (λ a. stray x (ap w.home (sym a) ∙ e))
+  off q x e = put_elsewhere (nodes_at m) p q _ (λ a. stray x (ap w.home (sym a) ∙ e))
 
   abbrev nodes_then : Nodes
   nodes_then = λ q. option_map (λ (g : Page). g.node) (put_at m.state.pages p o q)
@@ -106,10 +103,10 @@ module _ (m : Snapshot) (w : Forest) (p : ℕ) (o : Option Page) (is : HasForest
       → KeepsNodes mine None (nodes_at m) nodes_then w w
   put_keeps mine own gone = subst (λ (z : Nodes). KeepsNodes mine None (nodes_at m) z w w) (sym (nodes_put m.state.pages p o))
       (outside_keeps (nodes_at m) _ m.state.roots w off is.formed mine None
-      (λ q u k. elim (same_or_not q p) [ inl a ↦ own q a k | inr a ↦ put_there (nodes_at m) p _ q a ])
+      (λ q u k. elim (same_or_not q p) [ inl a ↦ own q a k | inr a ↦ put_elsewhere (nodes_at m) p q _ a ])
       (λ q n live. elim (same_or_not q p) [
         | inl a ↦ inr (ap (put_at (nodes_at m) p _) a ∙ put_here (nodes_at m) p _ ∙ gone n (ap (nodes_at m) (sym a) ∙ live))
-        | inr a ↦ inl (put_there (nodes_at m) p _ q a ∙ live)
+        | inr a ↦ inl (put_elsewhere (nodes_at m) p q _ a ∙ live)
       ]))
 
 no_page_yet : (m : Snapshot) (w : Forest) (p : ℕ) → HasForest m w → m.pids p ≡ false → m.state.pages p ≡ None
@@ -117,7 +114,7 @@ no_page_yet m w p is e = go (m.state.pages p) refl
   where
     go : (o : Option Page) → m.state.pages p ≡ o → o ≡ None
     go None h = refl
-    go (Some g) h = not_both (m.pids p) (is.pids p g h) e
+    go (Some g) h = not_both (m.pids p) e (is.pids p g h)
 
 pub allocate_law : AllocateLaw
 allocate_law m w p g is new fresh small =
@@ -129,15 +126,15 @@ allocate_law m w p g is new fresh small =
         is = record {
           pids = λ q h e. elim (same_or_not q p) [
             | inl a ↦ ap (put_at m.pids p true) a ∙ put_here m.pids p true
-            | inr a ↦ true_on m.pids p q (is.pids q h (sym (put_there s.pages p (Some g) q a) ∙ e))
+            | inr a ↦ stays_true m.pids p q (is.pids q h (sym (put_elsewhere s.pages p q (Some g) a) ∙ e))
           ];
           versions = λ q h e. elim (same_or_not q p) [
             | inl a ↦ ap (λ (z : Page). put_at m.versions g.version true z.version) (some_is (sym e ∙ ap (put_at s.pages p (Some g)) a ∙ put_here s.pages p (Some g))) ∙ put_here m.versions g.version true
-            | inr a ↦ true_on m.versions g.version h.version (is.versions q h (sym (put_there s.pages p (Some g) q a) ∙ e))
+            | inr a ↦ stays_true m.versions g.version h.version (is.versions q h (sym (put_elsewhere s.pages p q (Some g) a) ∙ e))
           ];
           below = λ q h e. elim (same_or_not q p) [
             | inl a ↦ subst (λ z. z < 2 ^ 64) (sym a) small
-            | inr a ↦ is.below q h (sym (put_there s.pages p (Some g) q a) ∙ e)
+            | inr a ↦ is.below q h (sym (put_elsewhere s.pages p q (Some g) a) ∙ e)
           ];
           numbered = is.numbered;
           rooted = is.rooted;
@@ -146,23 +143,23 @@ allocate_law m w p g is new fresh small =
           formed = put_formed m w p (Some g) is stray;
         };
         goes = record {
-          pids = λ q e. true_on m.pids p q e;
-          versions = λ q e. true_on m.versions g.version q e;
+          pids = λ q e. stays_true m.pids p q e;
+          versions = λ q e. stays_true m.versions g.version q e;
           given = λ n e. e;
           gone = λ q e no. elim (same_or_not q p) [
-            | inl a ↦ not_both (m.pids p) (ap m.pids (sym a) ∙ e) new
-            | inr a ↦ put_there s.pages p (Some g) q a ∙ no
+            | inl a ↦ not_both (m.pids p) new (ap m.pids (sym a) ∙ e)
+            | inr a ↦ put_elsewhere s.pages p q (Some g) a ∙ no
           ];
           fresh = λ q h e. elim (same_or_not q p) [
             | inl a ↦ inr (ap (λ (z : Page). m.versions z.version) (some_is (sym e ∙ ap (put_at s.pages p (Some g)) a ∙ put_here s.pages p (Some g))) ∙ fresh)
-            | inr a ↦ inl (sym (put_there s.pages p (Some g) q a) ∙ e)
+            | inr a ↦ inl (sym (put_elsewhere s.pages p q (Some g) a) ∙ e)
           ];
           lasts = λ t n o e. e;
           dropped = λ t n e no. no;
           loses = λ t e. none_some e;
           rooted = λ t r e. inl e;
-          own = λ q u k. elim (same_or_not q p) [ inl a ↦ absurd (k (inl a)) | inr a ↦ put_there s.pages p (Some g) q a ];
-          frozen = λ q h e t. elim (same_or_not q p) [ inl a ↦ none_some (sym none ∙ ap s.pages (sym a) ∙ e) | inr a ↦ inl (put_there s.pages p (Some g) q a ∙ e) ];
+          own = λ q u k. elim (same_or_not q p) [ inl a ↦ absurd (k (inl a)) | inr a ↦ put_elsewhere s.pages p q (Some g) a ];
+          frozen = λ q h e t. elim (same_or_not q p) [ inl a ↦ none_some (sym none ∙ ap s.pages (sym a) ∙ e) | inr a ↦ inl (put_elsewhere s.pages p q (Some g) a ∙ e) ];
           keeps = put_keeps m w p (Some g) is stray (p ∷ []) (λ q a k. absurd (k (inl a))) (λ n live. none_some (sym none_node ∙ live));
         };
       },
@@ -179,15 +176,15 @@ free_law m w p is stray =
         is = record {
           pids = λ q h e. elim (same_or_not q p) [
             | inl a ↦ none_some (sym (ap (put_at s.pages p None) a ∙ put_here s.pages p None) ∙ e)
-            | inr a ↦ is.pids q h (sym (put_there s.pages p None q a) ∙ e)
+            | inr a ↦ is.pids q h (sym (put_elsewhere s.pages p q None a) ∙ e)
           ];
           versions = λ q h e. elim (same_or_not q p) [
             | inl a ↦ none_some (sym (ap (put_at s.pages p None) a ∙ put_here s.pages p None) ∙ e)
-            | inr a ↦ is.versions q h (sym (put_there s.pages p None q a) ∙ e)
+            | inr a ↦ is.versions q h (sym (put_elsewhere s.pages p q None a) ∙ e)
           ];
           below = λ q h e. elim (same_or_not q p) [
             | inl a ↦ none_some (sym (ap (put_at s.pages p None) a ∙ put_here s.pages p None) ∙ e)
-            | inr a ↦ is.below q h (sym (put_there s.pages p None q a) ∙ e)
+            | inr a ↦ is.below q h (sym (put_elsewhere s.pages p q None a) ∙ e)
           ];
           numbered = is.numbered;
           rooted = is.rooted;
@@ -199,17 +196,17 @@ free_law m w p is stray =
           pids = λ q e. e;
           versions = λ q e. e;
           given = λ n e. e;
-          gone = λ q e no. elim (same_or_not q p) [ inl a ↦ ap (put_at s.pages p None) a ∙ put_here s.pages p None | inr a ↦ put_there s.pages p None q a ∙ no ];
+          gone = λ q e no. elim (same_or_not q p) [ inl a ↦ ap (put_at s.pages p None) a ∙ put_here s.pages p None | inr a ↦ put_elsewhere s.pages p q None a ∙ no ];
           fresh = λ q h e. elim (same_or_not q p) [
             | inl a ↦ none_some (sym (ap (put_at s.pages p None) a ∙ put_here s.pages p None) ∙ e)
-            | inr a ↦ inl (sym (put_there s.pages p None q a) ∙ e)
+            | inr a ↦ inl (sym (put_elsewhere s.pages p q None a) ∙ e)
           ];
           lasts = λ t n o e. e;
           dropped = λ t n e no. no;
           loses = λ t e. none_some e;
           rooted = λ t r e. inl e;
-          own = λ q u k. elim (same_or_not q p) [ inl a ↦ absurd (k (inl a)) | inr a ↦ put_there s.pages p None q a ];
-          frozen = λ q h e t. elim (same_or_not q p) [ inl a ↦ inr (ap (put_at s.pages p None) a ∙ put_here s.pages p None) | inr a ↦ inl (put_there s.pages p None q a ∙ e) ];
+          own = λ q u k. elim (same_or_not q p) [ inl a ↦ absurd (k (inl a)) | inr a ↦ put_elsewhere s.pages p q None a ];
+          frozen = λ q h e t. elim (same_or_not q p) [ inl a ↦ inr (ap (put_at s.pages p None) a ∙ put_here s.pages p None) | inr a ↦ inl (put_elsewhere s.pages p q None a ∙ e) ];
           keeps = put_keeps m w p None is stray (p ∷ []) (λ q a k. absurd (k (inl a))) (λ n live. refl);
         };
       },
@@ -256,8 +253,8 @@ module _ (mine : List ℕ) (lost : Option Tree) (m new : Snapshot) (w : Forest) 
           dropped = gone;
           loses = loses;
           rooted = λ z r e. elim (same_tree z t) [
-            | inl a ↦ inr (fresh r (sym (name_here m.state.roots t root) ∙ ap (put_name m.state.roots t root) (sym a) ∙ sym (ap (λ f. f z) roots) ∙ e))
-            | inr a ↦ inl (sym (name_there m.state.roots t root z a) ∙ sym (ap (λ f. f z) roots) ∙ e)
+            | inl a ↦ inr (fresh r (sym (put_name_here m.state.roots t root) ∙ ap (put_name m.state.roots t root) (sym a) ∙ sym (ap (λ f. f z) roots) ∙ e))
+            | inr a ↦ inl (sym (put_name_elsewhere m.state.roots t z root a) ∙ sym (ap (λ f. f z) roots) ∙ e)
           ];
           own = λ q stray off. pages q;
           frozen = λ q h e t. inl (pages q ∙ e);
@@ -268,33 +265,33 @@ module _ (mine : List ℕ) (lost : Option Tree) (m new : Snapshot) (w : Forest) 
 pub planted_law : PlantedLaw
 planted_law m w t r number n is none free stray not_merging live u =
     let unnamed : m.numbers t ≡ None = no_number (m.numbers t) refl in
-    let fresh : (z : Tree) (k : ℕ) → m.numbers z ≡ Some k → k ≢ number = λ z k e a. not_both (m.given number) (ap m.given (sym a) ∙ is.given z k e) free in
+    let fresh : (z : Tree) (k : ℕ) → m.numbers z ≡ Some k → k ≢ number = λ z k e a. not_both (m.given number) free (ap m.given (sym a) ∙ is.given z k e) in
     let old : (z : Tree) (k : ℕ) → put_name m.numbers t (Some number) z ≡ Some k → ((z ≡ t) × (k ≡ number)) ⊎ ((z ≢ t) × (m.numbers z ≡ Some k)) =
     λ z k e. elim (same_tree z t) [
-      | inl a ↦ inl (a, some_is (sym e ∙ ap (put_name m.numbers t (Some number)) a ∙ name_here m.numbers t (Some number)))
-      | inr a ↦ inr (a, sym (name_there m.numbers t (Some number) z a) ∙ e)
+      | inl a ↦ inl (a, some_is (sym e ∙ ap (put_name m.numbers t (Some number)) a ∙ put_name_here m.numbers t (Some number)))
+      | inr a ↦ inr (a, sym (put_name_elsewhere m.numbers t z (Some number) a) ∙ e)
     ] in
     rooted_steps (r ∷ []) None m (after_creation m t r number) w t (Some r) is u refl refl refl
-    (λ k e. true_on m.given number k e)
+    (λ k e. stays_true m.given number k e)
     (λ z q e. elim (same_tree z t) [
-      | inl a ↦ (number, ap (put_name m.numbers t (Some number)) a ∙ name_here m.numbers t (Some number))
-      | inr a ↦ let b = is.numbered z q (sym (name_there m.state.roots t (Some r) z a) ∙ e) in (b.0, name_there m.numbers t (Some number) z a ∙ b.1)
+      | inl a ↦ (number, ap (put_name m.numbers t (Some number)) a ∙ put_name_here m.numbers t (Some number))
+      | inr a ↦ let b = is.numbered z q (sym (put_name_elsewhere m.state.roots t z (Some r) a) ∙ e) in (b.0, put_name_elsewhere m.numbers t z (Some number) a ∙ b.1)
     ])
     (λ z k e. elim (old z k e) [
-      | inl a ↦ (r, ap (put_name m.state.roots t (Some r)) a.0 ∙ name_here m.state.roots t (Some r))
-      | inr a ↦ let b = is.rooted z k a.1 in (b.0, name_there m.state.roots t (Some r) z a.0 ∙ b.1)
+      | inl a ↦ (r, ap (put_name m.state.roots t (Some r)) a.0 ∙ put_name_here m.state.roots t (Some r))
+      | inr a ↦ let b = is.rooted z k a.1 in (b.0, put_name_elsewhere m.state.roots t z (Some r) a.0 ∙ b.1)
     ])
     (λ z k e. elim (old z k e) [
       | inl a ↦ ap (put_at m.given number true) a.1 ∙ put_here m.given number true
-      | inr a ↦ true_on m.given number k (is.given z k a.1)
+      | inr a ↦ stays_true m.given number k (is.given z k a.1)
     ])
     (λ z y k e g. elim (old z k e) [
       | inl a ↦ elim (old y k g) [ inl b ↦ a.0 ∙ sym b.0 | inr b ↦ absurd (fresh y k b.1 a.1) ]
       | inr a ↦ elim (old y k g) [ inl b ↦ absurd (fresh z k a.1 b.1) | inr b ↦ is.apart z y k a.1 b.1 ]
     ])
-    (λ z k o e. name_there m.numbers t (Some number) z (λ a. none_some (sym unnamed ∙ ap m.numbers (sym a) ∙ e)) ∙ e)
+    (λ z k o e. put_name_elsewhere m.numbers t z (Some number) (λ a. none_some (sym unnamed ∙ ap m.numbers (sym a) ∙ e)) ∙ e)
     (λ z k given no e. elim (old z k e) [
-      | inl a ↦ not_both (m.given number) (ap m.given (sym a.1) ∙ given) free
+      | inl a ↦ not_both (m.given number) free (ap m.given (sym a.1) ∙ given)
       | inr a ↦ no a.1
     ])
     (λ z e. none_some e)
@@ -307,13 +304,13 @@ planted_law m w t r number n is none free stray not_merging live u =
 pub hoisted_law : HoistedLaw
 hoisted_law m w t left r n is root stray not_merging live u =
     let old : (z : Tree) (k : ℕ) → put_name m.state.roots t (Some r) z ≡ Some k → (j : ℕ) × (m.state.roots z ≡ Some j) =
-    λ z k e. elim (same_tree z t) [ inl a ↦ (left, ap m.state.roots a ∙ root) | inr a ↦ (k, sym (name_there m.state.roots t (Some r) z a) ∙ e) ] in
+    λ z k e. elim (same_tree z t) [ inl a ↦ (left, ap m.state.roots a ∙ root) | inr a ↦ (k, sym (put_name_elsewhere m.state.roots t z (Some r) a) ∙ e) ] in
     rooted_steps (r ∷ []) None m (after_hoist m t r) w t (Some r) is u refl refl refl
     (λ k e. e)
     (λ z q e. let b = old z q e in is.numbered z b.0 b.1)
     (λ z k e. elim (same_tree z t) [
-      | inl a ↦ (r, ap (put_name m.state.roots t (Some r)) a ∙ name_here m.state.roots t (Some r))
-      | inr a ↦ let b = is.rooted z k e in (b.0, name_there m.state.roots t (Some r) z a ∙ b.1)
+      | inl a ↦ (r, ap (put_name m.state.roots t (Some r)) a ∙ put_name_here m.state.roots t (Some r))
+      | inr a ↦ let b = is.rooted z k e in (b.0, put_name_elsewhere m.state.roots t z (Some r) a ∙ b.1)
     ])
     is.given
     is.apart
@@ -326,21 +323,21 @@ pub dropped_law : DroppedLaw
 dropped_law m w t is u =
     let old : (z : Tree) (k : ℕ) → put_name m.numbers t None z ≡ Some k → (z ≢ t) × (m.numbers z ≡ Some k) =
     λ z k e. elim (same_tree z t) [
-      | inl a ↦ none_some (sym (ap (put_name m.numbers t None) a ∙ name_here m.numbers t None) ∙ e)
-      | inr a ↦ (a, sym (name_there m.numbers t None z a) ∙ e)
+      | inl a ↦ none_some (sym (ap (put_name m.numbers t None) a ∙ put_name_here m.numbers t None) ∙ e)
+      | inr a ↦ (a, sym (put_name_elsewhere m.numbers t z None a) ∙ e)
     ] in
     rooted_steps [] (Some t) m (after_drop m t) w t None is u refl refl refl
     (λ k e. e)
     (λ z q e. elim (same_tree z t) [
-      | inl a ↦ none_some (sym (ap (put_name m.state.roots t None) a ∙ name_here m.state.roots t None) ∙ e)
-      | inr a ↦ let b = is.numbered z q (sym (name_there m.state.roots t None z a) ∙ e) in (b.0, name_there m.numbers t None z a ∙ b.1)
+      | inl a ↦ none_some (sym (ap (put_name m.state.roots t None) a ∙ put_name_here m.state.roots t None) ∙ e)
+      | inr a ↦ let b = is.numbered z q (sym (put_name_elsewhere m.state.roots t z None a) ∙ e) in (b.0, put_name_elsewhere m.numbers t z None a ∙ b.1)
     ])
-    (λ z k e. let a = old z k e in let b = is.rooted z k a.1 in (b.0, name_there m.state.roots t None z a.0 ∙ b.1))
+    (λ z k e. let a = old z k e in let b = is.rooted z k a.1 in (b.0, put_name_elsewhere m.state.roots t z None a.0 ∙ b.1))
     (λ z k e. is.given z k (old z k e).1)
     (λ z y k e g. is.apart z y k (old z k e).1 (old y k g).1)
-    (λ z k o e. name_there m.numbers t None z (λ a. o (ap Some (sym a))) ∙ e)
+    (λ z k o e. put_name_elsewhere m.numbers t z None (λ a. o (ap Some (sym a))) ∙ e)
     (λ z k given no e. no (old z k e).1)
-    (λ z e. ap (put_name m.numbers t None) (sym (some_is e)) ∙ name_here m.numbers t None)
+    (λ z e. ap (put_name m.numbers t None) (sym (some_is e)) ∙ put_name_here m.numbers t None)
     (λ q e. none_some e)
 
 pub nodes_replaced : (m : Snapshot) (p : ℕ) (g : Page) → nodes_at (after_replacement m p g) ≡ put_node (nodes_at m) p g.node

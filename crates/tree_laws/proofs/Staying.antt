@@ -1,5 +1,6 @@
 -- What a call in flight knows of its stage survives the actions of others.
 use Rattle.std.proofs.Common.{◌≡◌, ◌≢◌, ◌≤◌, ℕ, suc, Bool, true, false, List, [], ◌∷◌, ◌++◌, Option, Some, None, MatchOption, option_map, sym, refl, ap, ◌∙◌, subst, inl, inr, ◌⊎◌, le_trans}
+use Rattle.std.proofs.lemmas.Bool.{false_from_ne_true}
 use Rattle.std.specs.declared.ops.Bound.{Bound}
 use Rattle.sled_nodes.proofs.Basics.{none_some, some_is}
 use Rattle.sled_store.specs.In.{In}
@@ -31,16 +32,12 @@ use Rattle.tree_laws.specs.declared.flight.Seek.{Seek}
 use Rattle.tree_laws.specs.declared.flight.Receive.{Receive}
 use Rattle.tree_laws.specs.declared.flight.Confirm.{Confirm}
 use Rattle.tree_laws.specs.declared.flight.Stage.TheVariants as stage
-use Rattle.tree_laws.proofs.Replace.{false_true, head_in}
+use Rattle.tree_laws.proofs.Replace.{not_both, head_in}
 use Rattle.tree_laws.proofs.Cover.{one_cover, one_later, later_in, pointer_within, holds_at}
 use Rattle.tree_laws.proofs.Receive.{followed}
 use Rattle.tree_laws.proofs.Roots.{top_awake}
 use Rattle.tree_laws.proofs.Stable.{view_law, stood_law, now_law, had_number, not_lost, is_number, no_page}
 use Rattle.tree_laws.proofs.Known.{fresh_node, fresh_in, seen_kept, acting_kept}
-
-pub not_true : (b : Bool) → (b ≡ true → ⊥) → b ≡ false
-not_true true not_so = absurd (not_so refl)
-not_true false not_so = refl
 
 -- who has q for its merging child covers where q begins
 parent_covers : {nodes : Nodes} {roots : Tree → Option ℕ} {w : Forest} (f : WellFormed nodes roots w) (t : Tree) (h r q : ℕ) (d e : Node) → In r (w.chain (place t (suc h))) → nodes r ≡ Some d → d.merging_child ≡ Some q → nodes q ≡ Some e → Within d.lo d.hi e.lo
@@ -56,7 +53,7 @@ module _ {mine : List ℕ} {lost : Option Tree} {old new : Snapshot} {w v : Fore
   pub was_fresh : (look : View) → IsReadAs old look.pid look.version look.node → IsAtVersion new look → IsAtVersion old look
   was_fresh look view f = elim (g.fresh look.pid f.page f.live) [
     | inl was ↦ record { page = f.page; live = was; same = f.same }
-    | inr unused ↦ false_true (old.versions f.page.version) unused (ap old.versions f.same ∙ view.given)
+    | inr unused ↦ not_both (old.versions f.page.version) unused (ap old.versions f.same ∙ view.given)
   ]
 
   fresh_was : (look : View) → IsReadAs old look.pid look.version look.node → IsAtVersion old look → nodes_at old look.pid ≡ Some look.node
@@ -91,7 +88,7 @@ module _ {mine : List ℕ} {lost : Option Tree} {old new : Snapshot} {w v : Fore
       (subst (λ z. Within r.1.lo r.1.hi z) u.lo (parent_covers is.formed t h r.0 q r.1 u.node r.2 r.3 r.4 u.live)) in
       let n_is : r.1 ≡ parent.node = some_is (sym r.3 ∙ ap (nodes_at old) (sym same) ∙ p_is) in
       none_some (sym (subst (λ (z : Node). z.merging_child ≡ None) (sym n_is) seen.is_open.free) ∙ r.4) in
-      record { covers = u.covers; node = m.0; chained = elim m.3 [ inl i ↦ i | inr y ↦ absurd (up y) ]; live = m.1; lo = m.2 ∙ u.lo; not_merging = not_true m.0.merging up }
+      record { covers = u.covers; node = m.0; chained = elim m.3 [ inl i ↦ i | inr y ↦ absurd (up y) ]; live = m.1; lo = m.2 ∙ u.lo; not_merging = false_from_ne_true m.0.merging up }
 
   below_kept : (t : Tree) (number h : ℕ) (aim : Bound Key) (parent : View) (lo : Key) → IsBelowParent old w t number h aim parent lo → IsBelowParent new v t number h aim parent lo
   below_kept t number h aim parent lo k = record { above = parent_kept t number h parent k.above; under = k.under; within = k.within; fits = k.fits }
@@ -152,7 +149,7 @@ module _ {mine : List ℕ} {lost : Option Tree} {old new : Snapshot} {w v : Fore
               let home = f.homed (place t top.0) a.left (head_in _ a.left top.1) in
               let n = f.page (place t top.0) a.left home in
               let asleep : n.0.merging ≡ true → ⊥ = λ y. top_awake f t top.0 a.left n.0 top.2 home n.1.live y in
-              let same : place t top.0 ≡ place t k.height = some_is (sym home ∙ f.homed (place t k.height) a.left (now_law old w (place t k.height) number [] a.left k.stood before n.0 n.1.live (not_true n.0.merging asleep)).0) in
+              let same : place t top.0 ≡ place t k.height = some_is (sym home ∙ f.homed (place t k.height) a.left (now_law old w (place t k.height) number [] a.left k.stood before n.0 n.1.live (false_from_ne_true n.0.merging asleep)).0) in
               let over : w.chain (place t (suc k.height)) ≡ [] = ap (λ (z : Place). w.chain (place t (suc z.height))) (sym same) ∙ top.2 in
               let b = k.beside before was in
               let m = g.keeps.stood (place t k.height) a.right b.0 (not_lost g t number named) b.1 b.2 in
@@ -163,7 +160,7 @@ module _ {mine : List ℕ} {lost : Option Tree} {old new : Snapshot} {w v : Fore
               | inl e ↦ none_some (sym e ∙ fresh.1.1)
               | inr b ↦ elim b.3 [
                 | inl i ↦ absurd (fresh.0 (place t k.height) (is.formed.homed (place t k.height) a.left i))
-                | inr y ↦ false_true b.0.merging (subst (λ (z : Node). z.merging ≡ false) (some_is (sym fresh.1.1 ∙ b.1)) fresh.1.2) y
+                | inr y ↦ not_both b.0.merging (subst (λ (z : Node). z.merging ≡ false) (some_is (sym fresh.1.1 ∙ b.1)) fresh.1.2) y
               ]
             ]
           ]
@@ -321,7 +318,7 @@ module _ {mine : List ℕ} {lost : Option Tree} {old new : Snapshot} {w v : Fore
         let before = had_number g t number k.tree named in
         let fresh = was_fresh (child_of a) k.view f in
         elim (child_kept t k.height a.merge.child (not_lost g t number named) (k.wanted before fresh)) [
-          | inl c ↦ false_true a.node.merging k.is_open.not_merging (subst (λ (z : Node). z.merging ≡ true) (some_is (sym c.1 ∙ fresh_was (child_of a) k.view fresh)) c.2)
+          | inl c ↦ not_both a.node.merging k.is_open.not_merging (subst (λ (z : Node). z.merging ≡ true) (some_is (sym c.1 ∙ fresh_was (child_of a) k.view fresh)) c.2)
           | inr c ↦ c
         ];
   }

@@ -5,12 +5,12 @@ use Rattle.std.proofs.lemmas.Cmp.{nat_cmp_total, tied_itself}
 use Rattle.std.specs.List.{starts_with, AllByRecursion}
 use Rattle.std.specs.Ordering.{nat_cmp, is_lt, ordering_then}
 use Rattle.std.specs.Cmp.Lexicographic.{slice_cmp}
-use Rattle.std.specs.declared.cmp.Ordering.TheVariants.{Equal, Greater}
+use Rattle.std.specs.declared.cmp.Ordering.TheVariants.{Equal}
 use Rattle.std.specs.declared.ops.Bound.TheVariants.{Included, Excluded}
 use Rattle.sled_nodes.specs.Order.{Key, key_cmp}
 use Rattle.sled_nodes.specs.Among.{is_up_to, is_from}
 use Rattle.sled_nodes.specs.Ranges.{is_reversed}
-use Rattle.sled_nodes.proofs.Fronts.{cmp_less}
+use Rattle.sled_nodes.proofs.Fronts.{cmp_less, cmp_greater}
 use Rattle.tree_reads.specs.Ranges.{pairs_within}
 use Rattle.tree_reads.specs.Prefixes.{IsBytes, or_raised, raised_key, below, raised, pairs_beginning, PrefixLaw}
 
@@ -34,11 +34,6 @@ lies prefix end key = not (is_lt (slice_cmp nat_cmp key prefix)) && is_up_to (be
 equal : (b : ℕ) → nat_cmp b b ≡ Equal
 equal b = tied_itself nat_cmp_total b
 
-greater : (b c : ℕ) → b < c → nat_cmp c b ≡ Greater
-greater b c h =
-    let past : b ≤ c = omega arith in
-    rw (le-ltb c b past, ne_eqb c b (λ (e : c ≡ b). omega arith)) refl
-
 not_before : (key : Key) → is_lt (slice_cmp nat_cmp key []) ≡ false
 not_before [] = refl
 not_before (c ∷ key) = refl
@@ -56,13 +51,13 @@ up_same b key None = go (nat_lt b 255)
 -- a higher byte lies beyond the end
 up_past : (b c : ℕ) (key : Key) (end : Option Key) → b < c → c < 256 → is_up_to (below (or_raised b end)) (c ∷ key) ≡ false
 unfolding key_cmp
-up_past b c key (Some rest) h i = ap (λ o. is_lt (ordering_then o (slice_cmp nat_cmp key rest))) (greater b c h)
+up_past b c key (Some rest) h i = ap (λ o. is_lt (ordering_then o (slice_cmp nat_cmp key rest))) (cmp_greater c b h)
 up_past b c key None h i = ap (λ small. is_up_to (below (cond small (Some ((b + 1) ∷ [])) None)) (c ∷ key)) (lt-ltb b 255 (omega arith)) ∙ go (cases_order c (b + 1))
   where
     go : (c ≡ b + 1) ⊎ ((c < b + 1) ⊎ (b + 1 < c)) → is_up_to (Excluded ((b + 1) ∷ [])) (c ∷ key) ≡ false
     go (inl e) = ap (λ o. is_lt (ordering_then o (slice_cmp nat_cmp key []))) (ap (λ n. nat_cmp n (b + 1)) e ∙ equal (b + 1)) ∙ not_before key
     go (inr (inl lt)) = absurd (omega arith)
-    go (inr (inr gt)) = ap (λ o. is_lt (ordering_then o (slice_cmp nat_cmp key []))) (greater (b + 1) c gt)
+    go (inr (inr gt)) = ap (λ o. is_lt (ordering_then o (slice_cmp nat_cmp key []))) (cmp_greater c (b + 1) gt)
 
 lies_same : (b : ℕ) (rest key : Key) (end : Option Key) → lies (b ∷ rest) (or_raised b end) (b ∷ key) ≡ lies rest end key
 lies_same b rest key end =
@@ -81,7 +76,7 @@ lies_as (b ∷ rest) (c ∷ key) bytes = elim (cases_order b c) [
       ∙ sym (ap (λ first. first && begins key rest) (eq-eqb b c e))
   | inr o ↦ elim o [
     | inl lt ↦
-        ap (λ o. not (is_lt (ordering_then o (slice_cmp nat_cmp key rest))) && is_up_to (below (raised_key (b ∷ rest))) (c ∷ key)) (greater b c lt)
+        ap (λ o. not (is_lt (ordering_then o (slice_cmp nat_cmp key rest))) && is_up_to (below (raised_key (b ∷ rest))) (c ∷ key)) (cmp_greater c b lt)
         ∙ up_past b c key (raised_key rest) lt bytes.0
         ∙ sym (ap (λ first. first && begins key rest) (ne_eqb b c (λ (e : b ≡ c). omega arith)))
     | inr gt ↦

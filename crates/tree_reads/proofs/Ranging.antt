@@ -7,7 +7,7 @@ use Rattle.std.specs.declared.cmp.Ordering.{Ordering}
 use Rattle.std.specs.declared.cmp.Ordering.TheVariants.{Less, Equal, Greater}
 use Rattle.std.specs.declared.ops.Bound.{Bound}
 use Rattle.std.specs.declared.ops.Bound.TheVariants.{Included, Excluded, Unbounded}
-use Rattle.sled_nodes.proofs.Basics.{false_true, not_true, left_of, right_of, is_less, is_greater, key_total}
+use Rattle.sled_nodes.proofs.Basics.{false_true, not_true, left_of, right_of, is_less, is_greater, key_total, less_of}
 use Rattle.sled_nodes.specs.Order.{Key, key_cmp, Below}
 use Rattle.sled_store.specs.In.{In}
 use Rattle.sled_nodes.specs.Among.{is_up_to, is_from, IsFirst, IsLast, IsSuccessor, IsPredecessor}
@@ -22,7 +22,6 @@ use Rattle.tree_laws.proofs.Fuel.{contents_law}
 use Rattle.tree_laws.proofs.Reading.{sorted_law}
 use Rattle.tree_laws.proofs.Runs.{In_cases}
 use Rattle.tree_laws.proofs.Pairs.{not_below_empty, above}
-use Rattle.tree_laws.proofs.Halving.{less}
 use Rattle.tree_reads.specs.Leaves.{OfContents, SeeksAt, SeeksBackAt}
 use Rattle.tree_reads.specs.Ranges.{pairs_within, IsRoot}
 use Rattle.tree_reads.specs.theory.Ranges.{Advances, Retreats}
@@ -32,7 +31,7 @@ use Rattle.tree_reads.proofs.Backing.{back_on}
 
 each_above : (k : Key) (es : List (Key × Key)) → T (below_all key_cmp k es) → AllByRecursion (λ e. Below k e.0) es
 each_above k [] p = tt
-each_above k (e ∷ es) p = (less (left_of _ _ p), each_above k es (right_of _ _ p))
+each_above k (e ∷ es) p = (less_of _ (left_of _ _ p), each_above k es (right_of _ _ p))
 
 at_seam : (k : Key) (zs : List (Key × Key)) (y : Key × Key) (ys : List (Key × Key)) → AllByRecursion (λ e. Below k e.0) (zs ++ y ∷ ys) → Below k y.0
 at_seam k [] y ys a = a.0

@@ -65,6 +65,7 @@ starts_excluded b = record { all = empty_least b; below = λ k m u l. ap is_gt (
 pub starts_unbounded : StartsAt Unbounded (Included [])
 starts_unbounded = record { all = empty_least []; below = λ k m u l. absurd (not_below_empty k (same_start [] k m u l)) }
 
+-- tests of lists, and of joined ones
 pub none_of : {X : Type 0} (test : X → Bool) (xs : List X) → ((x : X) → In x xs → test x ≡ false) → list_any test xs ≡ false
 none_of test [] k = refl
 none_of test (x ∷ xs) k = or_false (test x) (list_any test xs) (k x (inl refl)) (none_of test xs (λ y i. k y (inr i)))

@@ -2,7 +2,7 @@
 use Rattle.std.proofs.Common.{Bool, ◌≡◌, ℕ, ◌+◌, ◌-◌, ◌/◌, ◌%◌, ◌<◌, ◌≤◌, ◌^◌, ◌&&◌, nat_lt, nat_le, true, false, cond, List, [], ◌∷◌, length, Option, Some, None, refl, sym, ap, ◌∙◌, arith, slice_get, is_some, if◌then◌else◌}
 use Rattle.std.specs.Option.{option_map}
 use Rattle.std.proofs.Math.Path.{fun_ext}
-use Rattle.std.proofs.lemmas.Bool.{eqb-true}
+use Rattle.std.proofs.lemmas.Bool.{eqb-true, lt-ltb}
 use Rattle.std.proofs.lemmas.Bool.Decides.{nat_tests}
 use Rattle.std.proofs.lemmas.Option.{slice_get_within}
 use Rattle.std.specs.Ordering.{nat_cmp}
@@ -63,9 +63,6 @@ has_some : {X : Type 0} (o : Option (Option X)) (x : X) → joined o ≡ Some x 
 has_some None x e = cc
 has_some (Some o) x e = refl
 
-lt_is : (a b : ℕ) → a < b → nat_lt a b ≡ true
-lt_is a b h = grind (arith, nat_tests)
-
 -- the slots, and the numbers that have a place, of which some were given
 module _ (given : ℕ) (rows : ℕ → List (Option Slot)) where
   lies_placed : IsUnused given (lies_in rows) → (i : ℕ) (slot : Slot) → lies_in rows i ≡ Some slot → own_places given (has_in rows) i ≡ true
@@ -78,7 +75,7 @@ module _ (given : ℕ) (rows : ℕ → List (Option Slot)) where
       not_below k = grind (arith, nat_tests)
 
       both : (b : Bool) → nat_lt i given ≡ b → (b && has_in rows i) ≡ true
-      both true k = lt_is (i % 64) (length (rows (i / 64))) (slice_get_within (rows (i / 64)) (i % 64) (Some slot) (within (slice_get (rows (i / 64)) (i % 64)) slot e))
+      both true k = lt-ltb (i % 64) (length (rows (i / 64))) (slice_get_within (rows (i / 64)) (i % 64) (Some slot) (within (slice_get (rows (i / 64)) (i % 64)) slot e))
       both false k = absurd (none_some (sym (unused.none i (not_below k)) ∙ e))
 
 placed_below : (given : ℕ) (own : ℕ → Bool) (i : ℕ) → own_places given own i ≡ true → nat_lt i given ≡ true

@@ -78,7 +78,7 @@ left_out : (s : State) → s.in_group ≡ false → left_from s [] ≡ s ∷ []
 left_out s e = ap (λ b. cond b [] (s ∷ [])) e
 
 -- where no group is open, the state now is the last that may be left
-left_end : (actions : List Action) (s : State) → (after_all actions s).in_group ≡ false → (before : List State) × (left_from s actions ≡ before ++ after_all actions s ∷ [])
+pub left_end : (actions : List Action) (s : State) → (after_all actions s).in_group ≡ false → (before : List State) × (left_from s actions ≡ before ++ after_all actions s ∷ [])
 left_end [] s e = ([], left_out s e)
 left_end (a ∷ actions) s e =
     let rest = left_end actions (after a s) e in

@@ -4,11 +4,11 @@ use Rattle.std.proofs.lemmas.Bool.{eqb-true}
 use Rattle.std.proofs.lemmas.Bool.Decides.{nat_tests}
 use Rattle.std.specs.List.{list_all}
 use lib.Dec.{eqb}
+use Rattle.sled_nodes.proofs.Basics.{first_true, second_true}
 use Rattle.sled_store.specs.declared.page.Page.{Page}
 use Rattle.sled_pages.specs.Memory.{empty_store}
 use Rattle.sled_store.specs.State.{State, after, after_all}
 use Rattle.sled_store.specs.Store.{now, AreGiven}
-use Rattle.sled_nodes.proofs.Basics.{first_true, second_true}
 use Rattle.store_examples.specs.declared.log_pages.LogPages.{LogPages}
 use Rattle.store_examples.specs.declared.log_pages.Logged.{Logged}
 use Rattle.store_examples.specs.declared.log_pages.Logged.TheVariants.{PageBecame, RootBecame, GroupBegan, GroupEnded}

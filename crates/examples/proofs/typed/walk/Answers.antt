@@ -1,4 +1,4 @@
-use Rattle.std.proofs.Common.{◌∙◌, Ok}
+use Rattle.std.proofs.Common.{◌∙◌}
 use Rattle.sled_nodes.proofs.Basics.{ok_weaker, err_weaker}
 use Rattle.examples.proofs.Walking.{walks, walks_foreign, ends_empty}
 use Rattle.examples.proofs.typed.walk.Goals as goal

@@ -1,7 +1,7 @@
 use Rattle.std.proofs.Common.{◌≡◌, Option, Some, Result, Ok, Err, IfOk, sym, ap, subst, ◌∙◌}
 use Rattle.std.specs.FinMap.Entries.{find, put}
+use Rattle.sled_nodes.proofs.Put.{found_here}
 use Rattle.sled_nodes.specs.Order.{Key, key_cmp}
-use Rattle.sled_batch.proofs.Found.{found_here}
 use Rattle.sled_store.specs.Store.{Store}
 use Rattle.tree_transactions.specs.Trees.{Shows, Records}
 use Rattle.tree_transactions.specs.declared.tree.TransactionalTree.{TransactionalTree}

@@ -1,6 +1,6 @@
 use Rattle.std.proofs.Common.{subst}
-use Rattle.sled.specs.theory.Watched.{links_watched_as}
 use Rattle.sled_tree.proofs.Linking.{leaf_of}
+use Rattle.sled.specs.theory.Watched.{links_watched_as}
 use Rattle.sled.proofs.KeptSteps.{told_alone}
 use Rattle.sled.proofs.step_kept.link_prepared.Goals as goal
 
