@@ -728,17 +728,17 @@ def groups_come_among_other_calls_at_random(s):
 
 @crowd_case
 def a_batch_reads_the_way_to_each_key(s):
-    """A batch reads the pages on the way to each of its keys, and once more as it writes those that it changes; but the first that it
-    changes in a leaf it writes there."""
+    """A batch reads the pages on the way to each of its keys, from the index on that has it and the key before it, and once more as it
+    writes those that it changes; but the first that it changes in a leaf it writes there."""
     s.insert(*below(18))
     s.line('get %00', 'value %00')
     s.ask('reads')
     s.line('batch', 'done')
     s.line('reads', 'reads 0')
     s.line('batch %00 %00 %11 %11 %ff -', 'done')
-    s.line('reads', 'reads 6')
+    s.line('reads', 'reads 4')
     s.line('batch %00 x %11 %11 %05 -', 'done')
-    s.line('reads', 'reads 8')
+    s.line('reads', 'reads 5')
     s.line('flush', 'flushed 26')
     s.line('batch %00 x %05 -', 'done')
     s.line('flush', 'flushed 0')

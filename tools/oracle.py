@@ -41,7 +41,10 @@ TEXTS = {1: 'collection not found', 2: 'unsupported: ', 4: 'io fault ', 5: 'corr
 
 
 class BadLine(Exception):
-    """A line that cannot be read, and why."""
+    """A line that cannot be read, and why. A byte that a terminal does not show is spelled."""
+
+    def __init__(self, why):
+        super().__init__(re.sub('[^ -~]', lambda byte: f'%{ord(byte[0]):02x}', why))
 
 
 # Words.
@@ -60,7 +63,7 @@ def value_of(text):
     if text == '%':
         return b''
     if text == '-' or not re.fullmatch('(?:[!-$&-~]|%[0-9a-f]{2})+', text):
-        raise BadLine(f'`{text}` is no byte string: % and two lower-case hexadecimal digits stand for a byte')
+        raise BadLine(f'`{text}` is no byte string: `!` to `~` but for `%` stand for themselves, any other byte and a `-` alone as % and two lower-case hexadecimal digits')
     return bytes(int(p[1:], 16) if len(p) > 1 else ord(p) for p in re.findall('%..|.', text))
 
 
@@ -507,6 +510,11 @@ def is_settled(node):
     return not node.merging and node.child is None and not node.should_split() and not node.should_merge()
 
 
+def may_change(node, _, key, value=None):
+    """Whether an insert or a removal may change a leaf where it is: its key lies there, and it changes what the leaf has."""
+    return is_settled(node) and has_key(node, key) and node.get(key) != value
+
+
 def ended(steps):
     """What steps give at their end."""
     try:
@@ -634,18 +642,43 @@ def look(store, tree, target):
 
 
 def look_at(store, tree, target):
-    """The page of that leaf. The way to it goes right, or down by the last pointer within the bound, but to no merging child."""
-    pid = store.roots[tree.name]
-    while True:
+    """The page of that leaf."""
+    *_, leaf = way_to(store, store.roots[tree.name], target)
+    return leaf
+
+
+def way_to(store, pid, target):
+    """The pages on the way to that leaf from one on. It goes right, or down by the last pointer within the bound, but to no merging child."""
+    while pid is not None:
         view = store.read(pid)
+        yield view
         node = view.node
         if node.hi != b'' and is_up_to(target, node.hi):
             pid = node.next
-        elif node.leaf:
-            return view
         else:
-            pids = [p for k, p in node.entries if is_up_to(target, k)]
-            pid = pids[-2] if pids[-1] == node.child else pids[-1]
+            pid = None if node.leaf else child_under(node, target)
+
+
+def child_under(node, target):
+    pids = [p for k, p in node.entries if is_up_to(target, k)]
+    return pids[-2] if pids[-1] == node.child else pids[-1]
+
+
+def look_near(store, tree, key, way):
+    """The page of the leaf in which a key lies. The way to it begins below the last index of a way that has the key, or else at the root; and
+    the indexes on it are the way's then."""
+    target, start = (True, key), store.roots[tree.name]
+    while way and not has_key(way[-1], key):
+        way.pop()
+    if way:
+        start = child_under(way[-1], target)
+    *passed, leaf = way_to(store, start, target)
+    way += [view.node for view in passed if not view.node.leaf]
+    return leaf
+
+
+def has_key(node, key):
+    return node.lo <= key and (node.hi == b'' or key < node.hi)
 
 
 class Range:
@@ -843,7 +876,7 @@ def read_line(text, forms=FORMS):
     """The words of a line: the program's own, and what the others stand for."""
     words = text.split(' ')
     if forms is FORMS and '' in words:
-        raise BadLine('a line begins with a word; one space stands between two')
+        raise BadLine('no space stands before the first word or behind the last, and one between two words')
     if forms is FORMS and words[0] in ('help', '?'):
         return read_help(words)
     if words[0] == 'page' and forms is FORMS:
@@ -1220,28 +1253,34 @@ class Shell:
         trees = [self.there(handle) for handle, _ in batches]
         changes, writes, told = [], {}, []
         for tree, (_, pairs) in zip(trees, batches):
-            given = None
+            way = []
             for key, value in pairs:
-                leaf = look_at(self.store, tree, (True, key))
+                leaf = look_near(self.store, tree, key, way)
                 old = leaf.node.get(key)
                 if writes.get((tree, key), old) != value:
-                    begins = old != value and leaf.pid != given and is_settled(leaf.node)
+                    begins = old != value and is_settled(leaf.node)
                     changes.append((tree, ('remove', key) if value is None else ('insert', key, value), leaf if begins else None))
-                    given = leaf.pid
                 writes[tree, key] = value
         if not changes:
             return
         self.store.begin_group()
+        changed = None
         for tree, call, leaf in changes:
-            self.write_one(InGroup(tree, told), call, leaf)
+            self.write_one(InGroup(tree, told), call, leaf, changed)
+            changed = leaf and leaf.pid
         self.store.seal_group()
         for tree, key, value in told:
             tree.tell(key, value)
 
-    def write_one(self, tree, call, leaf):
-        """Makes a write of a group: at the leaf that the read of its key found, where there is one and it has not changed since."""
-        if leaf is not None and ended(act(self.store, tree, call, leaf)) is not None:
-            return
+    def write_one(self, tree, call, leaf, changed):
+        """Makes a write of a group: at the leaf that the read of its key found, where there is one. It is read again where the write before
+        it changed it, or another one did. From the root where the write cannot be made there."""
+        if leaf is not None:
+            if leaf.pid != changed and ended(act(self.store, tree, call, leaf)) is not None:
+                return
+            again = self.store.read(leaf.pid)
+            if again and may_change(again.node, *call) and ended(act(self.store, tree, call, again)) is not None:
+                return
         for _ in fly(self.store, tree, call):
             pass
 

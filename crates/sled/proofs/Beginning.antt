@@ -1,19 +1,16 @@
 -- The calls of a group, at the leaves that were read for them.
-use Rattle.std.proofs.Common.{◌≡◌, ℕ, Bool, false, cond, List, [], ◌∷◌, ◌++◌, Option, Some, None, option_map, sym, refl, ap, ◌∙◌, subst, inl, inr, arith}
+use Rattle.std.proofs.Common.{◌≡◌, ℕ, Bool, false, cond, List, [], ◌∷◌, ◌++◌, Option, Some, None, sym, refl, ap, ◌∙◌, subst, inl, inr, arith}
 use Rattle.std.specs.FinMap.Entries.{find}
 use Rattle.std.specs.declared.ops.Bound.{Bound}
 use Rattle.std.specs.declared.ops.Bound.TheVariants.{Included}
-use Rattle.sled_nodes.proofs.Basics.{some_is, true_false}
+use Rattle.sled_nodes.proofs.Basics.{true_false}
 use Rattle.sled_nodes.specs.Node.{value_at}
 use Rattle.sled_nodes.specs.Order.{Key, key_cmp}
 use Rattle.sled_nodes.specs.declared.error.Error.{Error}
 use Rattle.sled_nodes.specs.declared.error.Error.TheVariants.{CollectionNotFound, Unsupported, ReportableBug, Io, Corruption, NoMemory, Closed}
-use Rattle.sled_nodes.specs.declared.node.Data.{Data}
-use Rattle.sled_nodes.specs.declared.node.Data.TheVariants.{Leaf, Index}
 use Rattle.sled_nodes.specs.declared.node.Node.{Node}
 use Rattle.sled_store.specs.In.{In}
 use Rattle.sled_store.specs.Store.{Store, now}
-use Rattle.sled_store.specs.declared.page.Page.{Page}
 use Rattle.sled_store.specs.declared.page.View.{View}
 use Rattle.sled_model.specs.Maps.{Merge}
 use Rattle.sled_model.specs.Answer.{key_of, same_value, reply_of_read}
@@ -23,10 +20,10 @@ use Rattle.sled_model.specs.State.{IsOnKey}
 use Rattle.sled_model.specs.declared.call.Call.{Call}
 use Rattle.sled_model.specs.declared.reply.Reply.TheVariants.{Value}
 use Rattle.sled_model.specs.declared.tree.Tree.{Tree}
-use Rattle.tree_laws.specs.Forest.{Forest, place, Holds, IsNodeAt}
-use Rattle.tree_laws.specs.Snapshot.{Snapshot, nodes_at, HasForest, IsActing}
+use Rattle.tree_laws.specs.Forest.{Forest}
+use Rattle.tree_laws.specs.Snapshot.{Snapshot, HasForest, IsActing}
 use Rattle.tree_laws.proofs.Runs.{In-right}
-use Rattle.tree_reads.specs.Walk.{IsLeafFor, RefusesWalk, refuses_walk_as}
+use Rattle.tree_reads.specs.Walk.{IsWay, IsLeafFor, RefusesWalk, refuses_walk_as}
 use Rattle.tree_reads.proofs.Seeking.{value_found}
 use Rattle.sled_tree.specs.Change.{reply_at}
 use Rattle.sled_tree.specs.Course.{first_aim}
@@ -34,11 +31,12 @@ use Rattle.sled_tree.specs.Known.{IsKnown}
 use Rattle.sled_tree.specs.declared.flight.InFlight.{InFlight}
 use Rattle.sled_tree.specs.declared.flight.Job.{Job}
 use Rattle.sled_tree.proofs.Known.{aims, known_new}
-use Rattle.tree_groups.specs.Groups.{AreReady, AreKnown, jobs_of}
+use Rattle.tree_groups.specs.Groups.{IsSettled, AreReady, AreKnown, jobs_of}
+use Rattle.tree_groups.proofs.Ready.{acting_at}
 use Rattle.sled.specs.Calls.{MustBeRefused, must_be_refused_as}
 use Rattle.sled.specs.Sound.{IsDb}
 use Rattle.sled.specs.Values.{DbValue, db_state, numbers_of, snapshot_of_db}
-use Rattle.sled.specs.theory.Groups.{flight_from, Finds, ReadsKey, IsSettled, begins_as, BeginsAt, Stands, value_in, unread}
+use Rattle.sled.specs.theory.Groups.{flight_from, Finds, ReadsKey, begins_as, BeginsAt, Stands, value_in, unread}
 use Rattle.sled.proofs.Reading.{reads}
 use Rattle.sled.proofs.Trees.{current, numbered}
 
@@ -70,6 +68,12 @@ module _ {P M : Type 0} (store : P → Store) (d seen : DbValue P M) (same : d �
       → (n : Node) → n ≡ leaf.node → (found : Option Key) → found ≡ value_at n.content bytes → (stands : Bool) → stands ≡ same_value found value → ReadsKey (store seen.pages) root key value leaf stands
   reads_key_in root bytes key value leaf looked e is = reads_key (store seen.pages) root bytes key value leaf looked e (subst (λ (z : DbValue P M). IsLeafFor (now (store z.pages)) root (Included bytes) 0 leaf looked) same is)
 
+  pub way_in : (root : ℕ) (way : List View) → IsWay (now (store seen.pages)) root way → IsWay (now (store d.pages)) root way
+  way_in root way h = subst (λ (z : DbValue P M). IsWay (now (store z.pages)) root way) (sym same) h
+
+  pub way_out : (root : ℕ) (way : List View) → IsWay (now (store d.pages)) root way → IsWay (now (store seen.pages)) root way
+  way_out root way h = subst (λ (z : DbValue P M). IsWay (now (store z.pages)) root way) same h
+
   pub walk_unread_in : (of : ℕ → ℕ) (root : ℕ) (e : Error) → RefusesWalk of (store d.pages) root e → unread (store seen.pages) e
   walk_unread_in of root e r = walk_unread of (store seen.pages) root e (subst (λ (z : DbValue P M). RefusesWalk of (store z.pages) root e) same r)
 
@@ -99,35 +103,11 @@ changes_with key None (Some x) e = refl
 
 -- ---- what a call knows of the leaf that was read for it
 
-leaf_of : (lo hi : Key) (d : Data) → Holds 0 lo hi d → (es : List (Key × Key)) × (d ≡ Leaf es)
-leaf_of lo hi (Leaf es) h = (es, refl)
-leaf_of lo hi (Index es) h = absurd h
-
 module _ (m : Snapshot) (tree : Tree) (root : ℕ) (named : m.numbers tree.name ≡ Some tree.number) (there : m.state.roots tree.name ≡ Some root) (leaf : View) (settled : IsSettled leaf.node) (target : Bound Key) (looked : ℕ) (found : IsLeafFor m.state root target 0 leaf looked) where
-  live_node : nodes_at m leaf.pid ≡ Some leaf.node
-  live_node = ap (option_map (λ (g : Page). g.node)) found.live
-
   acting : (w : Forest) → HasForest m w → IsActing m w tree.name tree.number target leaf
-  acting w is = record {
-    seen = record {
-      view = record { given = is.versions leaf.pid page found.live; speaks = λ g at same. ap (λ (z : Page). z.node) (some_is (sym at ∙ found.live)) };
-      stood = record { page = is.pids leaf.pid page found.live; tree = is.given tree.name tree.number named; now = inr (inr (leaf.node, live_node, refl, inl chained)) };
-      is_open = record { not_merging = settled.not_merging; free = settled.free };
-      sound = sound;
-    };
-    under = let here = found.is w is.formed tree.name there in (here.0.begins, here.0.ends);
-    es = (leaf_of leaf.node.lo leaf.node.hi leaf.node.content sound.holds).0;
-    content = (leaf_of leaf.node.lo leaf.node.hi leaf.node.content sound.holds).1;
-  }
-    where
-      page : Page
-      page = record { version = leaf.version; node = leaf.node }
-
-      chained : In leaf.pid (w.chain (place tree.name 0))
-      chained = let ahead = (found.is w is.formed tree.name there).2 in subst (λ l. In leaf.pid l) (sym ahead.is) (In-right ahead.before (leaf.pid ∷ ahead.behind) leaf.pid (inl refl))
-
-      sound : IsNodeAt 0 leaf.node
-      sound = let here = is.formed.page (place tree.name 0) leaf.pid (is.formed.homed (place tree.name 0) leaf.pid chained) in subst (λ (n : Node). IsNodeAt 0 n) (some_is (sym here.1.live ∙ live_node)) here.1.sound
+  acting w is =
+      let here = found.is w is.formed tree.name there in
+      acting_at m tree.name tree.number named leaf settled found.live target (here.0.begins, here.0.ends) w is (subst (λ l. In leaf.pid l) (sym here.2.is) (In-right here.2.before (leaf.pid ∷ here.2.behind) leaf.pid (inl refl)))
 
 module _ (m : Snapshot) (s : Store) (shown : m.state ≡ now s) (tree : Tree) (root : ℕ) (named : m.numbers tree.name ≡ Some tree.number) (there : m.state.roots tree.name ≡ Some root) (key : Key) (value : Option Key) where
   abbrev call : Call

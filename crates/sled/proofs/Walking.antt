@@ -7,6 +7,7 @@ use Rattle.sled_model.specs.Maps.{Merge}
 use Rattle.sled_model.specs.State.{IsOnKey, range_of}
 use Rattle.sled_model.specs.Refusal.{must_refuse, ToStep}
 use Rattle.sled_model.specs.declared.TheConstants.{MAX_LOOPS}
+use Rattle.tree_laws.specs.declared.flight.Stage.TheVariants as stage
 use Rattle.sled_tree.specs.Known.{IsKnown}
 use Rattle.sled_tree.specs.declared.flight.InFlight.{InFlight}
 use Rattle.sled_tree.specs.declared.flight.Job.{Job}

@@ -4,9 +4,10 @@
 //! Then the group is begun, the writes are made by the steps of calls in flight, repairs included, and the group is sealed. Once it is
 //! begun a refusal leaves it open, so that the database is closed: no crash leaves any of it.
 //!
-//! A write begins at the leaf that the read of its key found, where it has nothing to repair there. Of several writes in one leaf only
-//! the first does: it changes the leaf, so that the others would find another version than they read.
-ghost use Rattle.std.specs.Prelude.{◌≡◌, false, IsTrue, IfOk, IfErr, OnOk, OnErr, [], ◌∷◌, Some, None, ◌++◌};
+//! A write begins at the leaf that the read of its key found, where it has nothing to repair there. Of several writes in one leaf the
+//! others read it again, since the first changes it. The keys of a batch ascend, so the read of each begins where that of the one before
+//! it went down last, if its leaf lies there too.
+ghost use Rattle.std.specs.Prelude.{◌≡◌, false, IfOk, IfErr, OnOk, OnErr, [], ◌∷◌, Some, None, ◌++◌};
 ghost use Rattle.std.specs.FinMap.Entries.{find};
 ghost use Rattle.sled_nodes.specs.Order.{key_cmp};
 ghost use Rattle.sled_batch.specs.Batch.{Rises};
@@ -19,24 +20,25 @@ ghost use Rattle.sled_model.specs.declared.event.Event.TheVariants as event;
 ghost use Rattle.sled_queues.specs.Queues.{IsCalm, Becomes};
 ghost use Rattle.sled_queues.specs.Laws.{prepared_all};
 ghost use Rattle.tree_groups.specs.Groups.{AreReady, jobs_of};
+ghost use Rattle.tree_reads.specs.Walk.{IsWay};
 ghost use Rattle.sled.specs.Calls.{MustBeRefused};
-ghost use Rattle.sled.specs.theory.Groups.{jobs_of_write, jobs_of_writes, flight_from, Finds, FindsMore, Stands, stands_over, ReadsKey, IsSettled, BeginsAt, unread, events_of_call, Prepares, StopsPreparing, MakesAll, StopsAll};
+ghost use Rattle.sled.specs.theory.Groups.{jobs_of_write, jobs_of_writes, flight_from, Finds, FindsMore, Stands, stands_over, ReadsKey, BeginsAt, unread, events_of_call, Prepares, StopsPreparing, MakesAll, StopsAll};
 
 use crate::db::Db;
 use crate::tree_list::number_of;
 use sled_batch::Batch;
 use sled_model::{Call, Event, MergeOperator, Tree};
 use sled_nodes::texts::HANDLE_OF_ANOTHER_DATABASE;
-use sled_nodes::{Error, IVec, Node, Pid, Result};
+use sled_nodes::{Error, IVec, Pid, Result};
 use sled_queues::Queues;
 use sled_store::{Pages, View};
 use sled_tree::{Aim, InFlight, Job, Stage};
 use std::alloc::Global;
-use std::ops::Bound;
-use tree_groups::write_group;
-use tree_reads::leaf_at;
+use tree_groups::{is_settled, write_group};
+use tree_reads::leaf_near;
 
 // A call at the leaf that it has read, or without one as it begins.
+#[inline(always)]
 fn flight_from(tree: Tree, call: Call, leaf: Option<View>) -> InFlight
     ensures { result ≡ flight_from tree call leaf }
 {
@@ -52,6 +54,7 @@ fn flight_from(tree: Tree, call: Call, leaf: Option<View>) -> InFlight
 }
 
 // The call that writes a key in a tree.
+#[inline(always)]
 fn made(tree: &Tree, key: &IVec, value: &Option<IVec>) -> Result<(Tree, Call)>
     ensures ok { IfOk result (λ job. (job.0 ≡ tree.now) × (job.1 ≡ call_with key.now value.now)) }
     ensures err { IfErr result (λ e. e ≡ NoMemory) }
@@ -70,6 +73,7 @@ fn made(tree: &Tree, key: &IVec, value: &Option<IVec>) -> Result<(Tree, Call)>
 }
 
 // The call that sets the value at a key, or takes the key out.
+#[inline(always)]
 fn write_call(key: &IVec, value: &Option<IVec>) -> Result<Call>
     ensures ok { IfOk result (λ call. call ≡ call_with key.now value.now) }
     ensures err { IfErr result (λ e. e ≡ NoMemory) }
@@ -88,6 +92,7 @@ fn write_call(key: &IVec, value: &Option<IVec>) -> Result<Call>
 }
 
 // Adds the call that writes a key in a tree, at a leaf or as it begins.
+#[inline(always)]
 fn add_call(
     flights: &mut Vec<InFlight>,
     tree: &Tree,
@@ -110,19 +115,12 @@ fn add_call(
     }
 }
 
-// Whether nothing is to be repaired at a leaf, and it need not merge either.
-fn is_settled(leaf: &View) -> bool
-    ensures { IsTrue result → IsSettled leaf.now.node }
-{
-    let node: &Node = &leaf.node;
-    !node.merging && node.merging_child.is_none() && !node.should_split() && !node.should_merge()
-}
-
-// The leaf, where the call may begin there. A leaf that a call before it was given changes before this one is made.
-fn begins_at(leaf: View, given: Option<Pid>, stands: bool) -> Option<View>
+// The leaf, where the call may begin there.
+#[inline(always)]
+fn begins_at(leaf: View, stands: bool) -> Option<View>
     ensures { BeginsAt leaf stands result }
 {
-    if !stands && given != Some(leaf.pid) && is_settled(&leaf) {
+    if !stands && is_settled(&leaf) {
         Some(leaf)
     } else {
         drop(leaf);
@@ -237,14 +235,22 @@ impl<P: Pages, M: MergeOperator> Db<P, M> {
         Ok(())
     }
 
-    // The leaf of a key, and whether the value that the key is to have stands there.
-    fn read_key(&self, root: Pid, key: &IVec, value: &Option<IVec>) -> Result<(View, bool)>
+    // The leaf of a key, and whether the value that the key is to have stands there. The walk begins below the way of the one before it, and leaves its own.
+    fn read_key(
+        &self,
+        root: Pid,
+        key: &IVec,
+        value: &Option<IVec>,
+        way: &mut Vec<View>,
+    ) -> Result<(View, bool)>
+        requires { IsWay (now (P.store self.now.pages)) root way.old.items }
+        ensures way { IsWay (now (P.store self.now.pages)) root way.new.items }
         ensures ok { IfOk result (λ read. ReadsKey (P.store self.now.pages) root key.now value.now read.0 read.1) }
         ensures err { IfErr result (unread (P.store self.now.pages)) }
     {
         let bytes = key.as_ref();
-        let (leaf, _) = match leaf_at(self.alloc, &self.pages, root, Bound::Included(bytes), 0) {
-            Ok(found) => found,
+        let leaf = match leaf_near(self.alloc, &self.pages, root, bytes, way) {
+            Ok(leaf) => leaf,
             Err(e) => return Err(e),
         };
         match leaf.node.get(bytes) {
@@ -283,7 +289,7 @@ impl<P: Pages, M: MergeOperator> Db<P, M> {
         stands
     }
 
-    // Adds the write of a key, where it changes something, and answers the leaf of the last write that was added.
+    // Adds the write of a key, where it changes something. The walk to its leaf begins below the way of the one before it.
     fn add_change(
         &self,
         before: &[(Tree, Batch)],
@@ -291,26 +297,27 @@ impl<P: Pages, M: MergeOperator> Db<P, M> {
         root: Pid,
         key: &IVec,
         value: &Option<IVec>,
-        given: Option<Pid>,
+        way: &mut Vec<View>,
         flights: &mut Vec<InFlight>,
-    ) -> Result<Option<Pid>>
+    ) -> Result<()>
         requires tested { must_refuse_of (db_state P.store M.meant self.now) (trees_of_batches before.now ++ tree.now ∷ []) ≡ None }
         requires root { (now (P.store self.now.pages)).roots tree.now.name ≡ Some root }
+        requires way { IsWay (now (P.store self.now.pages)) root way.old.items }
+        ensures way { IsWay (now (P.store self.now.pages)) root way.new.items }
         ensures ok { OnOk result (FindsMore (snapshot_of_db P.store self.now) (jobs_of_write ((after_writes (writes_of before.now) (db_state P.store M.meant self.now)).trees tree.now.name) (record { tree = tree.now; key = key.now; value = value.now })) flights.old.items flights.new.items) }
         ensures err { IfErr result (unread (P.store self.now.pages)) }
     {
         self.audit();
-        let (leaf, stood) = match self.read_key(root, key, value) {
+        let (leaf, stood) = match self.read_key(root, key, value, way) {
             Ok(read) => read,
             Err(e) => return Err(e),
         };
         if self.stands(before, tree, key, value, stood) {
             drop(leaf);
-            return Ok(given);
+            return Ok(());
         }
-        let pid = leaf.pid;
-        add_call(flights, tree, key, value, begins_at(leaf, given, stood))?;
-        Ok(Some(pid))
+        add_call(flights, tree, key, value, begins_at(leaf, stood))?;
+        Ok(())
     }
 
     // Adds the writes of a batch that change something, as calls that are ready to be made, where these batches come before it.
@@ -329,10 +336,14 @@ impl<P: Pages, M: MergeOperator> Db<P, M> {
             Ok(root) => root,
             Err(e) => return Err(e),
         };
-        let mut given = None;
+        let mut way = Vec::new(self.alloc);
         for (key, value) in batch.writes().iter() {
-            given = self.add_change(before, tree, root, key, value, given, flights)?;
+            if let Err(e) = self.add_change(before, tree, root, key, value, &mut way, flights) {
+                drop(way);
+                return Err(e);
+            }
         }
+        drop(way);
         Ok(())
     }
 

@@ -1,10 +1,11 @@
 -- A call that is to link its change, in two halves.
-use Rattle.std.proofs.Common.{◌≡◌, ℕ, Option, Some, None, Ok, Err, MatchOption, sym, refl, ap, subst, inl, inr}
+use Rattle.std.proofs.Common.{◌≡◌, ℕ, Bool, true, false, Option, Some, None, Result, Ok, Err, MatchOption, sym, refl, ap, subst, inl, inr}
 use Rattle.sled_nodes.proofs.Basics.{none_some, some_is}
 use Rattle.sled_nodes.specs.Node.{after_link}
 use Rattle.sled_store.specs.Store.{Store, now, Changes, IsRefused}
 use Rattle.sled_nodes.specs.declared.error.Error.{Error}
 use Rattle.sled_nodes.specs.declared.error.Error.TheVariants.{NoMemory}
+use Rattle.sled_nodes.specs.declared.link.Link.{Link}
 use Rattle.sled_nodes.specs.declared.node.Data.{Data}
 use Rattle.sled_store.specs.declared.page.View.{View}
 use Rattle.sled_model.specs.Maps.{Merge as Operator}
@@ -12,53 +13,82 @@ use Rattle.sled_model.specs.Answer.{event_of, key_of}
 use Rattle.sled_model.specs.declared.call.Call.{Call}
 use Rattle.sled_model.specs.declared.decision.Effect.{Effect}
 use Rattle.sled_model.specs.declared.decision.Effect.TheVariants as effect
+use Rattle.sled_model.specs.declared.reply.Reply.{Reply}
 use Rattle.tree_laws.specs.declared.flight.Stage.{Stage}
 use Rattle.tree_laws.specs.declared.flight.Stage.TheVariants as stage
 use Rattle.sled_tree.specs.Change.{link_of, decision_at}
 use Rattle.sled_tree.specs.Course.{course_of}
 use Rattle.sled_tree.specs.Follows.{Follows, TakesWay}
 use Rattle.sled_tree.specs.theory.Change.{IsChangeOf, IsOfPair, event_of_link}
-use Rattle.sled_tree.specs.theory.Linking.{IsAtLink, begun_again, StepsBy, LinksPrepared}
-use Rattle.sled_tree.specs.theory.StageAction.{StageActionBy, Only}
+use Rattle.sled_tree.specs.theory.Linking.{IsAtLink, begun_again, StepsBy, went_with, LinksAtLeaf, replies_with, LinksPrepared}
+use Rattle.sled_tree.specs.theory.StageAction.{StageAction, StageActionBy, Only}
 use Rattle.sled_tree.specs.declared.act.Change.{Change}
 use Rattle.sled_tree.specs.declared.flight.InFlight.{InFlight}
 use Rattle.sled_tree.specs.declared.flight.Next.TheVariants as next
+use Rattle.sled_tree.specs.declared.flight.Went.{Went}
 use Rattle.sled_tree.specs.declared.flight.Went.TheVariants as went
 use Rattle.sled_tree.proofs.Acting.{act_moves, links_follows, late_follows}
-use Rattle.sled_tree.proofs.Facts.{refused, stale, unable, restarts, goes_on, by_these}
+use Rattle.sled_tree.proofs.Facts.{once_acts, refused, stale, unable, restarts, goes_on, by_these}
 use Rattle.sled_tree.proofs.Passing.{act_changes, act_current, passes_further}
 
+no_answer : (e : Error) (d : Result Bool Error) → d ≡ Err e → d ≡ Ok false → ⊥
+no_answer e d is late = cc
+
+not_late : (d : Result Bool Error) → d ≡ Ok true → d ≡ Ok false → ⊥
+not_late d is late = cc
+
 -- what came of the link
-module _ (change : Change) (a b : Store) (f : InFlight) (view : View) (here : f.stage ≡ stage.Act view) where
-  pub link_refused : (e : Error) (g : InFlight) → IsRefused e a b → LinksPrepared change a f (went.Refused e) b g
+module _ (link : Link) (a b : Store) (f : InFlight) (view : View) (here : f.stage ≡ stage.Act view) where
+  abbrev with_reply : Reply → Change
+  with_reply reply = record { link = link; reply = reply }
+
+  pub link_refused : (e : Error) (g : InFlight) → IsRefused e a b → LinksAtLeaf link a f (Err e) b g
   link_refused e g r = record {
-    is = λ operator p. record {
-      advances = record { is = subst (λ z. StageActionBy (Only operator) (course_of f) a z (next.Refused e) b) (sym here) (by_these (course_of f) a b (stage.Act view) (next.Refused e) (refused (course_of f) a b (stage.Act view) e r)) };
+    is = λ operator reply p. record {
+      advances = record { is = subst (λ z. StageActionBy (Only operator) (course_of f) a z (next.Refused e) b) (sym here) (by_these (course_of f) a b (stage.Act view) (next.Refused e) moves) };
       passes = record { is = tt };
       follows = record { is = subst (λ z. Follows (course_of f) a z (next.Refused e) b) (sym here) (record { is = inr (e, refl, r) }) };
     };
-    replies = tt;
+    touches = moves.touches;
+    again = λ late. absurd (no_answer e (Err e) refl late);
   }
+    where
+      moves : StageAction (course_of f) a (stage.Act view) (next.Refused e) b
+      moves = refused (course_of f) a b (stage.Act view) e r
 
-  pub link_late : (present : Option ℕ) → Changes (after_link change.link) view.pid view.version a b (Err present) → LinksPrepared change a f went.Moved b (begun_again f)
+  pub link_late : (present : Option ℕ) → Changes (after_link link) view.pid view.version a b (Err present) → LinksAtLeaf link a f (Ok false) b (begun_again f)
   link_late present c = record {
-    is = λ operator p. record {
-      advances = goes_on a b f (stage.Act view) stage.Root (next.Go stage.Root) (sym here) refl (by_these (course_of f) a b (stage.Act view) (next.Go stage.Root) (stale (course_of f) a b (stage.Act view) (λ q i. i) c));
+    is = λ operator reply p. record {
+      advances = goes_on a b f (stage.Act view) stage.Root (next.Go stage.Root) (sym here) refl (by_these (course_of f) a b (stage.Act view) (next.Go stage.Root) moves);
       passes = passes_further (now a) (now b) f (stage.Act view) stage.Root (next.Go stage.Root) (sym here) refl (act_current (course_of f) a b view (next.Go stage.Root) c);
-      follows = record { is = subst (λ z. Follows (course_of f) a z (next.Go stage.Root) b) (sym here) (record { is = inl (late_follows operator (course_of f) a b view change (p.is view here) present c) }) };
+      follows = record { is = subst (λ z. Follows (course_of f) a z (next.Go stage.Root) b) (sym here) (record { is = inl (late_follows operator (course_of f) a b view (with_reply reply) (p.is view here) present c) }) };
     };
-    replies = tt;
+    touches = moves.touches;
+    again = λ late. refl;
+  }
+    where
+      moves : StageAction (course_of f) a (stage.Act view) (next.Go stage.Root) b
+      moves = stale (course_of f) a b (stage.Act view) (λ q i. i) c
+
+  pub link_done : (given : ℕ) (g : InFlight) → Changes (after_link link) view.pid view.version a b (Ok given) → LinksAtLeaf link a f (Ok true) b g
+  link_done given g c = record {
+    is = λ operator reply p. record {
+      advances = record { is = subst (λ z. StageActionBy (Only operator) (course_of f) a z (next.Decided reply) b) (sym here) (act_moves operator (course_of f) a b view (with_reply reply) given (p.is view here) c) };
+      passes = record { is = tt };
+      follows = record { is = subst (λ z. Follows (course_of f) a z (next.Decided reply) b) (sym here) (record { is = inl (links_follows operator (course_of f) a b view (with_reply reply) (p.is view here) given c) }) };
+    };
+    touches = inr (once_acts c.is.2);
+    again = λ late. absurd (not_late (Ok true) refl late);
   }
 
-  pub link_done : (given : ℕ) (g : InFlight) → Changes (after_link change.link) view.pid view.version a b (Ok given) → LinksPrepared change a f (went.Decided change.reply) b g
-  link_done given g c = record {
-    is = λ operator p. record {
-      advances = record { is = subst (λ z. StageActionBy (Only operator) (course_of f) a z (next.Decided change.reply) b) (sym here) (act_moves operator (course_of f) a b view change given (p.is view here) c) };
-      passes = record { is = tt };
-      follows = record { is = subst (λ z. Follows (course_of f) a z (next.Decided change.reply) b) (sym here) (record { is = inl (links_follows operator (course_of f) a b view change (p.is view here) given c) }) };
-    };
-    replies = refl;
-  }
+-- .. of a change that was prepared
+pub prepared_so : (change : Change) (a b : Store) (f g : InFlight) (done : Result Bool Error) → LinksAtLeaf change.link a f done b g → (went : Went) → went ≡ went_with change.reply done → LinksPrepared change a f went b g
+prepared_so change a b f g done links went is = subst (λ w. LinksPrepared change a f w b g) (sym is) (record { is = λ operator p. links.is operator change.reply p; replies = go done })
+  where
+    go : (d : Result Bool Error) → replies_with change.reply (went_with change.reply d)
+    go (Ok true) = refl
+    go (Ok false) = tt
+    go (Err e) = tt
 
 -- the leaf that was read
 pub leaf_of : (a : Stage) → IsAtLink a → (view : View) × (a ≡ stage.Act view)

@@ -5,7 +5,7 @@ ghost use Rattle.sled_nodes.specs.declared.error.Error.TheVariants.{NoMemory};
 ghost use Rattle.sled_model.specs.Answer.{key_of};
 ghost use Rattle.sled_tree.specs.Change.{link_of};
 ghost use Rattle.sled_tree.specs.theory.Change.{IsChangeBy, IsChangeOf, IsOfPair, event_of_link};
-ghost use Rattle.sled_tree.specs.theory.Linking.{IsAtLink, PreparesChange, LinksPrepared, StepsBy, begun_again};
+ghost use Rattle.sled_tree.specs.theory.Linking.{IsAtLink, PreparesChange, LinksAtLeaf, LinksPrepared, StepsBy, begun_again};
 
 use crate::flight::{InFlight, Job, Went};
 use sled_model::{Call, Decision, Effect, Event, MAX_LOOPS, MergeOperator, Reply};
@@ -127,15 +127,15 @@ pub fn begin_again(flight: &mut InFlight)
     flight.turns += 1;
 }
 
-/// Links the change that was prepared for a call, at the version of the leaf that the call has read. It is the rest of the step that
-/// `advance` makes of such a call. The call lets go of the leaf before it links, so that a store may change it in place.
+/// Links a change that a call makes of its leaf, at the version that the call has read. Answers whether it was linked; where the leaf has
+/// another version by now the call begins again at the root. It lets go of the leaf before it links, so that a store may change it in
+/// place.
 #[inline(always)]
-pub fn link_change<P: Pages>(pages: &mut P, flight: &mut InFlight, change: Change) -> Went
+pub fn link_at_leaf<P: Pages>(pages: &mut P, flight: &mut InFlight, link: Link) -> Result<bool>
     requires room { flight.old.turns < MAX_LOOPS }
     requires here { IsAtLink flight.old.stage }
-    ensures { LinksPrepared change (P.store pages.old) flight.old result (P.store pages.new) flight.new }
+    ensures { LinksAtLeaf link (P.store pages.old) flight.old result (P.store pages.new) flight.new }
 {
-    let Change { link, reply } = change;
     let leaf = match std::mem::replace(&mut flight.stage, Stage::Root) {
         Stage::Act(leaf) => leaf,
         _ => unreachable!(),
@@ -143,16 +143,34 @@ pub fn link_change<P: Pages>(pages: &mut P, flight: &mut InFlight, change: Chang
     let (pid, version) = (leaf.pid, leaf.version);
     drop(leaf);
     match pages.link(pid, version, link) {
+        Err(e) => Err(e),
+        Ok(Err(_)) => {
+            flight.turns += 1;
+            Ok(false)
+        }
+        Ok(Ok(_)) => Ok(true),
+    }
+}
+
+/// Links the change that was prepared for a call, at the version of the leaf that the call has read. It is the rest of the step that
+/// `advance` makes of such a call.
+#[inline(always)]
+pub fn link_change<P: Pages>(pages: &mut P, flight: &mut InFlight, change: Change) -> Went
+    requires room { flight.old.turns < MAX_LOOPS }
+    requires here { IsAtLink flight.old.stage }
+    ensures { LinksPrepared change (P.store pages.old) flight.old result (P.store pages.new) flight.new }
+{
+    let Change { link, reply } = change;
+    match link_at_leaf(pages, flight, link) {
         Err(e) => {
             drop(reply);
             Went::Refused(e)
         }
-        Ok(Err(_)) => {
+        Ok(false) => {
             drop(reply);
-            flight.turns += 1;
             Went::Moved
         }
-        Ok(Ok(_)) => Went::Decided(reply),
+        Ok(true) => Went::Decided(reply),
     }
 }
 

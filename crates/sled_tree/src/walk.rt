@@ -113,9 +113,9 @@ pub(crate) fn target<'a>(job: &'a Job, aim: &'a Aim) -> Bound<&'a [u8]>
     }
 }
 
-// Whether a node begins within a target and does not end within it.
+/// Whether a node begins within a target and does not end within it.
 #[inline(always)]
-pub(crate) fn lies_under(node: &Node, target: Bound<&[u8]>) -> bool
+pub fn lies_under(node: &Node, target: Bound<&[u8]>) -> bool
     ensures { IsTrue result ↔ LiesUnder (bound_of target.entry) node.now }
 {
     key_is_up_to(&node.lo, target) && (node.hi.len() == 0 || !key_is_up_to(&node.hi, target))
@@ -220,9 +220,9 @@ fn is_clean(job: &Job, aim: &Aim, stage: &Stage, view: &View) -> bool
         && is_under(job, aim, node)
 }
 
-// The reply of a call at its leaf that changes nothing there.
+/// The reply of a call at its leaf that changes nothing there. A call without one changes the leaf. Refused with `NoMemory` alone.
 #[inline(always)]
-fn reply_at(job: &Job, node: &Node) -> Result<Option<Reply>>
+pub fn reply_at(job: &Job, node: &Node) -> Result<Option<Reply>>
     ensures ok { IfOk result (λ reply. reply ≡ reply_at job.now.call node.now.content) }
     ensures err { IfErr result (λ e. e ≡ NoMemory) }
 {

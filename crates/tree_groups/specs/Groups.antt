@@ -1,7 +1,9 @@
 -- A group of writes, over the pages alone.
-use Rattle.std.specs.Prelude.{◌≡◌, ◌≢◌, ℕ, ◌⊎◌, Bool, true, false, List, [], ◌∷◌, map, Option, Some, if◌then◌else◌}
+use Rattle.std.specs.Prelude.{◌≡◌, ◌≢◌, ℕ, ◌≤◌, ◌⊎◌, Bool, true, false, List, [], ◌∷◌, map, Option, Some, None, if◌then◌else◌}
 use Rattle.std.specs.Str.{bytes_eq}
+use Rattle.sled_nodes.specs.Node.{count}
 use Rattle.sled_nodes.specs.declared.error.Error.{Error}
+use Rattle.sled_nodes.specs.declared.node.Node.{Node}
 use Rattle.sled_store.specs.State.{GroupBegins, GroupEnds}
 use Rattle.sled_store.specs.Store.{Store, now, after_action, is_refused_as}
 use Rattle.sled_store.specs.declared.page.View.{View}
@@ -19,6 +21,12 @@ use Rattle.sled_tree.specs.declared.flight.Aim.TheVariants.{Own}
 use Rattle.sled_tree.specs.declared.flight.InFlight.{InFlight}
 use Rattle.sled_tree.specs.declared.flight.Job.{Job}
 use Rattle.tree_groups.specs.Writes.{IsFresh, ActsOften, is_write_refused_as, Keeps}
+
+-- nothing is to be repaired at a node
+pub record IsSettled (n : Node) : Type 0 where
+  pub not_merging : n.merging ≡ false
+  pub free : n.merging_child ≡ None
+  pub fits : count n.content ≤ 16
 
 -- a call that is to link its change at a leaf that it has read
 abbrev pub IsAtLeaf : InFlight → Type 0

@@ -7,9 +7,10 @@ ghost use Rattle.tree_groups.specs.Groups.{IsAtLeaf, AreReady, MakesGroup, Leave
 ghost use Rattle.tree_groups.specs.theory.Groups.{MakesKnown, StopsKnown, WritesAll, StopsWritingAll};
 ghost use Rattle.tree_groups.specs.Writes.{IsFresh, MakesWrite, StopsWriting, OpenGroupLaw, RefusedGroupLaw, SealedGroupLaw, GroupBoundsLaw};
 
+use crate::leaf::{leaf_of, write_at_leaf};
 use sled_model::{MAX_LOOPS, MergeOperator};
 use sled_nodes::texts::WALK_PASSED_TURNS;
-use sled_nodes::{Error, Result};
+use sled_nodes::{Error, Pid, Result};
 use sled_store::Pages;
 use sled_tree::{InFlight, Stage, Went, advance};
 use std::alloc::Global;
@@ -50,36 +51,14 @@ pub fn write<P: Pages>(pages: &mut P, alloc: Global, flight: InFlight) -> Result
     Err(Error::ReportableBug(WALK_PASSED_TURNS))
 }
 
-// Makes a write at the leaf that its call has read. Where the leaf has changed since, the call begins at the root.
-fn write_at_leaf<P: Pages>(pages: &mut P, alloc: Global, flight: InFlight) -> Result<()>
-    requires here { IsAtLeaf flight }
-    requires on_key { IsOnKey flight.job.call }
-    requires plain { needs_operator flight.job.call ≡ false }
-    ensures ok { OnOk result (MakesKnown flight (P.store pages.old) (P.store pages.new)) }
-    ensures err { IfErr result (StopsKnown flight (P.store pages.old) (P.store pages.new)) }
-{
-    let mut flight = flight;
-    let went = advance::<P, Box<dyn MergeOperator + Send>>(pages, alloc, None, &mut flight);
-    match went {
-        Went::Moved => {
-            flight.turns = 0;
-            write(pages, alloc, flight)
-        }
-        Went::Yielded(_, _) => unreachable!(),
-        Went::Decided(reply) => {
-            drop(reply);
-            drop(flight);
-            Ok(())
-        }
-        Went::Refused(cause) => {
-            drop(flight);
-            Err(cause)
-        }
-    }
-}
-
-// Makes a write whose call has yet to begin, or is to link its change.
-fn write_ready<P: Pages>(pages: &mut P, alloc: Global, flight: InFlight) -> Result<()>
+// Makes a write whose call has yet to begin, or is to link its change. The write before it changed this leaf, if it had read one.
+#[inline(always)]
+fn write_ready<P: Pages>(
+    pages: &mut P,
+    alloc: Global,
+    flight: InFlight,
+    changed: Option<Pid>,
+) -> Result<()>
     requires ready { IsFresh flight ⊎ IsAtLeaf flight }
     requires on_key { IsOnKey flight.job.call }
     requires plain { needs_operator flight.job.call ≡ false }
@@ -87,7 +66,7 @@ fn write_ready<P: Pages>(pages: &mut P, alloc: Global, flight: InFlight) -> Resu
     ensures err { IfErr result (StopsKnown flight (P.store pages.old) (P.store pages.new)) }
 {
     match &flight.stage {
-        Stage::Act(_) => write_at_leaf(pages, alloc, flight),
+        Stage::Act(_) => write_at_leaf(pages, alloc, flight, changed),
         _ => write(pages, alloc, flight),
     }
 }
@@ -127,10 +106,13 @@ fn write_all<P: Pages>(pages: &mut P, alloc: Global, flights: Vec<InFlight>) -> 
     ensures ok { OnOk result (WritesAll flights.items (P.store pages.old) (P.store pages.new)) }
     ensures err { IfErr result (StopsWritingAll flights.items (P.store pages.old) (P.store pages.new)) }
 {
+    let mut changed = None;
     for flight in flights {
-        if let Err(e) = write_ready(pages, alloc, flight) {
+        let leaf = leaf_of(&flight);
+        if let Err(e) = write_ready(pages, alloc, flight, changed) {
             return Err(e);
         }
+        changed = leaf;
     }
     Ok(())
 }

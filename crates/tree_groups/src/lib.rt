@@ -6,5 +6,7 @@
 #![tactic(auto)]
 
 mod group;
+mod leaf;
 
 pub use group::{law_group, write, write_group};
+pub use leaf::is_settled;

@@ -4,6 +4,7 @@ use Rattle.std.specs.declared.ops.Bound.{Bound}
 use Rattle.std.specs.declared.ops.Bound.TheVariants.{Included}
 use Rattle.sled_nodes.specs.Order.{Key}
 use Rattle.sled_nodes.specs.Among.{is_up_to}
+use Rattle.sled_store.specs.In.{In}
 use Rattle.sled_store.specs.State.{State, nodes_of}
 use Rattle.sled_store.specs.Store.{Store, now, refuses_read_as}
 use Rattle.sled_nodes.specs.declared.node.Node.{Node}
@@ -28,6 +29,21 @@ pub record IsLeafFor (s : State) (root : ℕ) (target : Bound Key) (from : ℕ) 
   pub more : from < looked
   pub is : (w : Forest) → WellFormed (nodes_of s) s.roots w → (t : Tree) → s.roots t ≡ Some root
       → IsUnder target v.node × (ahead : ℕ) × IsAhead w t 0 v.pid ahead × (ahead + looked ≤ tree_pages s t + from + 1)
+
+-- .. however many pages a walk from the root or from a page below it looked at
+pub record IsLeafOf (s : State) (root : ℕ) (target : Bound Key) (v : View) : Type 0 where
+  pub looked : ℕ
+  pub is : IsLeafFor s root target 0 v looked
+
+-- The page is live as it was read, and at every forest it stands on a level of the tree, with no more pages ahead of it than the tree has
+pub record IsOfTree (s : State) (root : ℕ) (v : View) : Type 0 where
+  pub live : s.pages v.pid ≡ Some (record { version = v.version; node = v.node })
+  pub is : (w : Forest) → WellFormed (nodes_of s) s.roots w → (t : Tree) → s.roots t ≡ Some root
+      → (height : ℕ) × (ahead : ℕ) × IsAhead w t height v.pid ahead × (ahead ≤ tree_pages s t)
+
+-- a walk may begin below each page of the way that one before it has gone
+abbrev pub IsWay : State → ℕ → List View → Type 0
+IsWay s root way = (v : View) → In v way → IsOfTree s root v
 
 -- at every forest the limit is at most this function of the number of the tree's pages
 abbrev pub HasTooMany : (ℕ → ℕ) → State → ℕ → Type 0

@@ -19,7 +19,7 @@ pub use iter::{Iter, Keys, Values, pairs_of};
 pub use nearest::{first_from, last_up_to, value_at};
 pub use prefix::{above_prefix, law_bytes, law_prefix};
 pub use reads::Reads;
-pub use walk::leaf_at;
+pub use walk::{leaf_at, leaf_near};
 
 /// A read that has looked at this many pages is given up.
 pub const MOST_PAGES: u64 = 1_000_000;

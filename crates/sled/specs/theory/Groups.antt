@@ -1,13 +1,12 @@
 -- Of Groups, for inner functions and proofs. How a group is made ready, and then made.
-use Rattle.std.specs.Prelude.{◌≡◌, ℕ, ◌≤◌, ◌⊎◌, List, [], ◌∷◌, ◌++◌, map, Bool, false, Option, Some, None}
+use Rattle.std.specs.Prelude.{◌≡◌, ℕ, ◌⊎◌, List, [], ◌∷◌, ◌++◌, map, Bool, false, Option, Some, None}
 use Rattle.std.specs.FinMap.Entries.{find}
 use Rattle.std.specs.Option.{option_to_list}
 use Rattle.std.specs.declared.ops.Bound.TheVariants.{Included}
-use Rattle.sled_nodes.specs.Node.{count, value_at}
+use Rattle.sled_nodes.specs.Node.{value_at}
 use Rattle.sled_nodes.specs.Order.{Key, key_cmp}
 use Rattle.sled_nodes.specs.declared.error.Error.{Error}
 use Rattle.sled_nodes.specs.declared.error.Error.TheVariants.{NoMemory, ReportableBug}
-use Rattle.sled_nodes.specs.declared.node.Node.{Node}
 use Rattle.sled_nodes.specs.declared.texts.TheConstants.{WALK_PASSED_TURNS}
 use Rattle.sled_store.specs.Store.{Store, now, refuses_read_as}
 use Rattle.sled_store.specs.declared.page.View.{View}
@@ -25,7 +24,7 @@ use Rattle.sled_queues.specs.Laws.{prepared_all}
 use Rattle.tree_laws.specs.Snapshot.{Snapshot}
 use Rattle.tree_laws.specs.declared.flight.Stage.TheVariants.{Act}
 use Rattle.tree_reads.specs.Walk.{IsLeafFor}
-use Rattle.tree_groups.specs.Groups.{AreReady, AreKnown, jobs_of, MakesGroup, LeavesGroup}
+use Rattle.tree_groups.specs.Groups.{IsSettled, AreReady, AreKnown, jobs_of, MakesGroup, LeavesGroup}
 use Rattle.sled_tree.specs.declared.flight.Aim.TheVariants.{Own}
 use Rattle.sled_tree.specs.declared.flight.InFlight.{InFlight}
 use Rattle.sled_tree.specs.declared.flight.Job.{Job}
@@ -79,12 +78,6 @@ pub record ReadsKey (s : Store) (root : ℕ) (key : Key) (value : Option Key) (l
   pub looked : ℕ
   pub found : IsLeafFor (now s) root (Included key) 0 leaf looked
   pub is : stands ≡ same_value (value_at leaf.node.content key) value
-
--- nothing is to be repaired at a node
-pub record IsSettled (n : Node) : Type 0 where
-  pub not_merging : n.merging ≡ false
-  pub free : n.merging_child ≡ None
-  pub fits : count n.content ≤ 16
 
 -- a call begins at its leaf only where it changes the leaf and has nothing to repair there
 abbrev pub begins_as : View → Bool → Option View → Type 0

@@ -1,7 +1,9 @@
 -- A call that is to link its change, in two halves: the change is prepared, and then it is linked.
-use Rattle.std.specs.Prelude.{◌≡◌, ◌+◌, Option, Some}
+use Rattle.std.specs.Prelude.{◌≡◌, ◌+◌, Bool, true, false, Option, Some, Result, Ok, Err}
 use Rattle.sled_store.specs.Store.{Store, now}
 use Rattle.sled_store.specs.declared.page.View.{View}
+use Rattle.sled_nodes.specs.declared.error.Error.{Error}
+use Rattle.sled_nodes.specs.declared.link.Link.{Link}
 use Rattle.sled_model.specs.Maps.{Merge as Operator}
 use Rattle.sled_model.specs.declared.reply.Reply.{Reply}
 use Rattle.tree_laws.specs.declared.flight.Stage.{Stage}
@@ -9,7 +11,8 @@ use Rattle.tree_laws.specs.declared.flight.Stage.TheVariants as stage
 use Rattle.sled_tree.specs.Follows.{FollowsOn}
 use Rattle.sled_tree.specs.Passing.{StepsOnPath}
 use Rattle.sled_tree.specs.theory.Change.{IsChangeOf}
-use Rattle.sled_tree.specs.theory.StageAction.{FlightStepBy, Only}
+use Rattle.sled_tree.specs.StageAction.{ActsAtMostOnce}
+use Rattle.sled_tree.specs.theory.StageAction.{FlightStepBy, Only, is_action_refused_as}
 use Rattle.sled_tree.specs.declared.act.Change.{Change}
 use Rattle.sled_tree.specs.declared.flight.InFlight.{InFlight}
 use Rattle.sled_tree.specs.declared.flight.Went.{Went}
@@ -33,6 +36,23 @@ pub record StepsBy (operator : Option Operator) (old : Store) (f : InFlight) (we
   pub advances : FlightStepBy (Only operator) old f went new g
   pub passes : StepsOnPath (now old) f went (now new) g
   pub follows : FollowsOn old f went new g
+
+-- how the step of a call comes out that links a change with this reply: it was linked, or too late, or is refused
+abbrev pub went_with : Reply → Result Bool Error → Went
+went_with reply (Ok true) = went.Decided reply
+went_with reply (Ok false) = went.Moved
+went_with reply (Err e) = went.Refused e
+
+abbrev pub touches_as : Result Bool Error → Store → Store → Type 0
+touches_as (Ok linked) old new = ActsAtMostOnce old new
+touches_as (Err e) old new = is_action_refused_as e old new
+
+-- Such a step comes of a link, by each operator by which it is the call's, with the reply that the call has then. Whatever is linked, it
+-- is one action at most, and where the link comes too late the call begins again
+pub record LinksAtLeaf (link : Link) (old : Store) (f : InFlight) (done : Result Bool Error) (new : Store) (g : InFlight) : Type 0 where
+  pub is : (operator : Option Operator) (reply : Reply) → PreparesChange operator f (Some (record { link = link; reply = reply })) → StepsBy operator old f (went_with reply done) new g
+  pub touches : touches_as done old new
+  pub again : done ≡ Ok false → g ≡ begun_again f
 
 -- where the call is decided, this is its reply
 abbrev pub replies_with : Reply → Went → Type 0

@@ -1,5 +1,5 @@
 -- Of Walk, for proofs. Reading walks, which repair nothing.
-use Rattle.std.specs.Prelude.{◌≡◌, ◌≢◌, ℕ, suc, ◌<◌, Bool, true, List, [], length, Option, Some, None}
+use Rattle.std.specs.Prelude.{◌≡◌, ◌≢◌, ◌⊎◌, ℕ, suc, ◌<◌, Bool, true, List, [], length, Option, Some, None}
 use Rattle.std.specs.declared.ops.Bound.{Bound}
 use Rattle.std.specs.declared.ops.Bound.TheVariants.{Included}
 use Rattle.sled_nodes.specs.Order.{Key}
@@ -9,6 +9,7 @@ use Rattle.sled_store.specs.State.{Nodes}
 use Rattle.sled_nodes.specs.declared.node.Node.{Node}
 use Rattle.sled_nodes.specs.declared.node.Data.{Data}
 use Rattle.sled_nodes.specs.declared.node.Data.TheVariants.{Leaf, Index}
+use Rattle.sled_store.specs.declared.page.View.{View}
 use Rattle.tree_laws.specs.Forest.{Tree, Forest, place, WellFormed}
 use Rattle.tree_laws.specs.Paths.{CleanFrom, IsAhead}
 use Rattle.tree_reads.specs.Walk.{IsUnder}
@@ -43,3 +44,15 @@ pub record Turns (target : Bound Key) (n : Node) (to : Option ℕ) : Type 0 wher
   pub is : (nodes : Nodes) (roots : Tree → Option ℕ) (w : Forest) → WellFormed nodes roots w → (t : Tree) (p ahead : ℕ) → nodes p ≡ Some n → Stands nodes w t target p ahead
       → turns_as nodes w t target p n ahead to
   pub clean : (nodes : Nodes) (key : Key) (p : ℕ) (first : Bool) (path : List ℕ) → target ≡ Included key → nodes p ≡ Some n → CleanFrom nodes (Included key) p first path → keeps_path nodes key path to
+
+-- from a page that begins within the target it goes on there
+pub record GoesDown (target : Bound Key) (n : Node) (to : Option ℕ) : Type 0 where
+  pub is : (q : ℕ) → to ≡ Some q → (is_up_to target n.lo ≡ true) × Turns target n (Some q)
+
+-- .. and so from a page of a way, or it begins at the root
+pub record BeginsWalk (target : Bound Key) (way : List View) (root p : ℕ) : Type 0 where
+  pub is : (p ≡ root) ⊎ ((v : View) × In v way × (is_up_to target v.node.lo ≡ true) × Turns target v.node (Some p))
+
+-- a page that was passed is one of the way, at the most
+pub record KeepsWay (old : List View) (v : View) (new : List View) : Type 0 where
+  pub is : (u : View) → In u new → In u old ⊎ (u ≡ v)

@@ -11,7 +11,7 @@ pub returns-in-Ok-None-clause-gives_up : goal.returns-in-Ok-None-clause-gives_up
 returns-in-Ok-None-clause-gives_up g c = record { is = walk_lost _ _ _ _ _ _ c.loop-before.invariant (sym c.in-Ok-None.field-0-is ∙ c.in-Ok-None.ensures.ok) }
 
 pub returns-in-None-clause-ok : goal.returns-in-None-clause-ok
-returns-in-None-clause-ok g c = walk_ends _ _ _ _ _ _ c.loop-before.invariant _ _ (sym c.in-Ok-Some.field-0-is ∙ c.in-Ok-Some.ensures.ok) (subst (λ n. Turns (bound_of c.args.target) n None) c.deref.ensures c.in-None.ensures) refl
+returns-in-None-clause-ok g c = walk_ends _ _ _ _ _ _ c.loop-before.invariant.goes _ _ (sym c.in-Ok-Some.field-0-is ∙ c.in-Ok-Some.ensures.ok) (subst (λ n. Turns (bound_of c.args.target) n None) c.deref.ensures c.in-None.ensures) refl
 
 pub loop-before-preserved : goal.loop-before-preserved
 loop-before-preserved g c = walk_more _ _ _ _ _ _ c.loop-before.invariant _ _ (sym c.in-Ok-Some.field-0-is ∙ c.in-Ok-Some.ensures.ok) (subst (λ n. Turns (bound_of c.args.target) n (Some c.in-Some.next)) c.deref.ensures c.in-Some.ensures)

@@ -1,5 +1,5 @@
 use Rattle.tree_groups.proofs.Ready.{leaf_way, leaf_room, leaf_decided, leaf_refused, begins_again, still_on_key, still_plain, leaf_made, leaf_stopped}
-use Rattle.tree_groups.proofs.group.write_at_leaf.Goals as goal
+use Rattle.tree_groups.proofs.leaf.step_at_leaf.Goals as goal
 
 pub advance-went-requires-clause-room : goal.advance-went-requires-clause-room
 advance-went-requires-clause-room g c κs within = leaf_room _ c.requires.here
