@@ -156,8 +156,8 @@ def fetches_that_cannot_be_read(s):
         fetch k append          bad line 6: `fetch` takes K HOW, two words or three
         fetch k set 1 2         bad line 7: `fetch` takes K HOW, two words or three
         fetch k add 1           bad line 8: `add` does not change a value: count, append V, set V, delete and short do
-        fetch k set -           bad line 9: `-` is no byte string: % and two lower-case hexadecimal digits stand for a byte
-        update - count          bad line 10: `-` is no byte string: % and two lower-case hexadecimal digits stand for a byte
+        fetch k set -           bad line 9: `-` is no byte string: `!` to `~` but for `%` stand for themselves, any other byte and a `-` alone as % and two lower-case hexadecimal digits
+        update - count          bad line 10: `-` is no byte string: `!` to `~` but for `%` stand for themselves, any other byte and a `-` alone as % and two lower-case hexadecimal digits
         owned update k          bad line 11: `owned update` takes K HOW, two words or three
         begin update k count    bad line 12: `update` does not follow `begin`; `help` lists what does
         flush                   flushed 0

@@ -191,7 +191,7 @@ def operators_that_cannot_be_read(s):
         operator            bad line 2: `operator` takes OPERATOR, one word
         operator sum        bad line 3: `sum` is no operator: concat, add, max, before, keep, gone and short are
         merge k             bad line 4: `merge` takes K V, two words
-        merge k %zz         bad line 5: `%zz` is no byte string: % and two lower-case hexadecimal digits stand for a byte
+        merge k %zz         bad line 5: `%zz` is no byte string: `!` to `~` but for `%` stand for themselves, any other byte and a `-` alone as % and two lower-case hexadecimal digits
         begin merge k       bad line 6: `begin merge` takes K V, two words
         handle other t 1    done
         operator concat     refused E2

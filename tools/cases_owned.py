@@ -37,7 +37,7 @@ def owned_calls_answer_as_those_of_a_machine(s):
         owned flush            flushed 2
         owned del a            old 1
         owned set % %          old -
-        owned set %2d -        bad line 29: `-` is no byte string: % and two lower-case hexadecimal digits stand for a byte
+        owned set %2d -        bad line 29: `-` is no byte string: `!` to `~` but for `%` stand for themselves, any other byte and a `-` alone as % and two lower-case hexadecimal digits
         owned set %2d %2d      old -
         owned cas %2d - %2d    conflict %2d %2d
         owned cas %2d %2d -    swapped

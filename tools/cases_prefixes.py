@@ -141,7 +141,7 @@ def a_prefix_of_a_page_that_cannot_be_read(s):
         ('prefix', '`prefix` takes P, one word'),
         ('prefix-back', '`prefix-back` takes P, one word'),
         ('prefix a b', '`prefix` takes P, one word'),
-        ('prefix -', '`-` is no byte string: % and two lower-case hexadecimal digits stand for a byte'),
+        ('prefix -', '`-` is no byte string: `!` to `~` but for `%` stand for themselves, any other byte and a `-` alone as % and two lower-case hexadecimal digits'),
         ('prefix [a', None),
     ):
         if why is None:

@@ -684,7 +684,7 @@ def what_names_no_tree_is_refused(s):
         get a                              refused E2
         reopen                             opened
         get a                              value 2
-        handle sledsh - 1                  bad line 32: `-` is no byte string: % and two lower-case hexadecimal digits stand for a byte
+        handle sledsh - 1                  bad line 32: `-` is no byte string: `!` to `~` but for `%` stand for themselves, any other byte and a `-` alone as % and two lower-case hexadecimal digits
         handle sledsh __sled__default      bad line 33: `handle` takes DATABASE NAME N, three words
         handle sledsh __sled__default -1   bad line 34: `-1` is no number: decimal digits without leading zeros
         get a                              value 2

@@ -1,8 +1,7 @@
 //! The words of a line, and what is said of one that cannot be read.
 
-use sled_lines::print::Piece::Text;
-use sled_lines::print::push_pieces;
-use sled_lines::words::first_word;
+use sled_lines::print::push_text;
+use sled_lines::words::{first_word, push_escape};
 use sled_nodes::Result;
 use std::alloc::Global;
 
@@ -11,7 +10,7 @@ pub const NO_NUMBER: &str = "is no number: decimal digits without leading zeros"
 
 /// What is said of a word that is no byte string.
 pub const NO_BYTES: &str =
-    "is no byte string: % and two lower-case hexadecimal digits stand for a byte";
+    "is no byte string: `!` to `~` but for `%` stand for themselves, any other byte and a `-` alone as % and two lower-case hexadecimal digits";
 
 /// The words of a text; none where there is no text.
 pub fn words_of<'a>(alloc: Global, text: Option<&'a [u8]>) -> Result<Vec<&'a [u8]>> {
@@ -33,10 +32,22 @@ pub fn is_semicolon(word: &&[u8]) -> bool {
     *word == b";".as_slice()
 }
 
-/// Adds a word in quotes, and what is said of it.
-pub fn quote<'a>(why: &mut Vec<u8>, word: &'a [u8], said: &'a str) -> Result<()> {
-    push_pieces(
-        why,
-        &[Text(b"`"), Text(word), Text(b"` "), Text(said.as_bytes())],
-    )
+/// Adds words as they were typed; but a byte that a terminal does not show is spelled, as % and two digits.
+pub fn push_typed(why: &mut Vec<u8>, words: &[u8]) -> Result<()> {
+    for byte in words {
+        if *byte == b' ' || byte.is_ascii_graphic() {
+            why.push(*byte)?;
+        } else {
+            push_escape(why, *byte)?;
+        }
+    }
+    Ok(())
+}
+
+/// Adds words in quotes, and what is said of them.
+pub fn quote(why: &mut Vec<u8>, words: &[u8], said: &str) -> Result<()> {
+    push_text(why, b"`")?;
+    push_typed(why, words)?;
+    push_text(why, b"` ")?;
+    push_text(why, said.as_bytes())
 }

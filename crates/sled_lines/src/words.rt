@@ -56,8 +56,8 @@ fn byte_of(high: u8, low: u8) -> Option<u8>
     }
 }
 
-// Adds `%` and the two digits of a byte.
-fn push_escape(out: &mut Vec<u8>, byte: u8) -> Result<()>
+/// Adds `%` and the two hexadecimal digits of a byte.
+pub fn push_escape(out: &mut Vec<u8>, byte: u8) -> Result<()>
     ensures ok { OnOk result (out.new.items ≡ out.old.items ++ escape byte) }
     ensures err { IfErr result (λ e. e ≡ NoMemory) }
 {

@@ -2,13 +2,13 @@
 
 use crate::arguments::Arguments;
 use crate::table::{Misfit, Verb, find};
-use shell_parts::words::quote;
-use sled_lines::print::Piece::Text;
-use sled_lines::print::{push_pieces, push_text};
+use shell_parts::words::{push_typed, quote};
+use sled_lines::print::push_text;
 use sled_lines::words::first_word;
 use sled_nodes::Result;
 
-const SPACED: &str = "a line begins with a word; one space stands between two";
+const SPACED: &str =
+    "no space stands before the first word or behind the last, and one between two words";
 
 fn is_space(byte: &u8) -> bool {
     *byte == b' '
@@ -30,16 +30,11 @@ fn push_misfit<'a>(why: &mut Vec<u8>, line: &'a [u8], misfit: Misfit<'a>) -> Res
     match misfit {
         Misfit::Name => quote(why, name, "is no command; `help` lists them"),
         Misfit::Short => quote(why, line, "takes a word more; `help` lists which"),
-        Misfit::Other(word) => push_pieces(
-            why,
-            &[
-                Text(b"`"),
-                Text(word),
-                Text(b"` does not follow `"),
-                Text(name),
-                Text(b"`; `help` lists what does"),
-            ],
-        ),
+        Misfit::Other(word) => {
+            quote(why, word, "does not follow `")?;
+            push_typed(why, name)?;
+            push_text(why, b"`; `help` lists what does")
+        }
     }
 }
 

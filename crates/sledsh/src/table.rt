@@ -214,7 +214,7 @@ static HELP: [Command; 8] = [
     Command("draw", "", Verb::Draw(Drawing::Text), "draws the tree level by level, with what is half done"),
     Command("draw dot", "", Verb::Draw(Drawing::Dot), "draws it as a graph for the program dot"),
     Command("why", "", Verb::Why, "prints the text of the last refusal"),
-    Command("help", "[WORD]", Verb::Help, "lists all lines; with a WORD what those take and do that begin with it, with `tests` those that are for tests"),
+    Command("help", "[WORD]", Verb::Help, "lists the lines for use; with a WORD what those take and do that begin with it, with `tests` those that are for tests"),
     Command("?", "[WORD]", Verb::Help, "the same as help"),
     Command("quit", "", Verb::Quit, "ends"),
     Command("exit", "", Verb::Quit, "the same as quit"),
