@@ -38,8 +38,8 @@ pub fn require<R: Abort>(rt: &R, holds: bool, what: &str) {
     assert!(rt; holds, "{what}");
 }
 
-// So often a number is looked at.
-const LOOKS: u64 = 100_000_000;
+// So often a number is looked at: for some ten seconds and more, since on a busy machine the other thread may have to wait for its turn.
+const LOOKS: u64 = 10_000_000_000;
 
 /// Looks at a number until another thread has set it to more than this. What it is set to, if that came.
 pub fn more_seen(number: &AtomicU64, than: u64) -> Option<u64> {
