@@ -1,9 +1,8 @@
--- The calls of a group, at the leaves that were read for them.
-use Rattle.std.proofs.Common.{◌≡◌, ℕ, Bool, false, cond, List, [], ◌∷◌, ◌++◌, Option, Some, None, sym, refl, ap, ◌∙◌, subst, inl, inr, arith}
+-- The writes of a group, at the leaves that were read for them.
+use Rattle.std.proofs.Common.{◌≡◌, ℕ, Bool, false, List, [], ◌∷◌, ◌++◌, Option, Some, None, sym, refl, ap, ◌∙◌, subst, inl}
 use Rattle.std.specs.FinMap.Entries.{find}
 use Rattle.std.specs.declared.ops.Bound.{Bound}
 use Rattle.std.specs.declared.ops.Bound.TheVariants.{Included}
-use Rattle.sled_nodes.proofs.Basics.{true_false}
 use Rattle.sled_nodes.specs.Node.{value_at}
 use Rattle.sled_nodes.specs.Order.{Key, key_cmp}
 use Rattle.sled_nodes.specs.declared.error.Error.{Error}
@@ -13,30 +12,24 @@ use Rattle.sled_store.specs.In.{In}
 use Rattle.sled_store.specs.Store.{Store, now}
 use Rattle.sled_store.specs.declared.page.View.{View}
 use Rattle.sled_model.specs.Maps.{Merge}
-use Rattle.sled_model.specs.Answer.{key_of, same_value, reply_of_read}
+use Rattle.sled_model.specs.Answer.{same_value}
 use Rattle.sled_model.specs.Groups.{call_with}
-use Rattle.sled_model.specs.Refusal.{MustRefuse, must_refuse_of, needs_operator}
-use Rattle.sled_model.specs.State.{IsOnKey}
-use Rattle.sled_model.specs.declared.call.Call.{Call}
-use Rattle.sled_model.specs.declared.reply.Reply.TheVariants.{Value}
+use Rattle.sled_model.specs.Refusal.{MustRefuse, must_refuse_of}
 use Rattle.sled_model.specs.declared.tree.Tree.{Tree}
 use Rattle.tree_laws.specs.Forest.{Forest}
 use Rattle.tree_laws.specs.Snapshot.{Snapshot, HasForest, IsActing}
 use Rattle.tree_laws.proofs.Runs.{In-right}
 use Rattle.tree_reads.specs.Walk.{IsWay, IsLeafFor, RefusesWalk, refuses_walk_as}
 use Rattle.tree_reads.proofs.Seeking.{value_found}
-use Rattle.sled_tree.specs.Change.{reply_at}
-use Rattle.sled_tree.specs.Course.{first_aim}
 use Rattle.sled_tree.specs.Known.{IsKnown}
-use Rattle.sled_tree.specs.declared.flight.InFlight.{InFlight}
 use Rattle.sled_tree.specs.declared.flight.Job.{Job}
-use Rattle.sled_tree.proofs.Known.{aims, known_new}
-use Rattle.tree_groups.specs.Groups.{IsSettled, AreReady, AreKnown, jobs_of}
-use Rattle.tree_groups.proofs.Ready.{acting_at}
+use Rattle.tree_groups.specs.declared.key_write.KeyWrite.{KeyWrite}
+use Rattle.tree_groups.specs.Groups.{IsSettled, job_of, jobs_of, at_leaf, IsLeafOf, AreKnown}
+use Rattle.tree_groups.proofs.Ready.{acting_at, known_at_leaf}
 use Rattle.sled.specs.Calls.{MustBeRefused, must_be_refused_as}
 use Rattle.sled.specs.Sound.{IsDb}
 use Rattle.sled.specs.Values.{DbValue, db_state, numbers_of, snapshot_of_db}
-use Rattle.sled.specs.theory.Groups.{flight_from, Finds, ReadsKey, begins_as, BeginsAt, Stands, value_in, unread}
+use Rattle.sled.specs.theory.Groups.{Finds, ReadsKey, begins_as, BeginsAt, Stands, value_in, unread}
 use Rattle.sled.proofs.Reading.{reads}
 use Rattle.sled.proofs.Trees.{current, numbered}
 
@@ -81,26 +74,6 @@ module _ {P M : Type 0} (store : P → Store) (d seen : DbValue P M) (same : d �
 pub untested : {P : Type 0} (o : Option MustRefuse) (e : Error) → o ≡ None → MustBeRefused o e → P
 untested {P} o e none m = absurd (subst (λ z. must_be_refused_as z e) none m.is)
 
--- ---- the call of a write
-
-with_key : (key : Key) (value : Option Key) → key_of (call_with key value) ≡ key
-with_key key None = refl
-with_key key (Some v) = refl
-
-on_key : (key : Key) (value : Option Key) → IsOnKey (call_with key value)
-on_key key None = refl
-on_key key (Some v) = refl
-
-plain : (key : Key) (value : Option Key) → needs_operator (call_with key value) ≡ false
-plain key None = refl
-plain key (Some v) = refl
-
--- where its value does not stand it has a change to link
-changes_with : (key : Key) (value found : Option Key) → same_value found value ≡ false → reply_of_read (call_with key value) found ≡ None
-changes_with key (Some v) found e = ap (λ b. cond b (Some (Value found)) None) e
-changes_with key None None e = true_false e
-changes_with key None (Some x) e = refl
-
 -- ---- what a call knows of the leaf that was read for it
 
 module _ (m : Snapshot) (tree : Tree) (root : ℕ) (named : m.numbers tree.name ≡ Some tree.number) (there : m.state.roots tree.name ≡ Some root) (leaf : View) (settled : IsSettled leaf.node) (target : Bound Key) (looked : ℕ) (found : IsLeafFor m.state root target 0 leaf looked) where
@@ -110,61 +83,38 @@ module _ (m : Snapshot) (tree : Tree) (root : ℕ) (named : m.numbers tree.name 
       acting_at m tree.name tree.number named leaf settled found.live target (here.0.begins, here.0.ends) w is (subst (λ l. In leaf.pid l) (sym here.2.is) (In-right here.2.before (leaf.pid ∷ here.2.behind) leaf.pid (inl refl)))
 
 module _ (m : Snapshot) (s : Store) (shown : m.state ≡ now s) (tree : Tree) (root : ℕ) (named : m.numbers tree.name ≡ Some tree.number) (there : m.state.roots tree.name ≡ Some root) (key : Key) (value : Option Key) where
-  abbrev call : Call
-  call = call_with key value
+  known_at : (leaf : View) → IsSettled leaf.node → ReadsKey s root key value leaf false → IsKnown m (at_leaf (record { tree = tree; call = call_with key value }) leaf)
+  known_at leaf settled r =
+      known_at_leaf m tree key value leaf settled (sym r.is)
+      (acting m tree root named there leaf settled (Included key) r.looked (subst (λ z. IsLeafFor z root (Included key) 0 leaf r.looked) (sym shown) r.found))
 
-  known_at : (leaf : View) → IsSettled leaf.node → ReadsKey s root key value leaf false → IsKnown m (flight_from tree call (Some leaf))
-  known_at leaf settled r = record {
-    is = λ w is. ((subst (λ b. IsActing m w tree.name tree.number b leaf) (sym aimed_at) (acting m tree root named there leaf settled (Included key) r.looked (subst (λ z. IsLeafFor z root (Included key) 0 leaf r.looked) (sym shown) r.found) w is), record { fits = settled.fits }), changes, aims tree call);
-    aimed = aims tree call;
-    fits = omega arith;
-    begins = λ on none. absurd (turned 1 refl none);
-  }
-    where
-      aimed_at : first_aim call ≡ Included key
-      aimed_at = (aims tree call).key (on_key key value) ∙ ap Included (with_key key value)
+-- the leaf of a write is that of its call
+pub finds_from : (m : Snapshot) (s : Store) (shown : m.state ≡ now s) (k : KeyWrite) (root : ℕ) (named : m.numbers k.tree.now.name ≡ Some k.tree.now.number) (there : m.state.roots k.tree.now.name ≡ Some root)
+    → (leaf : View) (stands : Bool) → ReadsKey s root k.key.now k.value.now leaf stands → BeginsAt leaf stands k.leaf → Finds m (job_of k ∷ []) (k ∷ [])
+finds_from m s shown k root named there leaf stands r b = record { jobs = refl; known = (go k.leaf b.is, tt) }
+  where
+    go : (o : Option (ℕ × ℕ)) → begins_as leaf stands o → IsLeafOf m (job_of k) o
+    go None t = tt
+    go (Some place) t = (leaf, t.0, t.1, known_at m s shown k.tree.now root named there k.key.now k.value.now leaf t.3 (subst (λ b. ReadsKey s root k.key.now k.value.now leaf b) t.2 r))
 
-      changes : reply_at call leaf.node.content ≡ None
-      changes = ap (λ k. reply_of_read call (value_at leaf.node.content k)) (with_key key value) ∙ changes_with key value (value_at leaf.node.content key) (sym r.is)
+-- ---- and of all writes
 
-      turned : (n : ℕ) → n ≡ 1 → n ≡ 0 → ⊥
-      turned n e none = omega arith
+jobs_both : (vs ws : List KeyWrite) → jobs_of (vs ++ ws) ≡ jobs_of vs ++ jobs_of ws
+jobs_both [] ws = refl
+jobs_both (v ∷ vs) ws = ap (λ js. job_of v ∷ js) (jobs_both vs ws)
 
-  -- it is ready, and what it knows is true
-  pub finds_from : (leaf : View) (stands : Bool) → ReadsKey s root key value leaf stands → (at : Option View) → BeginsAt leaf stands at → Finds m (record { tree = tree; call = call } ∷ []) (flight_from tree call at ∷ [])
-  finds_from leaf stands r at b = go at b.is
-    where
-      go : (o : Option View) → begins_as leaf stands o → Finds m (record { tree = tree; call = call } ∷ []) (flight_from tree call o ∷ [])
-      go None t = record { jobs = refl; ready = ((inl refl, on_key key value, plain key value), tt); known = (known_new m tree call, tt) }
-      go (Some view) t = record {
-        jobs = refl;
-        ready = ((inr (view, refl), on_key key value, plain key value), tt);
-        known = (subst (λ (v : View). IsKnown m (flight_from tree call (Some v))) (sym t.0) (known_at leaf t.2 (subst (λ b. ReadsKey s root key value leaf b) t.1 r)), tt);
-      }
+known_both : (m : Snapshot) (vs ws : List KeyWrite) → AreKnown m vs → AreKnown m ws → AreKnown m (vs ++ ws)
+known_both m [] ws a b = b
+known_both m (v ∷ vs) ws a b = (a.0, known_both m vs ws a.1 b)
 
--- ---- and of all calls
-
-jobs_both : (fs gs : List InFlight) → jobs_of (fs ++ gs) ≡ jobs_of fs ++ jobs_of gs
-jobs_both [] gs = refl
-jobs_both (f ∷ fs) gs = ap (λ js. f.job ∷ js) (jobs_both fs gs)
-
-ready_both : (fs gs : List InFlight) → AreReady fs → AreReady gs → AreReady (fs ++ gs)
-ready_both [] gs a b = b
-ready_both (f ∷ fs) gs a b = (a.0, ready_both fs gs a.1 b)
-
-known_both : (m : Snapshot) (fs gs : List InFlight) → AreKnown m fs → AreKnown m gs → AreKnown m (fs ++ gs)
-known_both m [] gs a b = b
-known_both m (f ∷ fs) gs a b = (a.0, known_both m fs gs a.1 b)
-
-pub finds_both : (m : Snapshot) (is js : List Job) (fs gs : List InFlight) → Finds m is fs → Finds m js gs → Finds m (is ++ js) (fs ++ gs)
-finds_both m is js fs gs a b = record {
-  jobs = jobs_both fs gs ∙ ap (λ l. l ++ jobs_of gs) a.jobs ∙ ap (λ l. is ++ l) b.jobs;
-  ready = ready_both fs gs a.ready b.ready;
-  known = known_both m fs gs a.known b.known;
+pub finds_both : (m : Snapshot) (is js : List Job) (vs ws : List KeyWrite) → Finds m is vs → Finds m js ws → Finds m (is ++ js) (vs ++ ws)
+finds_both m is js vs ws a b = record {
+  jobs = jobs_both vs ws ∙ ap (λ l. l ++ jobs_of ws) a.jobs ∙ ap (λ l. is ++ l) b.jobs;
+  known = known_both m vs ws a.known b.known;
 }
 
 pub finds_none : (m : Snapshot) → Finds m [] []
-finds_none m = record { jobs = refl; ready = tt; known = tt }
+finds_none m = record { jobs = refl; known = tt }
 
 -- ---- in a database
 
@@ -175,5 +125,8 @@ module _ {P M : Type 0} (store : P → Store) (meant : M → Merge) (d : DbValue
       let read = reads store meant d tree tested root there db (λ map. value_at leaf.node.content key ≡ find key_cmp key map) (value_found (now (store d.pages)) root key 0 leaf r.looked r.found leaf.node refl (value_at leaf.node.content key) refl) in
       record { is = r.is ∙ ap (λ o. same_value o value) (read.is ∙ sym (ap (λ o. value_in o key) read.there)) }
 
-  pub finds_at : (at : Option View) → BeginsAt leaf stands at → Finds (snapshot_of_db store d) (record { tree = tree; call = call_with key value } ∷ []) (flight_from tree (call_with key value) at ∷ [])
-  finds_at at b = finds_from (snapshot_of_db store d) (store d.pages) refl tree root (numbered tree.number (numbers_of d.trees tree.name) _ _ (current (db_state store meant d) tree tested)) there key value leaf stands r at b
+-- .. and its leaf is that of the call
+pub finds_at : {P M : Type 0} (store : P → Store) (meant : M → Merge) (d : DbValue P M) (k : KeyWrite) → must_refuse_of (db_state store meant d) (k.tree.now ∷ []) ≡ None → (root : ℕ) → (now (store d.pages)).roots k.tree.now.name ≡ Some root
+    → (leaf : View) (stands : Bool) → ReadsKey (store d.pages) root k.key.now k.value.now leaf stands → BeginsAt leaf stands k.leaf → Finds (snapshot_of_db store d) (job_of k ∷ []) (k ∷ [])
+finds_at store meant d k tested root there leaf stands r b =
+    finds_from (snapshot_of_db store d) (store d.pages) refl k root (numbered k.tree.now.number (numbers_of d.trees k.tree.now.name) _ _ (current (db_state store meant d) k.tree.now tested)) there leaf stands r b

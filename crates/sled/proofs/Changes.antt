@@ -16,7 +16,7 @@ use Rattle.sled_model.specs.State.{State, NamedTree}
 use Rattle.sled_model.specs.Groups.{Write, writes_on, writes_of, after_write, after_writes}
 use Rattle.sled_model.specs.Refusal.{is_number, must_refuse_of, trees_of_batches}
 use Rattle.sled_model.specs.declared.tree.Tree.{Tree}
-use Rattle.sled_tree.specs.declared.flight.InFlight.{InFlight}
+use Rattle.tree_groups.specs.declared.key_write.KeyWrite.{KeyWrite}
 use Rattle.tree_laws.specs.Snapshot.{Snapshot}
 use Rattle.sled.specs.Values.{DbValue, numbers_of, db_state}
 use Rattle.sled.specs.Sound.{IsDb}
@@ -108,12 +108,12 @@ writes_on_both tree [] more = refl
 writes_on_both tree (w ∷ done) more = ap (λ ws. record { tree = tree; key = w.0; value = w.1 } ∷ ws) (writes_on_both tree done more)
 
 -- The calls of the first writes of a batch are added, and those of the others are still to come
-pub record Added (m : Snapshot) (tree : Tree) (all : Writes) (s : State) (first flights : List InFlight) (left : Writes) : Type 0 where
+pub record Added (m : Snapshot) (tree : Tree) (all : Writes) (s : State) (first writes : List KeyWrite) (left : Writes) : Type 0 where
   pub done : Writes
   pub parts : all ≡ done ++ left
-  pub adds : FindsMore m (jobs_of_writes (writes_on tree done) s) first flights
+  pub adds : FindsMore m (jobs_of_writes (writes_on tree done) s) first writes
 
-pub added_first : (m : Snapshot) (tree : Tree) (all left : Writes) (s : State) (first : List InFlight) → left ≡ all → Added m tree all s first first left
+pub added_first : (m : Snapshot) (tree : Tree) (all left : Writes) (s : State) (first : List KeyWrite) → left ≡ all → Added m tree all s first first left
 added_first m tree all left s first e = record { done = []; parts = sym e; adds = record { more = []; is = sym (append-nil first); finds = finds_none m } }
 
 -- a write of the tree
@@ -121,9 +121,9 @@ abbrev write_on : Tree → Key → Option Key → Write
 write_on tree key value = record { tree = tree; key = key; value = value }
 
 -- one write more
-added_more : (m : Snapshot) (tree : Tree) (all : Writes) (s : State) (first flights : List InFlight) (key : Key) (value : Option Key) (more : Writes) (new : List InFlight) → Rises all → is_some (s.trees tree.name) ≡ true
-    → Added m tree all s first flights ((key, value) ∷ more) → FindsMore m (jobs_of_write (s.trees tree.name) (write_on tree key value)) flights new → Added m tree all s first new more
-added_more m tree all s first flights key value more new rises has a adds = record {
+added_more : (m : Snapshot) (tree : Tree) (all : Writes) (s : State) (first writes : List KeyWrite) (key : Key) (value : Option Key) (more : Writes) (new : List KeyWrite) → Rises all → is_some (s.trees tree.name) ≡ true
+    → Added m tree all s first writes ((key, value) ∷ more) → FindsMore m (jobs_of_write (s.trees tree.name) (write_on tree key value)) writes new → Added m tree all s first new more
+added_more m tree all s first writes key value more new rises has a adds = record {
   done = a.done ++ (key, value) ∷ [];
   parts = a.parts ∙ sym (append_assoc a.done ((key, value) ∷ []) more);
   adds = record {
@@ -146,20 +146,20 @@ added_more m tree all s first flights key value more new rises has a adds = reco
         ∙ sym (jobs_of_both (writes_on tree a.done) (write_on tree key value ∷ []) s)
         ∙ ap (λ ws. jobs_of_writes ws s) (sym (writes_on_both tree a.done ((key, value) ∷ [])))
 
-pub added_on : (m : Snapshot) (tree : Tree) (all : Writes) (s : State) (first flights : List InFlight) (left : Writes) (key : Key) (value : Option Key) (more : Writes) (new : List InFlight) → Rises all → is_some (s.trees tree.name) ≡ true
-    → Added m tree all s first flights left → left ≡ (key, value) ∷ more → FindsMore m (jobs_of_write (s.trees tree.name) (write_on tree key value)) flights new → Added m tree all s first new more
-added_on m tree all s first flights left key value more new rises has a e adds = added_more m tree all s first flights key value more new rises has (subst (λ l. Added m tree all s first flights l) e a) adds
+pub added_on : (m : Snapshot) (tree : Tree) (all : Writes) (s : State) (first writes : List KeyWrite) (left : Writes) (key : Key) (value : Option Key) (more : Writes) (new : List KeyWrite) → Rises all → is_some (s.trees tree.name) ≡ true
+    → Added m tree all s first writes left → left ≡ (key, value) ∷ more → FindsMore m (jobs_of_write (s.trees tree.name) (write_on tree key value)) writes new → Added m tree all s first new more
+added_on m tree all s first writes left key value more new rises has a e adds = added_more m tree all s first writes key value more new rises has (subst (λ l. Added m tree all s first writes l) e a) adds
 
 -- a write that brings no event, and one that brings one
-module _ (m : Snapshot) (o : Option NamedTree) (w : Write) (has : is_some o ≡ true) (stands : Bool) (is : stands ≡ same_value (value_in o w.key) w.value) (flights : List InFlight) where
+module _ (m : Snapshot) (o : Option NamedTree) (w : Write) (has : is_some o ≡ true) (stands : Bool) (is : stands ≡ same_value (value_in o w.key) w.value) (writes : List KeyWrite) where
   jobs_are : jobs_of_write o w ≡ cond stands [] (job_of w ∷ [])
   jobs_are = brings o w has ∙ ap (λ b. cond b [] (job_of w ∷ [])) (sym is)
 
-  pub adds_none : stands ≡ true → FindsMore m (jobs_of_write o w) flights flights
-  adds_none on = record { more = []; is = sym (append-nil flights); finds = subst (λ js. Finds m js []) (sym (jobs_are ∙ ap (λ b. cond b [] (job_of w ∷ [])) on)) (finds_none m) }
+  pub adds_none : stands ≡ true → FindsMore m (jobs_of_write o w) writes writes
+  adds_none on = record { more = []; is = sym (append-nil writes); finds = subst (λ js. Finds m js []) (sym (jobs_are ∙ ap (λ b. cond b [] (job_of w ∷ [])) on)) (finds_none m) }
 
-  pub adds_one : stands ≡ false → (call : InFlight) (new : List InFlight) → Finds m (job_of w ∷ []) (call ∷ []) → new ≡ flights ++ call ∷ [] → FindsMore m (jobs_of_write o w) flights new
-  adds_one off call new found e = record { more = call ∷ []; is = e; finds = subst (λ js. Finds m js (call ∷ [])) (sym (jobs_are ∙ ap (λ b. cond b [] (job_of w ∷ [])) off)) found }
+  pub adds_one : stands ≡ false → (one : KeyWrite) (new : List KeyWrite) → Finds m (job_of w ∷ []) (one ∷ []) → new ≡ writes ++ one ∷ [] → FindsMore m (jobs_of_write o w) writes new
+  adds_one off one new found e = record { more = one ∷ []; is = e; finds = subst (λ js. Finds m js (one ∷ [])) (sym (jobs_are ∙ ap (λ b. cond b [] (job_of w ∷ [])) off)) found }
 
 -- ---- and of all batches
 
@@ -168,12 +168,12 @@ pub there_after : (s : State) (before : List (Tree × Writes)) (tree : Tree) →
 there_after s before tree tested = writes_keep (writes_of before) s tree.name ∙ there s tree (tested_last s before tree tested)
 
 -- the calls of the batches up to one are found, and then those of it
-pub found_on : (m : Snapshot) (s : State) (all : List (Tree × Writes)) (i : ℕ) (b : Tree × Writes) (flights new : List InFlight) → i < length all → b ≡ get_or all i b
-    → Finds m (jobs_of_writes (writes_of (take i all)) s) flights → FindsMore m (jobs_of_writes (writes_on b.0 b.1) (after_writes (writes_of (take i all)) s)) flights new
+pub found_on : (m : Snapshot) (s : State) (all : List (Tree × Writes)) (i : ℕ) (b : Tree × Writes) (writes new : List KeyWrite) → i < length all → b ≡ get_or all i b
+    → Finds m (jobs_of_writes (writes_of (take i all)) s) writes → FindsMore m (jobs_of_writes (writes_on b.0 b.1) (after_writes (writes_of (take i all)) s)) writes new
     → Finds m (jobs_of_writes (writes_of (take (i + 1) all)) s) new
-found_on m s all i b flights new h e so adds =
+found_on m s all i b writes new h e so adds =
     subst (Finds m (jobs_of_writes (writes_of (take (i + 1) all)) s)) (sym adds.is)
-    (subst (λ js. Finds m js (flights ++ adds.more)) jobs (finds_both m (jobs_of_writes (writes_of (take i all)) s) (jobs_of_writes (writes_on b.0 b.1) (after_writes (writes_of (take i all)) s)) flights adds.more so adds.finds))
+    (subst (λ js. Finds m js (writes ++ adds.more)) jobs (finds_both m (jobs_of_writes (writes_of (take i all)) s) (jobs_of_writes (writes_on b.0 b.1) (after_writes (writes_of (take i all)) s)) writes adds.more so adds.finds))
   where
     jobs : jobs_of_writes (writes_of (take i all)) s ++ jobs_of_writes (writes_on b.0 b.1) (after_writes (writes_of (take i all)) s) ≡ jobs_of_writes (writes_of (take (i + 1) all)) s
     jobs =

@@ -27,12 +27,12 @@ use Rattle.tree_laws.specs.Forest.{Forest, contents}
 use Rattle.tree_laws.specs.Snapshot.{Snapshot, snapshot_of, nodes_at, HasForest}
 use Rattle.tree_laws.proofs.Crashing.{extends_same}
 use Rattle.tree_laws.proofs.Reading.{one_law}
-use Rattle.sled_tree.specs.declared.flight.InFlight.{InFlight}
 use Rattle.sled_tree.specs.declared.flight.Job.{Job}
+use Rattle.tree_groups.specs.declared.key_write.KeyWrite.{KeyWrite}
 use Rattle.tree_groups.specs.Groups.{jobs_of, AreNumbered, map_after_jobs, WrittenAll, ActsInside, seals_as, KeepsForests, LeavesGroup}
 use Rattle.tree_groups.specs.Writes.{ActsOften, NoAction, OneAction, is_write_refused_as, Keeps}
 use Rattle.tree_groups.proofs.Writing.{keeps_first}
-use Rattle.tree_groups.proofs.Grouping.{refused_store}
+use Rattle.tree_groups.proofs.Ready.{refused_store}
 use Rattle.sled.specs.Values.{DbValue, numbers_of, given_to, named, state_of, db_state, snapshot_of_db}
 use Rattle.sled.specs.Calls.{MustBeRefused, must_be_refused_as}
 use Rattle.sled.specs.Sound.{IsDb}
@@ -136,7 +136,7 @@ record Stopped (a b : Store) (e : Error) : Type 0 where
   why : cause_of_group a b e
   which : Rests a b ⊎ ((now b).in_group ≡ true)
 
-stopped : (fs : List InFlight) (a b : Store) (e : Error) → ((e ≡ error.NoMemory) × (b ≡ a)) ⊎ LeavesGroup fs a b e → Stopped a b e
+stopped : (fs : List KeyWrite) (a b : Store) (e : Error) → ((e ≡ error.NoMemory) × (b ≡ a)) ⊎ LeavesGroup fs a b e → Stopped a b e
 stopped fs a b e (inl (short, same)) = record {
   mark = ap (λ (s : Store). s.mark) same;
   adds = subst (λ (s : Store). AddsCrashStates [] a s) (sym same) (extends_same a);
@@ -277,8 +277,8 @@ module _ {P M : Type 0} (store : P → Store) (meant : M → Merge) (old : DbVal
             apart : false ≡ true → ⊥
             apart e = cc
 
-    module _ (flights : List InFlight) (found : Finds at jobs flights) (p : P) (queues : QueuesValue) where
-      numbered_found : AreNumbered (numbers_of old.trees) (jobs_of flights)
+    module _ (writes : List KeyWrite) (found : Finds at jobs writes) (p : P) (queues : QueuesValue) where
+      numbered_found : AreNumbered (numbers_of old.trees) (jobs_of writes)
       numbered_found = subst (AreNumbered (numbers_of old.trees)) (sym found.jobs) numbered_now
 
       abbrev new : DbValue P M
@@ -308,7 +308,7 @@ module _ {P M : Type 0} (store : P → Store) (meant : M → Merge) (old : DbVal
       trees_after : (v : Forest) → HasForest after v → (name : Key) → (db_state store meant new).trees name ≡ option_map (tree_with operators (contents (nodes_at after) v name)) (numbers_of old.trees name)
       trees_after v is name = named_so operators (contents (nodes_at after) v name) (numbers_of old.trees name) (trees_of (now (store p)) name) (trees_at (store p) (numbers_of old.trees) (given_to old.trees_given) v is name)
 
-      module _ (m : MakesAll flights (store old.pages) (store p) old.queues queues) where
+      module _ (m : MakesAll writes (store old.pages) (store p) old.queues queues) where
         written : WrittenAll jobs at db.forest after
         written = subst (λ js. WrittenAll js at db.forest after) found.jobs (m.makes.told (numbers_of old.trees) (given_to old.trees_given) db.forest db.is numbered_found found.known)
 
@@ -374,11 +374,11 @@ module _ {P M : Type 0} (store : P → Store) (meant : M → Merge) (old : DbVal
         pub made_quiet : IsQuietGroup store meant old batches new
         made_quiet = record { is = λ none. subst (λ js. seals_as js (store old.pages) (store p)) (no_events (writes_of batches) before none) acts_so }
 
-      module _ (e : Error) (m : StopsAll flights (store old.pages) (store p) old.queues queues e) where
+      module _ (e : Error) (m : StopsAll writes (store old.pages) (store p) old.queues queues e) where
         kept : KeepsForests at db.forest after
         kept = go m.is
           where
-            go : ((e ≡ error.NoMemory) × (store p ≡ store old.pages)) ⊎ LeavesGroup flights (store old.pages) (store p) e → KeepsForests at db.forest after
+            go : ((e ≡ error.NoMemory) × (store p ≡ store old.pages)) ⊎ LeavesGroup writes (store old.pages) (store p) e → KeepsForests at db.forest after
             go (inl (short, same)) = record {
               after = db.forest;
               keeps = subst (λ (s : Store). Keeps at db.forest (snapshot_of s (numbers_of old.trees) (given_to old.trees_given)) db.forest) (sym same) (keeps_first at db.forest db.is);
@@ -386,7 +386,7 @@ module _ {P M : Type 0} (store : P → Store) (meant : M → Merge) (old : DbVal
             go (inr l) = l.told (numbers_of old.trees) (given_to old.trees_given) db.forest db.is numbered_found found.known
 
         stops : Stopped (store old.pages) (store p) e
-        stops = stopped flights (store old.pages) (store p) e m.is
+        stops = stopped writes (store old.pages) (store p) e m.is
 
         closes : (slots : ℕ → Option CallInFlight) (given : ℕ) → (now (store p)).in_group ≡ true → Closes (state_of store meant old slots given) (state_of store meant new slots given)
         closes slots given open_now = record {
@@ -427,41 +427,41 @@ module _ {P M : Type 0} (store : P → Store) (meant : M → Merge) (old : DbVal
         pub stopped_quiet : IsQuietGroup store meant old batches new
         stopped_quiet = record { is = λ none. go (found.jobs ∙ no_events (writes_of batches) before none) m.is }
           where
-            go : jobs_of flights ≡ [] → ((e ≡ error.NoMemory) × (store p ≡ store old.pages)) ⊎ LeavesGroup flights (store old.pages) (store p) e → store p ≡ store old.pages
+            go : jobs_of writes ≡ [] → ((e ≡ error.NoMemory) × (store p ≡ store old.pages)) ⊎ LeavesGroup writes (store old.pages) (store p) e → store p ≡ store old.pages
             go none (inl (short, same)) = same
             go none (inr l) = absurd (l.some none)
 
 -- ---- what a group comes to, where a method knows the database by its fields
 
-module _ {P M : Type 0} (store : P → Store) (meant : M → Merge) (inside old : DbValue P M) (view : inside ≡ old) (db : IsDb store inside) (batches : List (Tree × Writes)) (tested : must_refuse_of (db_state store meant old) (trees_of_batches batches) ≡ None) (flights : List InFlight) (changes : Finds (snapshot_of_db store old) (jobs_of_writes (writes_of batches) (db_state store meant old)) flights) (p : P) (queues : QueuesValue) where
+module _ {P M : Type 0} (store : P → Store) (meant : M → Merge) (inside old : DbValue P M) (view : inside ≡ old) (db : IsDb store inside) (batches : List (Tree × Writes)) (tested : must_refuse_of (db_state store meant old) (trees_of_batches batches) ≡ None) (writes : List KeyWrite) (changes : Finds (snapshot_of_db store old) (jobs_of_writes (writes_of batches) (db_state store meant old)) writes) (p : P) (queues : QueuesValue) where
   tested_in : must_refuse_of (db_state store meant inside) (trees_of_batches batches) ≡ None
   tested_in = subst (λ (z : DbValue P M). must_refuse_of (db_state store meant z) (trees_of_batches batches) ≡ None) (sym view) tested
 
-  found_in : Finds (snapshot_of_db store inside) (jobs_of_writes (writes_of batches) (db_state store meant inside)) flights
-  found_in = subst (λ (z : DbValue P M). Finds (snapshot_of_db store z) (jobs_of_writes (writes_of batches) (db_state store meant z)) flights) (sym view) changes
+  found_in : Finds (snapshot_of_db store inside) (jobs_of_writes (writes_of batches) (db_state store meant inside)) writes
+  found_in = subst (λ (z : DbValue P M). Finds (snapshot_of_db store z) (jobs_of_writes (writes_of batches) (db_state store meant z)) writes) (sym view) changes
 
-  pub group_ok : (r : Result (Unit {0}) Error) → OnOk r (MakesAll flights (store inside.pages) (store p) inside.queues queues) → OnOk r (GroupDecided store meant old batches (record inside { pages = p; queues = queues }))
-  group_ok (Ok u) m = subst (λ (z : DbValue P M). GroupDecided store meant z batches (record inside { pages = p; queues = queues })) view (group_made store meant inside db batches tested_in flights found_in p queues m)
+  pub group_ok : (r : Result (Unit {0}) Error) → OnOk r (MakesAll writes (store inside.pages) (store p) inside.queues queues) → OnOk r (GroupDecided store meant old batches (record inside { pages = p; queues = queues }))
+  group_ok (Ok u) m = subst (λ (z : DbValue P M). GroupDecided store meant z batches (record inside { pages = p; queues = queues })) view (group_made store meant inside db batches tested_in writes found_in p queues m)
   group_ok (Err e) m = tt
 
-  pub group_err : (r : Result (Unit {0}) Error) → IfErr r (λ e. StopsAll flights (store inside.pages) (store p) inside.queues queues e) → IfErr r (λ e. GroupRefused store meant old batches e (record inside { pages = p; queues = queues }))
+  pub group_err : (r : Result (Unit {0}) Error) → IfErr r (λ e. StopsAll writes (store inside.pages) (store p) inside.queues queues e) → IfErr r (λ e. GroupRefused store meant old batches e (record inside { pages = p; queues = queues }))
   group_err (Ok u) m = tt
-  group_err (Err e) m = subst (λ (z : DbValue P M). GroupRefused store meant z batches e (record inside { pages = p; queues = queues })) view (group_stopped store meant inside db batches tested_in flights found_in p queues e m)
+  group_err (Err e) m = subst (λ (z : DbValue P M). GroupRefused store meant z batches e (record inside { pages = p; queues = queues })) view (group_stopped store meant inside db batches tested_in writes found_in p queues e m)
 
-  module _ (r : Result (Unit {0}) Error) (ok : OnOk r (MakesAll flights (store inside.pages) (store p) inside.queues queues)) (err : IfErr r (λ e. StopsAll flights (store inside.pages) (store p) inside.queues queues e)) where
+  module _ (r : Result (Unit {0}) Error) (ok : OnOk r (MakesAll writes (store inside.pages) (store p) inside.queues queues)) (err : IfErr r (λ e. StopsAll writes (store inside.pages) (store p) inside.queues queues e)) where
     pub group_db : IsDb store (record inside { pages = p; queues = queues })
     group_db = go r ok err
       where
-        go : (r : Result (Unit {0}) Error) → OnOk r (MakesAll flights (store inside.pages) (store p) inside.queues queues) → IfErr r (λ e. StopsAll flights (store inside.pages) (store p) inside.queues queues e) → IsDb store (record inside { pages = p; queues = queues })
-        go (Ok u) m n = (group_made store meant inside db batches tested_in flights found_in p queues m).leaves.sound db
-        go (Err e) m n = (group_stopped store meant inside db batches tested_in flights found_in p queues e n).leaves.sound db
+        go : (r : Result (Unit {0}) Error) → OnOk r (MakesAll writes (store inside.pages) (store p) inside.queues queues) → IfErr r (λ e. StopsAll writes (store inside.pages) (store p) inside.queues queues e) → IsDb store (record inside { pages = p; queues = queues })
+        go (Ok u) m n = (group_made store meant inside db batches tested_in writes found_in p queues m).leaves.sound db
+        go (Err e) m n = (group_stopped store meant inside db batches tested_in writes found_in p queues e n).leaves.sound db
 
     pub group_quiet : IsQuietGroup store meant old batches (record inside { pages = p; queues = queues })
     group_quiet = subst (λ (z : DbValue P M). IsQuietGroup store meant z batches (record inside { pages = p; queues = queues })) view (go r ok err)
       where
-        go : (r : Result (Unit {0}) Error) → OnOk r (MakesAll flights (store inside.pages) (store p) inside.queues queues) → IfErr r (λ e. StopsAll flights (store inside.pages) (store p) inside.queues queues e) → IsQuietGroup store meant inside batches (record inside { pages = p; queues = queues })
-        go (Ok u) m n = made_quiet store meant inside db batches tested_in flights found_in p queues m
-        go (Err e) m n = stopped_quiet store meant inside db batches tested_in flights found_in p queues e n
+        go : (r : Result (Unit {0}) Error) → OnOk r (MakesAll writes (store inside.pages) (store p) inside.queues queues) → IfErr r (λ e. StopsAll writes (store inside.pages) (store p) inside.queues queues e) → IsQuietGroup store meant inside batches (record inside { pages = p; queues = queues })
+        go (Ok u) m n = made_quiet store meant inside db batches tested_in writes found_in p queues m
+        go (Err e) m n = stopped_quiet store meant inside db batches tested_in writes found_in p queues e n
 
 -- ---- the same of the call that a machine makes
 

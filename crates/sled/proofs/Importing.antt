@@ -1,5 +1,5 @@
 -- Imports.
-use Rattle.std.proofs.Common.{◌≡◌, ◌≢◌, ◌⊎◌, ℕ, suc, ◌+◌, min, ◌<◌, ◌≤◌, Bool, true, false, not, cond, Bor, List, [], ◌∷◌, ◌++◌, append-nil, append_assoc, add-one, add-zero, drop-cons, drop, get_or, length, length-append, Option, Some, None, is_some, Result, Ok, Err, IfErr, OnOk, sym, refl, ap, ◌∙◌, subst, inl, inr}
+use Rattle.std.proofs.Common.{◌≡◌, ◌≢◌, ◌⊎◌, ℕ, ◌+◌, min, ◌<◌, ◌≤◌, Bool, true, false, not, cond, Bor, List, [], ◌∷◌, ◌++◌, append-nil, append_assoc, add-zero, drop, get_or, length, length-append, Option, Some, None, is_some, Result, Ok, Err, IfErr, OnOk, sym, refl, ap, ◌∙◌, subst, inl, inr}
 use Rattle.std.proofs.lemmas.List.{drop_all}
 use Rattle.std.specs.FinMap.Entries.{find}
 use Rattle.std.specs.Global.{Vec}
@@ -26,6 +26,7 @@ use Rattle.tree_reads.specs.Walk.{once}
 use Rattle.sled.specs.Values.{DbValue, state_of, db_state}
 use Rattle.sled.specs.Sound.{IsDb}
 use Rattle.sled.specs.Reads.{ReadsMap, RefusesReading, GivesUpGet, refuses_reading_as, stops_reading}
+use Rattle.tree_groups.proofs.Grouping.{left_from}
 use Rattle.tree_groups.specs.Writes.{NoAction}
 use Rattle.sled.specs.Direct.{LeavesAll, PointDecided, PointRefused, WholeDecided, WholeRefused}
 use Rattle.sled.specs.Opens.{OpensBySteps, OpenRefusedBySteps}
@@ -50,10 +51,6 @@ parts_then : {a m b : State} {ps qs : List Part} {k l : List Maps} → DoesParts
 parts_then NoPart rest = rest
 parts_then {a = a} {b = b} {qs = qs} {l = l} (OnePart {part = part} {parts = parts} {added = added} {maps = maps} one more) rest =
     subst (λ z. DoesParts a (part ∷ (parts ++ qs)) b z) (sym (append_assoc added maps l)) (OnePart one (parts_then more rest))
-
--- what is left of a list from an element on
-left_is : {A : Type 0} (xs : List A) (i : ℕ) (x : A) → i < length xs → x ≡ get_or xs i x → drop i xs ≡ x ∷ drop (i + 1) xs
-left_is xs i x h e = rw add-one (drop-cons xs i x h ∙ ap (λ z. z ∷ drop (suc i) xs) (sym e))
 
 -- ---- refusals
 
@@ -555,11 +552,8 @@ module _ {P M : Type 0} (store : P → Store) (meant : M → Merge) (old new : D
 
 -- ---- what is left of lists
 
-pub pairs_left : (xs : List (Key × Key)) (i : ℕ) (x : Key × Key) → i < length xs → x ≡ get_or xs i x → drop i xs ≡ x ∷ drop (i + 1) xs
-pairs_left xs i x h e = left_is xs i x h e
-
 pub contents_left : (xs : List (Vec ℕ × Vec ℕ × Vec (Key × Key))) (i : ℕ) (x : Vec ℕ × Vec ℕ × Vec (Key × Key)) → i < length xs → x ≡ get_or xs i x → contents_of (drop i xs) ≡ content_of x ∷ contents_of (drop (i + 1) xs)
-contents_left xs i x h e = ap contents_of (left_is xs i x h e)
+contents_left xs i x h e = ap contents_of (left_from xs i x h e)
 
 pub none_left : {A : Type 0} (xs : List A) (i : ℕ) → length xs ≤ i → drop i xs ≡ []
 none_left xs i h = drop_all i xs h

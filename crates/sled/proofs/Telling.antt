@@ -1,5 +1,5 @@
 -- The events of a group.
-use Rattle.std.proofs.Common.{◌≡◌, ℕ, suc, ◌+◌, add-one, drop-cons, drop, get_or, length, ◌<◌, Bool, true, false, cond, List, [], ◌∷◌, ◌++◌, append_assoc, append-nil, Option, Some, None, option_map, sym, refl, ap, ◌∙◌, subst, inl, inr}
+use Rattle.std.proofs.Common.{◌≡◌, ℕ, Bool, true, false, cond, List, [], ◌∷◌, ◌++◌, append_assoc, append-nil, Option, Some, None, option_map, sym, refl, ap, ◌∙◌, subst, inl, inr}
 use Rattle.std.proofs.Math.Path.{fun_ext}
 use Rattle.sled_nodes.specs.declared.error.Error.{Error}
 use Rattle.sled_nodes.specs.declared.error.Error.TheVariants as error
@@ -15,8 +15,8 @@ use Rattle.sled_queues.specs.Queues.{Becomes, IsCalm, prepared_in, prepared, com
 use Rattle.sled_queues.specs.Laws.{prepared_all}
 use Rattle.sled_queues.specs.Tells.{waits_for, IsUnwatched}
 use Rattle.sled_queues.proofs.Grouped.{group_law}
-use Rattle.sled_tree.specs.declared.flight.InFlight.{InFlight}
-use Rattle.tree_groups.specs.Groups.{jobs_of, MakesGroup, LeavesGroup}
+use Rattle.tree_groups.specs.declared.key_write.KeyWrite.{KeyWrite}
+use Rattle.tree_groups.specs.Groups.{job_of, jobs_of, MakesGroup, LeavesGroup}
 use Rattle.sled.specs.theory.Groups.{events_of_call, events_of_jobs, Prepares, StopsPreparing, MakesAll, StopsAll}
 
 prepared_then : (a b : List (ℕ × Event)) (queues : Waitings) → prepared_all (a ++ b) queues ≡ prepared_all b (prepared_all a queues)
@@ -47,21 +47,21 @@ pub call_untold : (tree : ℕ) (c : Call) (queues : QueuesValue) → IsUnwatched
 call_untold tree c queues off = record { held = sym (call_unwatched tree c (queue_at queues) off); count = refl }
 
 -- the events of the first of these calls are prepared, and those of the others are left
-pub record PreparedSoFar (all left : List InFlight) (old new : QueuesValue) : Type 0 where
+pub record PreparedSoFar (all left : List KeyWrite) (old new : QueuesValue) : Type 0 where
   pub events : List (ℕ × Event)
   pub rest : events_of_jobs (jobs_of all) ≡ events ++ events_of_jobs (jobs_of left)
   pub is : Becomes (prepared_all events (queue_at old)) old.given new
 
-pub prepared_first : (all : List InFlight) (old : QueuesValue) → PreparedSoFar all all old old
+pub prepared_first : (all : List KeyWrite) (old : QueuesValue) → PreparedSoFar all all old old
 prepared_first all old = record { events = []; rest = refl; is = record { held = refl; count = refl } }
 
-module _ (all left : List InFlight) (old mid : QueuesValue) (k : PreparedSoFar all left old mid) where
-  pub prepared_more : (f : InFlight) (more : List InFlight) → left ≡ f ∷ more → (new : QueuesValue) → Becomes (prepared_all (events_of_call f.job.tree.number f.job.call) (queue_at mid)) mid.given new → PreparedSoFar all more old new
+module _ (all left : List KeyWrite) (old mid : QueuesValue) (k : PreparedSoFar all left old mid) where
+  pub prepared_more : (f : KeyWrite) (more : List KeyWrite) → left ≡ f ∷ more → (new : QueuesValue) → Becomes (prepared_all (events_of_call f.tree.now.number (job_of f).call) (queue_at mid)) mid.given new → PreparedSoFar all more old new
   prepared_more f more is new p = record {
-    events = k.events ++ events_of_call f.job.tree.number f.job.call;
-    rest = k.rest ∙ ap (λ l. k.events ++ events_of_jobs (jobs_of l)) is ∙ sym (append_assoc k.events (events_of_call f.job.tree.number f.job.call) (events_of_jobs (jobs_of more)));
+    events = k.events ++ events_of_call f.tree.now.number (job_of f).call;
+    rest = k.rest ∙ ap (λ l. k.events ++ events_of_jobs (jobs_of l)) is ∙ sym (append_assoc k.events (events_of_call f.tree.now.number (job_of f).call) (events_of_jobs (jobs_of more)));
     is = record {
-      held = p.held ∙ ap (prepared_all (events_of_call f.job.tree.number f.job.call)) k.is.held ∙ sym (prepared_then k.events (events_of_call f.job.tree.number f.job.call) (queue_at old));
+      held = p.held ∙ ap (prepared_all (events_of_call f.tree.now.number (job_of f).call)) k.is.held ∙ sym (prepared_then k.events (events_of_call f.tree.now.number (job_of f).call) (queue_at old));
       count = p.count ∙ k.is.count;
     };
   }
@@ -74,13 +74,9 @@ module _ (all left : List InFlight) (old mid : QueuesValue) (k : PreparedSoFar a
   pub prepared_some : (e : Error) → e ≡ error.NoMemory → (new : QueuesValue) → new ≡ mid → StopsPreparing e old new
   prepared_some e short new same = record { why = short; events = k.events; is = subst (λ q. Becomes (prepared_all k.events (queue_at old)) old.given q) (sym same) k.is }
 
--- what is left of calls from one on
-pub flights_left : (fs : List InFlight) (i : ℕ) (f : InFlight) → i < length fs → f ≡ get_or fs i f → drop i fs ≡ f ∷ drop (i + 1) fs
-flights_left fs i f h e = rw add-one (drop-cons fs i f h ∙ ap (λ z. z ∷ drop (suc i) fs) (sym e))
-
 -- ---- a group over the pages, and its events
 
-module _ (fs : List InFlight) (a b : Store) (old : QueuesValue) (calm : IsCalm (queue_at old)) where
+module _ (fs : List KeyWrite) (a b : Store) (old : QueuesValue) (calm : IsCalm (queue_at old)) where
   -- what was prepared is gone again
   pub cancelled_again : (mid new : QueuesValue) (events : List (ℕ × Event)) → Becomes (prepared_all events (queue_at old)) old.given mid → Becomes (cancelled (queue_at mid)) mid.given new → Becomes (queue_at old) old.given new
   cancelled_again mid new events p c = record { held = c.held ∙ ap cancelled p.held ∙ (group_law (queue_at old) calm events).undone; count = c.count ∙ p.count }

@@ -266,6 +266,9 @@ tree_at [] i t e = none_some e
 tree_at (x ∷ trees) zero t e = ap (λ (z : Bor Tree). Some z.now) (some_is e)
 tree_at (x ∷ trees) (suc i) t e = tree_at trees i t e
 
+pub one_less : {X : Type 0} (f : X) (fs rest : List X) (n count : ℕ) → rest ≡ f ∷ fs → n + 1 ≡ count → count ≡ length rest → n ≡ length fs
+one_less f fs rest n count e less is = let longer : length rest ≡ suc (length fs) = ap length e in omega arith
+
 pub less : (i n : ℕ) → true ≡ nat_lt i n → i < n
 less i n h = grind arith
 

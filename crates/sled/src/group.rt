@@ -1,129 +1,49 @@
 //! Groups of writes, which are made together or not at all.
 //!
-//! First comes all that can be refused without harm: the tests, the reads of the values that stand, and the memory of calls and events.
-//! Then the group is begun, the writes are made by the steps of calls in flight, repairs included, and the group is sealed. Once it is
-//! begun a refusal leaves it open, so that the database is closed: no crash leaves any of it.
+//! First comes all that can be refused without harm: the tests, the reads of the values that stand, and the memory of events. Then the
+//! group is begun, the writes are made, and the group is sealed. Once it is begun a refusal leaves it open, so that the database is
+//! closed: no crash leaves any of it.
 //!
-//! A write begins at the leaf that the read of its key found, where it has nothing to repair there. Of several writes in one leaf the
-//! others read it again, since the first changes it. The keys of a batch ascend, so the read of each begins where that of the one before
-//! it went down last, if its leaf lies there too.
+//! A write is linked at the leaf that the read of its key found, where nothing is to be repaired there; else it is made by the steps of a
+//! call in flight, repairs included. Of several writes in one leaf the others read it again, since the first changes it. The keys of a
+//! batch ascend, so the read of each begins where that of the one before it went down last, if its leaf lies there too.
 ghost use Rattle.std.specs.Prelude.{◌≡◌, false, IfOk, IfErr, OnOk, OnErr, [], ◌∷◌, Some, None, ◌++◌};
 ghost use Rattle.std.specs.FinMap.Entries.{find};
 ghost use Rattle.sled_nodes.specs.Order.{key_cmp};
 ghost use Rattle.sled_batch.specs.Batch.{Rises};
 ghost use Rattle.sled_store.specs.Store.{now};
 ghost use Rattle.sled_nodes.specs.declared.error.Error.TheVariants.{NoMemory};
-ghost use Rattle.sled_model.specs.Groups.{writes_of, writes_on, call_with, after_writes};
+ghost use Rattle.sled_model.specs.Groups.{writes_of, writes_on, after_writes};
 ghost use Rattle.sled_model.specs.Refusal.{must_refuse_of, trees_of_batches};
 ghost use Rattle.sled_queues.specs.Values.{queue_at};
 ghost use Rattle.sled_model.specs.declared.event.Event.TheVariants as event;
 ghost use Rattle.sled_queues.specs.Queues.{IsCalm, Becomes};
 ghost use Rattle.sled_queues.specs.Laws.{prepared_all};
-ghost use Rattle.tree_groups.specs.Groups.{AreReady, jobs_of};
+ghost use Rattle.tree_groups.specs.Groups.{job_of, jobs_of};
 ghost use Rattle.tree_reads.specs.Walk.{IsWay};
 ghost use Rattle.sled.specs.Calls.{MustBeRefused};
-ghost use Rattle.sled.specs.theory.Groups.{jobs_of_write, jobs_of_writes, flight_from, Finds, FindsMore, Stands, stands_over, ReadsKey, BeginsAt, unread, events_of_call, Prepares, StopsPreparing, MakesAll, StopsAll};
+ghost use Rattle.sled.specs.theory.Groups.{jobs_of_write, jobs_of_writes, Finds, FindsMore, Stands, stands_over, ReadsKey, BeginsAt, unread, events_of_call, Prepares, StopsPreparing, MakesAll, StopsAll};
 
 use crate::db::Db;
 use crate::tree_list::number_of;
 use sled_batch::Batch;
-use sled_model::{Call, Event, MergeOperator, Tree};
+use sled_model::{Event, MergeOperator, Tree};
 use sled_nodes::texts::HANDLE_OF_ANOTHER_DATABASE;
-use sled_nodes::{Error, IVec, Pid, Result};
+use sled_nodes::{Error, IVec, Pid, Result, Version};
 use sled_queues::Queues;
 use sled_store::{Pages, View};
-use sled_tree::{Aim, InFlight, Job, Stage};
 use std::alloc::Global;
-use tree_groups::{is_settled, write_group};
+use tree_groups::{KeyWrite, is_settled, write_group};
 use tree_reads::leaf_near;
 
-// A call at the leaf that it has read, or without one as it begins.
+// The leaf with its version, where a write of it can be linked at once.
 #[inline(always)]
-fn flight_from(tree: Tree, call: Call, leaf: Option<View>) -> InFlight
-    ensures { result ≡ flight_from tree call leaf }
+fn place_of(leaf: &View, stands: bool) -> Option<(Pid, Version)>
+    ensures { BeginsAt leaf.now stands result }
 {
-    match leaf {
-        Some(leaf) => InFlight {
-            job: Job { tree, call },
-            aim: Aim::Own,
-            stage: Stage::Act(leaf),
-            turns: 1,
-        },
-        None => InFlight::new(tree, call),
-    }
-}
-
-// The call that writes a key in a tree.
-#[inline(always)]
-fn made(tree: &Tree, key: &IVec, value: &Option<IVec>) -> Result<(Tree, Call)>
-    ensures ok { IfOk result (λ job. (job.0 ≡ tree.now) × (job.1 ≡ call_with key.now value.now)) }
-    ensures err { IfErr result (λ e. e ≡ NoMemory) }
-{
-    let call = match write_call(key, value) {
-        Ok(call) => call,
-        Err(e) => return Err(e),
-    };
-    match tree.clone() {
-        Ok(tree) => Ok((tree, call)),
-        Err(e) => {
-            drop(call);
-            Err(e)
-        }
-    }
-}
-
-// The call that sets the value at a key, or takes the key out.
-#[inline(always)]
-fn write_call(key: &IVec, value: &Option<IVec>) -> Result<Call>
-    ensures ok { IfOk result (λ call. call ≡ call_with key.now value.now) }
-    ensures err { IfErr result (λ e. e ≡ NoMemory) }
-{
-    let key = key.clone()?;
-    let Some(value) = value else {
-        return Ok(Call::Remove(key));
-    };
-    match value.clone() {
-        Ok(value) => Ok(Call::Insert(key, value)),
-        Err(e) => {
-            drop(key);
-            Err(e)
-        }
-    }
-}
-
-// Adds the call that writes a key in a tree, at a leaf or as it begins.
-#[inline(always)]
-fn add_call(
-    flights: &mut Vec<InFlight>,
-    tree: &Tree,
-    key: &IVec,
-    value: &Option<IVec>,
-    leaf: Option<View>,
-) -> Result<()>
-    ensures ok { OnOk result (flights.new.items ≡ flights.old.items ++ flight_from tree.now (call_with key.now value.now) leaf ∷ []) }
-    ensures err { IfErr result (λ e. e ≡ NoMemory) }
-{
-    match made(tree, key, value) {
-        Ok((tree, call)) => {
-            flights.push(flight_from(tree, call, leaf))?;
-            Ok(())
-        }
-        Err(e) => {
-            drop(leaf);
-            Err(e)
-        }
-    }
-}
-
-// The leaf, where the call may begin there.
-#[inline(always)]
-fn begins_at(leaf: View, stands: bool) -> Option<View>
-    ensures { BeginsAt leaf stands result }
-{
-    if !stands && is_settled(&leaf) {
-        Some(leaf)
+    if !stands && is_settled(leaf) {
+        Some((leaf.pid, leaf.version))
     } else {
-        drop(leaf);
         None
     }
 }
@@ -139,21 +59,22 @@ fn stands_over(batch: &Batch, key: &IVec, value: &Option<IVec>, stands: bool) ->
     }
 }
 
-// Prepares the event of an insert or a removal that changes something.
-fn prepare_event(queues: &mut Queues, tree: u64, call: &Call) -> Result<()>
-    ensures ok { OnOk result (Becomes (prepared_all (events_of_call tree call.now) (queue_at queues.old)) queues.old.given queues.new) }
+// Prepares the event of a write that changes something.
+fn prepare_event(queues: &mut Queues, write: &KeyWrite) -> Result<()>
+    ensures ok { OnOk result (Becomes (prepared_all (events_of_call write.now.tree.now.number (job_of write.now).call) (queue_at queues.old)) queues.old.given queues.new) }
     ensures err { OnErr result (queues.new ≡ queues.old) }
     ensures cause { IfErr result (λ e. e ≡ NoMemory) }
 {
-    if !queues.is_watched(tree, call.key()) {
+    if !queues.is_watched(write.tree.number, write.key.as_ref()) {
         return Ok(());
     }
-    let event = match call {
-        Call::Insert(key, value) => inserted(key, value)?,
-        Call::Remove(key) => Event::Remove { key: key.clone()? },
-        _ => return Ok(()),
+    let event = match write.value {
+        Some(value) => inserted(write.key, value)?,
+        None => Event::Remove {
+            key: write.key.clone()?,
+        },
     };
-    let prepared = queues.prepare(tree, &event);
+    let prepared = queues.prepare(write.tree.number, &event);
     drop(event);
     prepared
 }
@@ -173,36 +94,34 @@ fn inserted(key: &IVec, value: &IVec) -> Result<Event>
     }
 }
 
-// Prepares the events of calls that each change something. Refused, some of them may be prepared.
-fn prepare_events(queues: &mut Queues, flights: &[InFlight]) -> Result<()>
-    ensures ok { OnOk result (Prepares (jobs_of flights.now) queues.old queues.new) }
+// Prepares the events of writes that each change something. Refused, some of them may be prepared.
+fn prepare_events(queues: &mut Queues, writes: &[KeyWrite]) -> Result<()>
+    ensures ok { OnOk result (Prepares (jobs_of writes.now) queues.old queues.new) }
     ensures err { IfErr result (λ e. StopsPreparing e queues.old queues.new) }
 {
-    for flight in flights {
-        prepare_event(queues, flight.job.tree.number, &flight.job.call)?;
+    for write in writes {
+        prepare_event(queues, write)?;
     }
     Ok(())
 }
 
-// Makes a group of calls that each change something, with their events.
+// Makes a group of writes that each change something, with their events.
 fn make_group<P: Pages>(
     pages: &mut P,
     queues: &mut Queues,
     alloc: Global,
-    flights: Vec<InFlight>,
+    writes: &[KeyWrite],
 ) -> Result<()>
     requires outside { (now (P.store pages.old)).in_group ≡ false }
     requires calm { IsCalm (queue_at queues.old) }
-    requires ready { AreReady flights.items }
-    ensures ok { OnOk result (MakesAll flights.items (P.store pages.old) (P.store pages.new) queues.old queues.new) }
-    ensures err { IfErr result (StopsAll flights.items (P.store pages.old) (P.store pages.new) queues.old queues.new) }
+    ensures ok { OnOk result (MakesAll writes.now (P.store pages.old) (P.store pages.new) queues.old queues.new) }
+    ensures err { IfErr result (StopsAll writes.now (P.store pages.old) (P.store pages.new) queues.old queues.new) }
 {
-    if let Err(e) = prepare_events(queues, flights.as_slice()) {
+    if let Err(e) = prepare_events(queues, writes) {
         queues.cancel();
-        drop(flights);
         return Err(e);
     }
-    if let Err(e) = write_group(pages, alloc, flights) {
+    if let Err(e) = write_group(pages, alloc, writes) {
         queues.cancel();
         return Err(e);
     }
@@ -290,21 +209,21 @@ impl<P: Pages, M: MergeOperator> Db<P, M> {
     }
 
     // Adds the write of a key, where it changes something. The walk to its leaf begins below the way of the one before it.
-    fn add_change(
+    fn add_change<'a>(
         &self,
         before: &[(Tree, Batch)],
-        tree: &Tree,
+        tree: &'a Tree,
         root: Pid,
-        key: &IVec,
-        value: &Option<IVec>,
+        key: &'a IVec,
+        value: &'a Option<IVec>,
         way: &mut Vec<View>,
-        flights: &mut Vec<InFlight>,
+        writes: &mut Vec<KeyWrite<'a>>,
     ) -> Result<()>
         requires tested { must_refuse_of (db_state P.store M.meant self.now) (trees_of_batches before.now ++ tree.now ∷ []) ≡ None }
         requires root { (now (P.store self.now.pages)).roots tree.now.name ≡ Some root }
         requires way { IsWay (now (P.store self.now.pages)) root way.old.items }
         ensures way { IsWay (now (P.store self.now.pages)) root way.new.items }
-        ensures ok { OnOk result (FindsMore (snapshot_of_db P.store self.now) (jobs_of_write ((after_writes (writes_of before.now) (db_state P.store M.meant self.now)).trees tree.now.name) (record { tree = tree.now; key = key.now; value = value.now })) flights.old.items flights.new.items) }
+        ensures ok { OnOk result (FindsMore (snapshot_of_db P.store self.now) (jobs_of_write ((after_writes (writes_of before.now) (db_state P.store M.meant self.now)).trees tree.now.name) (record { tree = tree.now; key = key.now; value = value.now })) writes.old.items writes.new.items) }
         ensures err { IfErr result (unread (P.store self.now.pages)) }
     {
         self.audit();
@@ -312,24 +231,33 @@ impl<P: Pages, M: MergeOperator> Db<P, M> {
             Ok(read) => read,
             Err(e) => return Err(e),
         };
+        let place = place_of(&leaf, stood);
+        drop(leaf);
         if self.stands(before, tree, key, value, stood) {
-            drop(leaf);
             return Ok(());
         }
-        add_call(flights, tree, key, value, begins_at(leaf, stood))?;
-        Ok(())
+        let write = KeyWrite {
+            tree,
+            key,
+            value,
+            leaf: place,
+        };
+        match writes.push(write) {
+            Ok(()) => Ok(()),
+            Err(_) => Err(Error::NoMemory),
+        }
     }
 
-    // Adds the writes of a batch that change something, as calls that are ready to be made, where these batches come before it.
-    fn add_changes(
+    // Adds the writes of a batch that change something, where these batches come before it.
+    fn add_changes<'a>(
         &self,
         before: &[(Tree, Batch)],
-        tree: &Tree,
-        batch: &Batch,
-        flights: &mut Vec<InFlight>,
+        tree: &'a Tree,
+        batch: &'a Batch,
+        writes: &mut Vec<KeyWrite<'a>>,
     ) -> Result<()>
         requires tested { must_refuse_of (db_state P.store M.meant self.now) (trees_of_batches before.now ++ tree.now ∷ []) ≡ None }
-        ensures ok { OnOk result (FindsMore (snapshot_of_db P.store self.now) (jobs_of_writes (writes_on tree.now batch.now) (after_writes (writes_of before.now) (db_state P.store M.meant self.now))) flights.old.items flights.new.items) }
+        ensures ok { OnOk result (FindsMore (snapshot_of_db P.store self.now) (jobs_of_writes (writes_on tree.now batch.now) (after_writes (writes_of before.now) (db_state P.store M.meant self.now))) writes.old.items writes.new.items) }
         ensures err { IfErr result (unread (P.store self.now.pages)) }
     {
         let root = match self.root_of(tree) {
@@ -338,7 +266,7 @@ impl<P: Pages, M: MergeOperator> Db<P, M> {
         };
         let mut way = Vec::new(self.alloc);
         for (key, value) in batch.writes().iter() {
-            if let Err(e) = self.add_change(before, tree, root, key, value, &mut way, flights) {
+            if let Err(e) = self.add_change(before, tree, root, key, value, &mut way, writes) {
                 drop(way);
                 return Err(e);
             }
@@ -347,21 +275,21 @@ impl<P: Pages, M: MergeOperator> Db<P, M> {
         Ok(())
     }
 
-    // The writes of a group that change something, as calls that are ready to be made.
-    fn changes(&self, batches: &[(Tree, Batch)]) -> Result<Vec<InFlight>>
+    // The writes of a group that change something.
+    fn changes<'a>(&self, batches: &'a [(Tree, Batch)]) -> Result<Vec<KeyWrite<'a>>>
         requires tested { must_refuse_of (db_state P.store M.meant self.now) (trees_of_batches batches.now) ≡ None }
-        ensures ok { IfOk result (λ flights. Finds (snapshot_of_db P.store self.now) (jobs_of_writes (writes_of batches.now) (db_state P.store M.meant self.now)) flights.items) }
+        ensures ok { IfOk result (λ writes. Finds (snapshot_of_db P.store self.now) (jobs_of_writes (writes_of batches.now) (db_state P.store M.meant self.now)) writes.items) }
         ensures err { IfErr result (unread (P.store self.now.pages)) }
     {
-        let mut flights = Vec::new(self.alloc);
+        let mut writes = Vec::new(self.alloc);
         for index in 0..batches.len() {
             let (tree, batch) = &batches[index];
-            if let Err(e) = self.add_changes(&batches[..index], tree, batch, &mut flights) {
-                drop(flights);
+            if let Err(e) = self.add_changes(&batches[..index], tree, batch, &mut writes) {
+                drop(writes);
                 return Err(e);
             }
         }
-        Ok(flights)
+        Ok(writes)
     }
 
     /// Makes the writes of each batch in its tree, all or none, in the order of the list and of each batch in the order of its keys, and
@@ -384,11 +312,18 @@ impl<P: Pages, M: MergeOperator> Db<P, M> {
         if let Err(e) = self.check_batches(batches) {
             return Err(e);
         }
-        let flights = match self.changes(batches) {
-            Ok(flights) => flights,
+        let writes = match self.changes(batches) {
+            Ok(writes) => writes,
             Err(e) => return Err(e),
         };
-        make_group(&mut self.pages, &mut self.queues, self.alloc, flights)
+        let made = make_group(
+            &mut self.pages,
+            &mut self.queues,
+            self.alloc,
+            writes.as_slice(),
+        );
+        drop(writes);
+        made
     }
 
     /// Makes the writes of a batch in a tree, all or none, in the order of the keys. Refused as a group of it alone (`apply_group`).

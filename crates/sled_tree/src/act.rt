@@ -127,11 +127,11 @@ pub fn begin_again(flight: &mut InFlight)
     flight.turns += 1;
 }
 
-/// Links a change that a call makes of its leaf, at the version that the call has read. Answers whether it was linked; where the leaf has
-/// another version by now the call begins again at the root. It lets go of the leaf before it links, so that a store may change it in
-/// place.
+// Links a change that a call makes of its leaf, at the version that the call has read. Answers whether it was linked; where the leaf has
+// another version by now the call begins again at the root. It lets go of the leaf before it links, so that a store may change it in
+// place.
 #[inline(always)]
-pub fn link_at_leaf<P: Pages>(pages: &mut P, flight: &mut InFlight, link: Link) -> Result<bool>
+fn link_at_leaf<P: Pages>(pages: &mut P, flight: &mut InFlight, link: Link) -> Result<bool>
     requires room { flight.old.turns < MAX_LOOPS }
     requires here { IsAtLink flight.old.stage }
     ensures { LinksAtLeaf link (P.store pages.old) flight.old result (P.store pages.new) flight.new }

@@ -15,7 +15,7 @@ mod repair;
 mod split;
 mod walk;
 
-pub use act::{Change, begin_again, event_of, link_at_leaf, link_change, prepare_change};
+pub use act::{Change, begin_again, event_of, link_change, prepare_change};
 pub use dispatch::{advance, walk_down};
 pub use flight::{Aim, InFlight, Job, Next, Went};
 pub use sled_model::{Event, Subscriber};
@@ -24,4 +24,4 @@ pub use tree_laws::flight::{
     Split, Stage, SwapRoot, Walk,
 };
 pub use tree_laws::half::Half;
-pub use walk::{lies_under, reply_at};
+pub use walk::lies_under;

@@ -220,9 +220,9 @@ fn is_clean(job: &Job, aim: &Aim, stage: &Stage, view: &View) -> bool
         && is_under(job, aim, node)
 }
 
-/// The reply of a call at its leaf that changes nothing there. A call without one changes the leaf. Refused with `NoMemory` alone.
+// The reply of a call at its leaf that changes nothing there. A call without one changes the leaf. Refused with `NoMemory` alone.
 #[inline(always)]
-pub fn reply_at(job: &Job, node: &Node) -> Result<Option<Reply>>
+pub(crate) fn reply_at(job: &Job, node: &Node) -> Result<Option<Reply>>
     ensures ok { IfOk result (λ reply. reply ≡ reply_at job.now.call node.now.content) }
     ensures err { IfErr result (λ e. e ≡ NoMemory) }
 {

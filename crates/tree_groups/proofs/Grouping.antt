@@ -1,6 +1,7 @@
 -- The writes of a group, one after the other, from its begin to its end.
-use Rattle.std.proofs.Common.{◌≡◌, ◌≢◌, ℕ, ◌⊎◌, Bool, true, false, if◌then◌else◌, ◌+◌, suc, List, [], ◌∷◌, length, Option, Result, Ok, Err, OnOk, IfErr, sym, refl, ap, ◌∙◌, subst, inl, inr, arith}
+use Rattle.std.proofs.Common.{◌≡◌, ◌≢◌, ℕ, ◌⊎◌, Bool, true, false, if◌then◌else◌, ◌+◌, suc, add-one, ◌<◌, get_or, drop, drop-cons, List, [], ◌∷◌, length, Option, Result, Ok, Err, OnOk, IfErr, sym, refl, ap, ◌∙◌, subst, inl, inr}
 use Rattle.std.specs.Str.{bytes_eq}
+use Rattle.std.proofs.lemmas.List.{nil_from_length}
 use Rattle.std.proofs.lemmas.Slice.Eq.{bytes_eq-Decides}
 use Rattle.sled_nodes.proofs.Basics.{false_true}
 use Rattle.sled_nodes.specs.declared.error.Error.{Error}
@@ -9,18 +10,16 @@ use Rattle.sled_store.specs.State.{GroupBegins, GroupEnds}
 use Rattle.sled_store.specs.Store.{Store, now, after_action, is_refused_as, IsRefused}
 use Rattle.sled_model.specs.Answer.{answer_of}
 use Rattle.sled_model.specs.Maps.{Merge}
-use Rattle.sled_model.specs.Refusal.{needs_operator}
-use Rattle.sled_model.specs.State.{IsOnKey}
 use Rattle.tree_laws.specs.Crashes.{AddsCrashStates}
 use Rattle.tree_laws.specs.Forest.{Tree, Forest, contents}
 use Rattle.tree_laws.specs.Snapshot.{Snapshot, snapshot_of, nodes_at, HasForest}
 use Rattle.tree_laws.proofs.Crashing.{extends_nothing, extends_same, extends_again}
-use Rattle.sled_tree.specs.declared.flight.InFlight.{InFlight}
 use Rattle.sled_tree.specs.declared.flight.Job.{Job}
-use Rattle.tree_groups.specs.Groups.{IsAtLeaf, AreReady, jobs_of, AreNumbered, AreKnown, map_after_jobs, WrittenAll, seals_as, MakesGroup, KeepsForests, LeavesGroup}
+use Rattle.tree_groups.specs.declared.key_write.KeyWrite.{KeyWrite}
+use Rattle.tree_groups.specs.Groups.{job_of, jobs_of, AreNumbered, AreKnown, map_after_jobs, WrittenAll, seals_as, MakesGroup, KeepsForests, LeavesGroup}
 use Rattle.tree_groups.specs.theory.Groups.{MakesKnown, StopsKnown, WritesAll, StopsWritingAll}
-use Rattle.tree_groups.specs.Writes.{IsFresh, ActsOften, NoAction, is_write_refused_as, Keeps, WrittenAt}
-use Rattle.tree_groups.proofs.Ready.{keeps_then, all_known}
+use Rattle.tree_groups.specs.Writes.{ActsOften, NoAction, Keeps, WrittenAt}
+use Rattle.tree_groups.proofs.Ready.{keeps_then, all_known, refused_store}
 use Rattle.tree_groups.proofs.Writing.{often_then, keeps_first, open_law, refused_law, sealed_law, bounds_law}
 
 -- ---- the contents
@@ -36,25 +35,22 @@ written_each j m w n k operator t = go (bytes_eq j.tree.name t) refl
 
 -- ---- what is left of a list
 
-pub one_less : {X : Type 0} (f : X) (fs rest : List X) (n count : ℕ) → rest ≡ f ∷ fs → n + 1 ≡ count → count ≡ length rest → n ≡ length fs
-one_less f fs rest n count e less is = let longer : length rest ≡ suc (length fs) = ap length e in omega arith
+-- what is left from one on
+pub left_from : {X : Type 0} (xs : List X) (i : ℕ) (x : X) → i < length xs → x ≡ get_or xs i x → drop i xs ≡ x ∷ drop (i + 1) xs
+left_from xs i x h e = rw add-one (drop-cons xs i x h ∙ ap (λ z. z ∷ drop (suc i) xs) (sym e))
 
-pub none_left : {X : Type 0} (rest : List X) → length rest ≡ 0 → rest ≡ []
-none_left [] e = refl
-none_left (x ∷ xs) e = absurd (omega arith)
+pub no_writes : (writes : List KeyWrite) (n : ℕ) → n ≡ length writes → n ≡ 0 → writes ≡ []
+no_writes writes n is none = nil_from_length writes (sym is ∙ none)
 
-pub no_flights : (flights : List InFlight) (n : ℕ) → n ≡ length flights → n ≡ 0 → flights ≡ []
-no_flights flights n is none = none_left flights (sym is ∙ none)
-
-pub some_jobs : (flights : List InFlight) (n : ℕ) → n ≡ length flights → n ≢ 0 → jobs_of flights ≢ []
+pub some_jobs : (writes : List KeyWrite) (n : ℕ) → n ≡ length writes → n ≢ 0 → jobs_of writes ≢ []
 some_jobs [] n is some e = some is
 some_jobs (f ∷ fs) n is some e = cc
 
 -- ---- how far the writes have come
 
--- at a moment: what is left makes of the contents now what all make of those before, its trees have their numbers, and its calls know
--- what is true
-pub record IsSoFar (numbers : Tree → Option ℕ) (all : List Job) (rest : List InFlight) (m : Snapshot) (w : Forest) (n : Snapshot) : Type 0 where
+-- at a moment: what is left makes of the contents now what all make of those before, its trees have their numbers, and its leaves are
+-- those of its calls
+pub record IsSoFar (numbers : Tree → Option ℕ) (all : List Job) (rest : List KeyWrite) (m : Snapshot) (w : Forest) (n : Snapshot) : Type 0 where
   pub after : Forest
   pub keeps : Keeps m w n after
   pub named : AreNumbered numbers (jobs_of rest)
@@ -62,31 +58,24 @@ pub record IsSoFar (numbers : Tree → Option ℕ) (all : List Job) (rest : List
   pub is : (operator : Option Merge) (t : Tree) → map_after_jobs operator (jobs_of rest) t (contents (nodes_at n) after t) ≡ map_after_jobs operator all t (contents (nodes_at m) w t)
 
 -- from the store before the writes to the store now
-pub record SoFar (all rest : List InFlight) (old new : Store) : Type 0 where
+pub record SoFar (all rest : List KeyWrite) (old new : Store) : Type 0 where
   pub acts : ActsOften old new
-  pub ready : AreReady rest
   pub told : (numbers : Tree → Option ℕ) (given : ℕ → Bool) (w : Forest) → HasForest (snapshot_of old numbers given) w → AreNumbered numbers (jobs_of all) → AreKnown (snapshot_of old numbers given) all
       → IsSoFar numbers (jobs_of all) rest (snapshot_of old numbers given) w (snapshot_of new numbers given)
 
-pub so_far_first : (all rest : List InFlight) (s : Store) → rest ≡ all → AreReady all → SoFar all rest s s
-so_far_first all rest s e ready = subst (λ (l : List InFlight). SoFar all l s s) (sym e) (record {
+pub so_far_first : (all rest : List KeyWrite) (s : Store) → rest ≡ all → SoFar all rest s s
+so_far_first all rest s e = subst (λ (l : List KeyWrite). SoFar all l s s) (sym e) (record {
   acts = NoAction;
-  ready = ready;
   told = λ numbers given w is named known. record { after = w; keeps = keeps_first (snapshot_of s numbers given) w is; named = named; known = known; is = λ operator t. refl };
 })
 
--- the next write
-pub so_far_ready : (all : List InFlight) (f : InFlight) (fs rest : List InFlight) (old new : Store) → rest ≡ f ∷ fs → SoFar all rest old new → (IsFresh f ⊎ IsAtLeaf f) × IsOnKey f.job.call × (needs_operator f.job.call ≡ false)
-so_far_ready all f fs rest old new e k = (subst AreReady e k.ready).0
-
 -- one more is made
-pub so_far_more : (all : List InFlight) (f : InFlight) (fs rest : List InFlight) (old a b : Store) → rest ≡ f ∷ fs → SoFar all rest old a → MakesKnown f a b → SoFar all fs old b
-so_far_more all f fs rest old a b e before x = go (subst (λ (l : List InFlight). SoFar all l old a) e before)
+pub so_far_more : (all : List KeyWrite) (f : KeyWrite) (fs rest : List KeyWrite) (old a b : Store) → rest ≡ f ∷ fs → SoFar all rest old a → MakesKnown f a b → SoFar all fs old b
+so_far_more all f fs rest old a b e before x = go (subst (λ (l : List KeyWrite). SoFar all l old a) e before)
   where
     go : SoFar all (f ∷ fs) old a → SoFar all fs old b
     go k = record {
       acts = often_then k.acts x.acts;
-      ready = k.ready.1;
       told = λ numbers given w is named known.
           let p = k.told numbers given w is named known in
           let r = x.told numbers given p.after p.keeps.is p.named.0 p.known.0 in record {
@@ -94,14 +83,14 @@ so_far_more all f fs rest old a b e before x = go (subst (λ (l : List InFlight)
             keeps = keeps_then (snapshot_of old numbers given) (snapshot_of a numbers given) (snapshot_of b numbers given) w p.after r.after is p.keeps r.keeps;
             named = p.named.1;
             known = all_known (snapshot_of a numbers given) (snapshot_of b numbers given) p.after r.after r.keeps fs p.known.1;
-            is = λ operator t. ap (map_after_jobs operator (jobs_of fs) t) (written_each f.job (snapshot_of a numbers given) p.after (snapshot_of b numbers given) r operator t) ∙ p.is operator t;
+            is = λ operator t. ap (map_after_jobs operator (jobs_of fs) t) (written_each (job_of f) (snapshot_of a numbers given) p.after (snapshot_of b numbers given) r operator t) ∙ p.is operator t;
           };
     }
 
 -- one is refused
-pub so_far_refused : (all : List InFlight) (f : InFlight) (fs rest : List InFlight) (old a b : Store) (e : Error) → rest ≡ f ∷ fs → SoFar all rest old a → StopsKnown f a b e
+pub so_far_refused : (all : List KeyWrite) (f : KeyWrite) (fs rest : List KeyWrite) (old a b : Store) (e : Error) → rest ≡ f ∷ fs → SoFar all rest old a → StopsKnown f a b e
     → StopsWritingAll all old b e
-so_far_refused all f fs rest old a b e here before x = go (subst (λ (l : List InFlight). SoFar all l old a) here before)
+so_far_refused all f fs rest old a b e here before x = go (subst (λ (l : List KeyWrite). SoFar all l old a) here before)
   where
     go : SoFar all (f ∷ fs) old a → StopsWritingAll all old b e
     go k = record {
@@ -117,8 +106,8 @@ so_far_refused all f fs rest old a b e here before x = go (subst (λ (l : List I
     }
 
 -- all are made
-pub so_far_all : (all rest : List InFlight) (old new : Store) → rest ≡ [] → SoFar all rest old new → WritesAll all old new
-so_far_all all rest old new none before = go (subst (λ (l : List InFlight). SoFar all l old new) none before)
+pub so_far_all : (all rest : List KeyWrite) (old new : Store) → rest ≡ [] → SoFar all rest old new → WritesAll all old new
+so_far_all all rest old new none before = go (subst (λ (l : List KeyWrite). SoFar all l old new) none before)
   where
     go : SoFar all [] old new → WritesAll all old new
     go k = record {
@@ -138,15 +127,6 @@ refused_marks (error.ReportableBug text) a b t = absurd t
 refused_marks (error.Corruption fault) a b t = absurd t
 refused_marks error.Closed a b t = absurd t
 
-pub refused_store : (e : Error) (a b : Store) → is_refused_as e a b → is_write_refused_as e a b
-refused_store error.NoMemory a b t = t
-refused_store (error.Io fault) a b t = inl t
-refused_store (error.CollectionNotFound name) a b t = absurd t
-refused_store (error.Unsupported text) a b t = absurd t
-refused_store (error.ReportableBug text) a b t = absurd t
-refused_store (error.Corruption fault) a b t = absurd t
-refused_store error.Closed a b t = absurd t
-
 -- .. shows the same pages,
 refused_shows : (a b : Store) → (b ≡ a) ⊎ (b ≡ record a { faults = a.faults + 1 }) → (numbers : Tree → Option ℕ) (given : ℕ → Bool) → snapshot_of b numbers given ≡ snapshot_of a numbers given
 refused_shows a b (inl e) numbers given = ap (λ (s : Store). snapshot_of s numbers given) e
@@ -161,15 +141,15 @@ forest_stays : (m n : Snapshot) (w : Forest) → n ≡ m → HasForest m w → K
 forest_stays m n w e is = subst (λ (o : Snapshot). KeepsForests m w o) (sym e) (record { after = w; keeps = keeps_first m w is })
 
 -- without a write
-pub group_of_none : (fs : List InFlight) (s : Store) → fs ≡ [] → (now s).in_group ≡ false → MakesGroup fs s s
-group_of_none fs s none outside = subst (λ (l : List InFlight). MakesGroup l s s) (sym none) (record {
+pub group_of_none : (fs : List KeyWrite) (s : Store) → fs ≡ [] → (now s).in_group ≡ false → MakesGroup fs s s
+group_of_none fs s none outside = subst (λ (l : List KeyWrite). MakesGroup l s s) (sym none) (record {
   acts = refl;
   adds = λ well. extends_again (extends_same s) outside;
   told = λ numbers given w is named known. record { after = w; keeps = keeps_first (snapshot_of s numbers given) w is; is = λ operator t. refl };
 })
 
 -- it is not begun
-pub group_not_begun : (fs : List InFlight) (a b : Store) (e : Error) → jobs_of fs ≢ [] → is_refused_as e a b → LeavesGroup fs a b e
+pub group_not_begun : (fs : List KeyWrite) (a b : Store) (e : Error) → jobs_of fs ≢ [] → is_refused_as e a b → LeavesGroup fs a b e
 group_not_begun fs a b e some refused = record {
   some = some;
   acts = inl refused;
@@ -178,10 +158,10 @@ group_not_begun fs a b e some refused = record {
 }
 
 -- it is open when its writes are made
-pub group_open : (fs : List InFlight) (old begun last : Store) → begun ≡ after_action GroupBegins old → WritesAll fs begun last → (now last).in_group ≡ true
+pub group_open : (fs : List KeyWrite) (old begun last : Store) → begun ≡ after_action GroupBegins old → WritesAll fs begun last → (now last).in_group ≡ true
 group_open fs old begun last begins x = (open_law old begun last begins x.acts).inside
 
-module _ (fs : List InFlight) (some : jobs_of fs ≢ []) (old begun : Store) (begins : begun ≡ after_action GroupBegins old) where
+module _ (fs : List KeyWrite) (some : jobs_of fs ≢ []) (old begun : Store) (begins : begun ≡ after_action GroupBegins old) where
   -- a write is refused
   pub group_refused : (new : Store) (e : Error) → StopsWritingAll fs begun new e → LeavesGroup fs old new e
   group_refused new e x =

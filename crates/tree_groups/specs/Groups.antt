@@ -9,8 +9,7 @@ use Rattle.sled_store.specs.Store.{Store, now, after_action, is_refused_as}
 use Rattle.sled_store.specs.declared.page.View.{View}
 use Rattle.sled_model.specs.Maps.{Map, Merge}
 use Rattle.sled_model.specs.Answer.{answer_of}
-use Rattle.sled_model.specs.Refusal.{needs_operator}
-use Rattle.sled_model.specs.State.{IsOnKey}
+use Rattle.sled_model.specs.Groups.{call_with}
 use Rattle.tree_laws.specs.Contents.{trees_of}
 use Rattle.tree_laws.specs.Crashes.{AddsCrashStates, IsValid}
 use Rattle.tree_laws.specs.Forest.{Tree, Forest, contents}
@@ -20,7 +19,8 @@ use Rattle.sled_tree.specs.Known.{IsKnown}
 use Rattle.sled_tree.specs.declared.flight.Aim.TheVariants.{Own}
 use Rattle.sled_tree.specs.declared.flight.InFlight.{InFlight}
 use Rattle.sled_tree.specs.declared.flight.Job.{Job}
-use Rattle.tree_groups.specs.Writes.{IsFresh, ActsOften, is_write_refused_as, Keeps}
+use Rattle.tree_groups.specs.declared.key_write.KeyWrite.{KeyWrite}
+use Rattle.tree_groups.specs.Writes.{ActsOften, is_write_refused_as, Keeps}
 
 -- nothing is to be repaired at a node
 pub record IsSettled (n : Node) : Type 0 where
@@ -28,22 +28,26 @@ pub record IsSettled (n : Node) : Type 0 where
   pub free : n.merging_child ≡ None
   pub fits : count n.content ≤ 16
 
--- a call that is to link its change at a leaf that it has read
-abbrev pub IsAtLeaf : InFlight → Type 0
-IsAtLeaf f = (leaf : View) × (f ≡ record { job = f.job; aim = Own; stage = Act leaf; turns = 1 })
+-- the call that a write is
+abbrev pub job_of : KeyWrite → Job
+job_of w = record { tree = w.tree.now; call = call_with w.key.now w.value.now }
 
--- each call has yet to begin, or is to link its change; it is one on a key, and needs no operator
-abbrev pub AreReady : List InFlight → Type 0
-AreReady [] = Unit {0}
-AreReady (f ∷ fs) = ((IsFresh f ⊎ IsAtLeaf f) × IsOnKey f.job.call × (needs_operator f.job.call ≡ false)) × AreReady fs
+abbrev pub jobs_of : List KeyWrite → List Job
+jobs_of ws = map job_of ws
 
--- what each call knows of the pages is true
-abbrev pub AreKnown : Snapshot → List InFlight → Type 0
+-- a call at a leaf that it has read
+abbrev pub at_leaf : Job → View → InFlight
+at_leaf j v = record { job = j; aim = Own; stage = Act v; turns = 1 }
+
+-- A leaf was read for a call, and this is its number and its version: the call at that leaf knows what is true
+abbrev pub IsLeafOf : Snapshot → Job → Option (ℕ × ℕ) → Type 0
+IsLeafOf m j None = Unit {0}
+IsLeafOf m j (Some at) = (v : View) × (v.pid ≡ at.0) × (v.version ≡ at.1) × IsKnown m (at_leaf j v)
+
+-- the leaf of each write that has one is that of its call
+abbrev pub AreKnown : Snapshot → List KeyWrite → Type 0
 AreKnown m [] = Unit {0}
-AreKnown m (f ∷ fs) = IsKnown m f × AreKnown m fs
-
-abbrev pub jobs_of : List InFlight → List Job
-jobs_of flights = map (λ f. f.job) flights
+AreKnown m (w ∷ ws) = IsLeafOf m (job_of w) w.leaf × AreKnown m ws
 
 -- the tree of each call has its number
 abbrev pub AreNumbered : (Tree → Option ℕ) → List Job → Type 0
@@ -73,12 +77,12 @@ seals_as [] old new = new ≡ old
 seals_as (j ∷ js) old new = (last : Store) × ActsInside old last × (new ≡ after_action GroupEnds last)
 
 -- A group of writes is made: it is begun, the writes are made, one after the other, and it is sealed. A crash may leave what it leaves,
--- and nothing else of it. What the calls know is to be true before
-pub record MakesGroup (fs : List InFlight) (old new : Store) : Type 0 where
-  pub acts : seals_as (jobs_of fs) old new
+-- and nothing else of it. The leaves of the writes are to be those of their calls before
+pub record MakesGroup (ws : List KeyWrite) (old new : Store) : Type 0 where
+  pub acts : seals_as (jobs_of ws) old new
   pub adds : IsValid (now new) → AddsCrashStates (trees_of (now new) ∷ []) old new
-  pub told : (numbers : Tree → Option ℕ) (given : ℕ → Bool) (w : Forest) → HasForest (snapshot_of old numbers given) w → AreNumbered numbers (jobs_of fs) → AreKnown (snapshot_of old numbers given) fs
-      → WrittenAll (jobs_of fs) (snapshot_of old numbers given) w (snapshot_of new numbers given)
+  pub told : (numbers : Tree → Option ℕ) (given : ℕ → Bool) (w : Forest) → HasForest (snapshot_of old numbers given) w → AreNumbered numbers (jobs_of ws) → AreKnown (snapshot_of old numbers given) ws
+      → WrittenAll (jobs_of ws) (snapshot_of old numbers given) w (snapshot_of new numbers given)
 
 -- the pages are well formed after any number of actions, whatever the contents are
 pub record KeepsForests (m : Snapshot) (w : Forest) (n : Snapshot) : Type 0 where
@@ -87,9 +91,9 @@ pub record KeepsForests (m : Snapshot) (w : Forest) (n : Snapshot) : Type 0 wher
 
 -- A group is refused: where it is to begin, and then nothing was done; or at a write or where it is to be sealed, and then it stays open
 -- and nothing more is done. A crash leaves nothing of it. A group without a write is not refused
-pub record LeavesGroup (fs : List InFlight) (old new : Store) (e : Error) : Type 0 where
-  pub some : jobs_of fs ≢ []
+pub record LeavesGroup (ws : List KeyWrite) (old new : Store) (e : Error) : Type 0 where
+  pub some : jobs_of ws ≢ []
   pub acts : is_refused_as e old new ⊎ ((last : Store) × ActsInside old last × is_write_refused_as e last new × ((now new).in_group ≡ true))
   pub adds : AddsCrashStates [] old new
-  pub told : (numbers : Tree → Option ℕ) (given : ℕ → Bool) (w : Forest) → HasForest (snapshot_of old numbers given) w → AreNumbered numbers (jobs_of fs) → AreKnown (snapshot_of old numbers given) fs
+  pub told : (numbers : Tree → Option ℕ) (given : ℕ → Bool) (w : Forest) → HasForest (snapshot_of old numbers given) w → AreNumbered numbers (jobs_of ws) → AreKnown (snapshot_of old numbers given) ws
       → KeepsForests (snapshot_of old numbers given) w (snapshot_of new numbers given)

@@ -23,8 +23,11 @@ use Rattle.sled_tree.specs.declared.flight.InFlight.{InFlight}
 use Rattle.sled_tree.specs.declared.flight.Job.{Job}
 
 -- a call that has yet to begin
+abbrev pub fresh_call : Job → InFlight
+fresh_call j = record { job = j; aim = Own; stage = Root; turns = 0 }
+
 abbrev pub IsFresh : InFlight → Type 0
-IsFresh f = f ≡ record { job = f.job; aim = Own; stage = Root; turns = 0 }
+IsFresh f = f ≡ fresh_call f.job
 
 -- any number of changing actions, one after the other, of which none begins or ends a group
 pub data ActsOften : Store → Store → Type 0 where

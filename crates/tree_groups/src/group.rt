@@ -1,18 +1,19 @@
 //! Writes of a group.
-ghost use Rattle.std.specs.Prelude.{◌≡◌, ◌⊎◌, false, OnOk, IfErr};
+ghost use Rattle.std.specs.Prelude.{◌≡◌, false, OnOk, IfErr};
 ghost use Rattle.sled_model.specs.Refusal.{needs_operator};
 ghost use Rattle.sled_model.specs.State.{IsOnKey};
 ghost use Rattle.sled_store.specs.Store.{now};
-ghost use Rattle.tree_groups.specs.Groups.{IsAtLeaf, AreReady, MakesGroup, LeavesGroup};
+ghost use Rattle.tree_groups.specs.Groups.{job_of, MakesGroup, LeavesGroup};
 ghost use Rattle.tree_groups.specs.theory.Groups.{MakesKnown, StopsKnown, WritesAll, StopsWritingAll};
 ghost use Rattle.tree_groups.specs.Writes.{IsFresh, MakesWrite, StopsWriting, OpenGroupLaw, RefusedGroupLaw, SealedGroupLaw, GroupBoundsLaw};
 
-use crate::leaf::{leaf_of, write_at_leaf};
+use crate::key_write::{KeyWrite, call_of};
+use crate::leaf::{link_write, write_again};
 use sled_model::{MAX_LOOPS, MergeOperator};
 use sled_nodes::texts::WALK_PASSED_TURNS;
 use sled_nodes::{Error, Pid, Result};
 use sled_store::Pages;
-use sled_tree::{InFlight, Stage, Went, advance};
+use sled_tree::{InFlight, Went, advance};
 use std::alloc::Global;
 
 /// Makes one write: the steps of a call on a key that has yet to begin, repairs included, until it ends. A call that is refused leaves
@@ -51,68 +52,81 @@ pub fn write<P: Pages>(pages: &mut P, alloc: Global, flight: InFlight) -> Result
     Err(Error::ReportableBug(WALK_PASSED_TURNS))
 }
 
-// Makes a write whose call has yet to begin, or is to link its change. The write before it changed this leaf, if it had read one.
+// Makes a write by the steps of its call, from the root of its tree.
+pub(crate) fn write_from_root<P: Pages>(pages: &mut P, alloc: Global, of: &KeyWrite) -> Result<()>
+    ensures ok { OnOk result (MakesWrite (job_of of.now) (P.store pages.old) (P.store pages.new)) }
+    ensures err { IfErr result (StopsWriting (job_of of.now) (P.store pages.old) (P.store pages.new)) }
+{
+    match call_of(of) {
+        Ok(flight) => write(pages, alloc, flight),
+        Err(e) => Err(e),
+    }
+}
+
+// Makes a write at the leaf that was read for it, or from the root. Where the write before it changed that leaf, it is read again.
 #[inline(always)]
-fn write_ready<P: Pages>(
+fn write_key<P: Pages>(
     pages: &mut P,
     alloc: Global,
-    flight: InFlight,
+    write: &KeyWrite,
     changed: Option<Pid>,
 ) -> Result<()>
-    requires ready { IsFresh flight ⊎ IsAtLeaf flight }
-    requires on_key { IsOnKey flight.job.call }
-    requires plain { needs_operator flight.job.call ≡ false }
-    ensures ok { OnOk result (MakesKnown flight (P.store pages.old) (P.store pages.new)) }
-    ensures err { IfErr result (StopsKnown flight (P.store pages.old) (P.store pages.new)) }
+    ensures ok { OnOk result (MakesKnown write.now (P.store pages.old) (P.store pages.new)) }
+    ensures err { IfErr result (StopsKnown write.now (P.store pages.old) (P.store pages.new)) }
 {
-    match &flight.stage {
-        Stage::Act(_) => write_at_leaf(pages, alloc, flight, changed),
-        _ => write(pages, alloc, flight),
+    let Some((pid, version)) = write.leaf else {
+        return write_from_root(pages, alloc, write);
+    };
+    if changed == Some(pid) {
+        return write_again(pages, alloc, write, pid);
+    }
+    match link_write(pages, write, pid, version) {
+        Ok(true) => Ok(()),
+        Ok(false) => write_again(pages, alloc, write, pid),
+        Err(e) => Err(e),
     }
 }
 
 /// Makes a group of writes: begins it, makes the writes, one after the other, and seals it. Where there is none it does nothing. A group
-/// that is refused after it began stays open, and a crash leaves nothing of it. A call that has read its leaf is made there, where no
-/// other write of the group changed the leaf before it.
+/// that is refused after it began stays open, and a crash leaves nothing of it. A write for which its leaf was read is made there, where
+/// no other write of the group changed the leaf before it.
 ///
 /// ```
-/// let mut flights = Vec::new(alloc);
-/// flights.push(sled_tree::InFlight::new(tree, call))?;
-/// write_group(&mut pages, alloc, flights)?; // A crash leaves all of the writes, or none.
+/// let mut writes = Vec::new(alloc);
+/// writes.push(KeyWrite { tree: &tree, key: &key, value: &None, leaf: None })?; // A removal.
+/// write_group(&mut pages, alloc, writes.as_slice())?; // A crash leaves all of the writes, or none.
 /// ```
-pub fn write_group<P: Pages>(pages: &mut P, alloc: Global, flights: Vec<InFlight>) -> Result<()>
+pub fn write_group<P: Pages>(pages: &mut P, alloc: Global, writes: &[KeyWrite]) -> Result<()>
     requires outside { (now (P.store pages.old)).in_group ≡ false }
-    requires ready { AreReady flights.items }
-    ensures ok { OnOk result (MakesGroup flights.items (P.store pages.old) (P.store pages.new)) }
-    ensures err { IfErr result (LeavesGroup flights.items (P.store pages.old) (P.store pages.new)) }
+    ensures ok { OnOk result (MakesGroup writes.now (P.store pages.old) (P.store pages.new)) }
+    ensures err { IfErr result (LeavesGroup writes.now (P.store pages.old) (P.store pages.new)) }
 {
-    if flights.is_empty() {
-        drop(flights);
+    if writes.is_empty() {
         return Ok(());
     }
     if let Err(e) = pages.begin_group() {
-        drop(flights);
         return Err(e);
     }
-    if let Err(e) = write_all(pages, alloc, flights) {
+    if let Err(e) = write_all(pages, alloc, writes) {
         return Err(e);
     }
     pages.seal_group()
 }
 
 // Makes writes, one after the other, in an open group.
-fn write_all<P: Pages>(pages: &mut P, alloc: Global, flights: Vec<InFlight>) -> Result<()>
-    requires ready { AreReady flights.items }
-    ensures ok { OnOk result (WritesAll flights.items (P.store pages.old) (P.store pages.new)) }
-    ensures err { IfErr result (StopsWritingAll flights.items (P.store pages.old) (P.store pages.new)) }
+fn write_all<P: Pages>(pages: &mut P, alloc: Global, writes: &[KeyWrite]) -> Result<()>
+    ensures ok { OnOk result (WritesAll writes.now (P.store pages.old) (P.store pages.new)) }
+    ensures err { IfErr result (StopsWritingAll writes.now (P.store pages.old) (P.store pages.new)) }
 {
     let mut changed = None;
-    for flight in flights {
-        let leaf = leaf_of(&flight);
-        if let Err(e) = write_ready(pages, alloc, flight, changed) {
+    for write in writes {
+        if let Err(e) = write_key(pages, alloc, write, changed) {
             return Err(e);
         }
-        changed = leaf;
+        changed = match write.leaf {
+            Some((pid, _)) => Some(pid),
+            None => None,
+        };
     }
     Ok(())
 }

@@ -6,7 +6,9 @@
 #![tactic(auto)]
 
 mod group;
+mod key_write;
 mod leaf;
 
 pub use group::{law_group, write, write_group};
+pub use key_write::KeyWrite;
 pub use leaf::is_settled;

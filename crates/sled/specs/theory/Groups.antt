@@ -22,13 +22,10 @@ use Rattle.sled_queues.specs.Values.{QueuesValue, queue_at}
 use Rattle.sled_queues.specs.Queues.{Becomes, committed}
 use Rattle.sled_queues.specs.Laws.{prepared_all}
 use Rattle.tree_laws.specs.Snapshot.{Snapshot}
-use Rattle.tree_laws.specs.declared.flight.Stage.TheVariants.{Act}
 use Rattle.tree_reads.specs.Walk.{IsLeafFor}
-use Rattle.tree_groups.specs.Groups.{IsSettled, AreReady, AreKnown, jobs_of, MakesGroup, LeavesGroup}
-use Rattle.sled_tree.specs.declared.flight.Aim.TheVariants.{Own}
-use Rattle.sled_tree.specs.declared.flight.InFlight.{InFlight}
+use Rattle.tree_groups.specs.declared.key_write.KeyWrite.{KeyWrite}
+use Rattle.tree_groups.specs.Groups.{IsSettled, AreKnown, jobs_of, MakesGroup, LeavesGroup}
 use Rattle.sled_tree.specs.declared.flight.Job.{Job}
-use Rattle.sled.specs.Direct.{begun_flight}
 
 -- ---- the writes that change something
 
@@ -42,21 +39,15 @@ abbrev pub jobs_of_writes : List Write → State → List Job
 jobs_of_writes [] s = []
 jobs_of_writes (w ∷ ws) s = jobs_of_write (s.trees w.tree.name) w ++ jobs_of_writes ws (after_write w s)
 
--- a call at the leaf that it has read, or without one as it begins
-abbrev pub flight_from : Tree → Call → Option View → InFlight
-flight_from tree call None = begun_flight tree call
-flight_from tree call (Some leaf) = record { job = record { tree = tree; call = call }; aim = Own; stage = Act leaf; turns = 1 }
-
--- calls that do these jobs are ready to be made, and what they know is true
-pub record Finds (m : Snapshot) (js : List Job) (flights : List InFlight) : Type 0 where
-  pub jobs : jobs_of flights ≡ js
-  pub ready : AreReady flights
-  pub known : AreKnown m flights
+-- writes do these jobs, and each leaf is that of its call
+pub record Finds (m : Snapshot) (js : List Job) (writes : List KeyWrite) : Type 0 where
+  pub jobs : jobs_of writes ≡ js
+  pub known : AreKnown m writes
 
 -- .. and stand behind others
-pub record FindsMore (m : Snapshot) (js : List Job) (first flights : List InFlight) : Type 0 where
-  pub more : List InFlight
-  pub is : flights ≡ first ++ more
+pub record FindsMore (m : Snapshot) (js : List Job) (first writes : List KeyWrite) : Type 0 where
+  pub more : List KeyWrite
+  pub is : writes ≡ first ++ more
   pub finds : Finds m js more
 
 -- the value that the key of a tree has, or none
@@ -79,12 +70,12 @@ pub record ReadsKey (s : Store) (root : ℕ) (key : Key) (value : Option Key) (l
   pub found : IsLeafFor (now s) root (Included key) 0 leaf looked
   pub is : stands ≡ same_value (value_at leaf.node.content key) value
 
--- a call begins at its leaf only where it changes the leaf and has nothing to repair there
-abbrev pub begins_as : View → Bool → Option View → Type 0
+-- a write is linked at its leaf only where it changes the leaf and nothing is to be repaired there
+abbrev pub begins_as : View → Bool → Option (ℕ × ℕ) → Type 0
 begins_as leaf stands None = Unit {0}
-begins_as leaf stands (Some at) = (at ≡ leaf) × (stands ≡ false) × IsSettled leaf.node
+begins_as leaf stands (Some at) = (leaf.pid ≡ at.0) × (leaf.version ≡ at.1) × (stands ≡ false) × IsSettled leaf.node
 
-pub record BeginsAt (leaf : View) (stands : Bool) (at : Option View) : Type 0 where
+pub record BeginsAt (leaf : View) (stands : Bool) (at : Option (ℕ × ℕ)) : Type 0 where
   pub is : begins_as leaf stands at
 
 -- a page could not be read
@@ -117,11 +108,11 @@ pub record StopsPreparing (e : Error) (old new : QueuesValue) : Type 0 where
 -- ---- and all of it
 
 -- the group is made, and its events come
-pub record MakesAll (fs : List InFlight) (a b : Store) (old new : QueuesValue) : Type 0 where
-  pub makes : MakesGroup fs a b
-  pub tells : Becomes (committed (prepared_all (events_of_jobs (jobs_of fs)) (queue_at old))) old.given new
+pub record MakesAll (ws : List KeyWrite) (a b : Store) (old new : QueuesValue) : Type 0 where
+  pub makes : MakesGroup ws a b
+  pub tells : Becomes (committed (prepared_all (events_of_jobs (jobs_of ws)) (queue_at old))) old.given new
 
 -- it is refused, and no event comes
-pub record StopsAll (fs : List InFlight) (a b : Store) (old new : QueuesValue) (e : Error) : Type 0 where
-  pub is : ((e ≡ NoMemory) × (b ≡ a)) ⊎ LeavesGroup fs a b e
+pub record StopsAll (ws : List KeyWrite) (a b : Store) (old new : QueuesValue) (e : Error) : Type 0 where
+  pub is : ((e ≡ NoMemory) × (b ≡ a)) ⊎ LeavesGroup ws a b e
   pub tells : Becomes (queue_at old) old.given new

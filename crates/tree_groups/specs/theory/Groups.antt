@@ -1,49 +1,49 @@
 -- The writes of a group, one after the other, in a group that is open.
-use Rattle.std.specs.Prelude.{◌≡◌, ℕ, Bool, List, Option, Some, None}
+use Rattle.std.specs.Prelude.{◌≡◌, ℕ, Bool, true, false, List, Option, Some, None, Result, Ok, Err}
 use Rattle.std.specs.declared.ops.Bound.TheVariants.{Included}
+use Rattle.sled_nodes.specs.Node.{after_link, value_at}
+use Rattle.sled_nodes.specs.Order.{Key}
 use Rattle.sled_nodes.specs.declared.error.Error.{Error}
 use Rattle.sled_nodes.specs.declared.link.Link.{Link}
-use Rattle.sled_nodes.specs.declared.node.Data.{Data}
+use Rattle.sled_nodes.specs.declared.link.Link.TheVariants.{Set, Del}
 use Rattle.sled_store.specs.State.{State}
-use Rattle.sled_store.specs.Store.{Store, view_of}
+use Rattle.sled_store.specs.Store.{Store, view_of, Changes, IsRefused}
 use Rattle.sled_store.specs.declared.page.View.{View}
-use Rattle.sled_model.specs.Answer.{key_of}
-use Rattle.sled_model.specs.Maps.{Merge}
-use Rattle.sled_model.specs.declared.call.Call.{Call}
+use Rattle.sled_model.specs.Answer.{same_value}
 use Rattle.tree_laws.specs.Forest.{Tree, Forest}
 use Rattle.tree_laws.specs.Snapshot.{Snapshot, snapshot_of, HasForest, LiesUnder}
-use Rattle.tree_laws.specs.declared.flight.Stage.TheVariants.{Root, Act}
-use Rattle.sled_tree.specs.Change.{link_of, decision_at, reply_at}
 use Rattle.sled_tree.specs.Known.{IsKnown}
-use Rattle.sled_tree.specs.declared.flight.Aim.TheVariants.{Own}
-use Rattle.sled_tree.specs.declared.flight.InFlight.{InFlight}
 use Rattle.sled_tree.specs.declared.flight.Job.{Job}
-use Rattle.tree_groups.specs.Groups.{IsSettled, jobs_of, AreNumbered, AreKnown, WrittenAll, KeepsForests}
+use Rattle.tree_groups.specs.declared.key_write.KeyWrite.{KeyWrite}
+use Rattle.tree_groups.specs.Groups.{IsSettled, job_of, jobs_of, at_leaf, IsLeafOf, AreNumbered, AreKnown, WrittenAll, KeepsForests}
 use Rattle.tree_groups.specs.Writes.{ActsOften, is_write_refused_as, WrittenAt, KeepsMapsAt}
 
--- The link is that of the call's effect at any leaf that the call changes, by whatever operator
-abbrev pub IsLinkOfWrite : Call → Option Link → Type 0
-IsLinkOfWrite call None = Unit {0}
-IsLinkOfWrite call (Some link) = (operator : Option Merge) (content : Data) → reply_at call content ≡ None → link_of (decision_at operator call content).effect (key_of call) ≡ Some link
+-- the link of a write
+abbrev pub link_with : Key → Option Key → Link
+link_with key None = Del key
+link_with key (Some value) = Set key value
 
--- a call may change a leaf where it is
-pub record MayChange (call : Call) (v : View) : Type 0 where
+-- A link was made at this version of a page, or the page had another, or the store refused
+abbrev pub links_as : Link → ℕ → ℕ → Store → Result Bool Error → Store → Type 0
+links_as link pid version old (Ok true) new = (given : ℕ) × Changes (after_link link) pid version old new (Ok given)
+links_as link pid version old (Ok false) new = (present : Option ℕ) × Changes (after_link link) pid version old new (Err present)
+links_as link pid version old (Err e) new = IsRefused e old new
+
+pub record LinksWrite (w : KeyWrite) (pid version : ℕ) (old : Store) (done : Result Bool Error) (new : Store) : Type 0 where
+  pub is : links_as (link_with w.key.now w.value.now) pid version old done new
+
+-- a write may change a leaf where it is
+pub record MayChange (w : KeyWrite) (v : View) : Type 0 where
   pub settled : IsSettled v.node
-  pub under : LiesUnder (Included (key_of call)) v.node
-  pub changes : reply_at call v.node.content ≡ None
+  pub under : LiesUnder (Included w.key.now) v.node
+  pub changes : same_value (value_at v.node.content w.key.now) w.value.now ≡ false
 
--- .. as it is read now
-pub record IsLeafAgain (s : State) (call : Call) (pid : ℕ) (v : View) : Type 0 where
-  pub read : Some v ≡ view_of pid (s.pages pid)
-  pub may : MayChange call v
-
--- a call that began again
-abbrev pub IsBegunAgain : InFlight → Type 0
-IsBegunAgain f = f ≡ record { job = f.job; aim = Own; stage = Root; turns = f.turns }
-
--- a call at a leaf that it has read
-abbrev pub at_leaf : Job → View → InFlight
-at_leaf j v = record { job = j; aim = Own; stage = Act v; turns = 1 }
+-- .. as it is read now, at this version
+pub record IsReadAgain (s : State) (w : KeyWrite) (pid version : ℕ) : Type 0 where
+  pub view : View
+  pub read : Some view ≡ view_of pid (s.pages pid)
+  pub is : view.version ≡ version
+  pub may : MayChange w view
 
 -- what a call knew of a leaf of this number when it read it
 abbrev pub KnowsLeaf : Snapshot → Job → ℕ → Type 0
@@ -63,30 +63,30 @@ pub record StopsAgain (j : Job) (pid : ℕ) (old new : Store) (e : Error) : Type
   pub told : (numbers : Tree → Option ℕ) (given : ℕ → Bool) (w : Forest) → HasForest (snapshot_of old numbers given) w → numbers j.tree.name ≡ Some j.tree.number → KnowsLeaf (snapshot_of old numbers given) j pid
       → KeepsMapsAt (snapshot_of old numbers given) w (snapshot_of new numbers given)
 
--- One write is made, at every forest where the call's tree has its number and what the call knows is true
-pub record MakesKnown (f : InFlight) (old new : Store) : Type 0 where
+-- One write is made, at every forest where its tree has its number and its leaf is that of its call
+pub record MakesKnown (k : KeyWrite) (old new : Store) : Type 0 where
   pub acts : ActsOften old new
-  pub told : (numbers : Tree → Option ℕ) (given : ℕ → Bool) (w : Forest) → HasForest (snapshot_of old numbers given) w → numbers f.job.tree.name ≡ Some f.job.tree.number → IsKnown (snapshot_of old numbers given) f
-      → WrittenAt f.job (snapshot_of old numbers given) w (snapshot_of new numbers given)
+  pub told : (numbers : Tree → Option ℕ) (given : ℕ → Bool) (w : Forest) → HasForest (snapshot_of old numbers given) w → numbers k.tree.now.name ≡ Some k.tree.now.number → IsLeafOf (snapshot_of old numbers given) (job_of k) k.leaf
+      → WrittenAt (job_of k) (snapshot_of old numbers given) w (snapshot_of new numbers given)
 
 -- .. or it is refused, after which nothing more is done, and has written nothing
-pub record StopsKnown (f : InFlight) (old new : Store) (e : Error) : Type 0 where
+pub record StopsKnown (k : KeyWrite) (old new : Store) (e : Error) : Type 0 where
   pub last : Store
   pub acts : ActsOften old last
   pub refused : is_write_refused_as e last new
-  pub told : (numbers : Tree → Option ℕ) (given : ℕ → Bool) (w : Forest) → HasForest (snapshot_of old numbers given) w → numbers f.job.tree.name ≡ Some f.job.tree.number → IsKnown (snapshot_of old numbers given) f
+  pub told : (numbers : Tree → Option ℕ) (given : ℕ → Bool) (w : Forest) → HasForest (snapshot_of old numbers given) w → numbers k.tree.now.name ≡ Some k.tree.now.number → IsLeafOf (snapshot_of old numbers given) (job_of k) k.leaf
       → KeepsMapsAt (snapshot_of old numbers given) w (snapshot_of new numbers given)
 
 -- The writes are made
-pub record WritesAll (fs : List InFlight) (old new : Store) : Type 0 where
+pub record WritesAll (ws : List KeyWrite) (old new : Store) : Type 0 where
   pub acts : ActsOften old new
-  pub told : (numbers : Tree → Option ℕ) (given : ℕ → Bool) (w : Forest) → HasForest (snapshot_of old numbers given) w → AreNumbered numbers (jobs_of fs) → AreKnown (snapshot_of old numbers given) fs
-      → WrittenAll (jobs_of fs) (snapshot_of old numbers given) w (snapshot_of new numbers given)
+  pub told : (numbers : Tree → Option ℕ) (given : ℕ → Bool) (w : Forest) → HasForest (snapshot_of old numbers given) w → AreNumbered numbers (jobs_of ws) → AreKnown (snapshot_of old numbers given) ws
+      → WrittenAll (jobs_of ws) (snapshot_of old numbers given) w (snapshot_of new numbers given)
 
 -- .. or one of them is refused, after which nothing more is done
-pub record StopsWritingAll (fs : List InFlight) (old new : Store) (e : Error) : Type 0 where
+pub record StopsWritingAll (ws : List KeyWrite) (old new : Store) (e : Error) : Type 0 where
   pub last : Store
   pub acts : ActsOften old last
   pub refused : is_write_refused_as e last new
-  pub told : (numbers : Tree → Option ℕ) (given : ℕ → Bool) (w : Forest) → HasForest (snapshot_of old numbers given) w → AreNumbered numbers (jobs_of fs) → AreKnown (snapshot_of old numbers given) fs
+  pub told : (numbers : Tree → Option ℕ) (given : ℕ → Bool) (w : Forest) → HasForest (snapshot_of old numbers given) w → AreNumbered numbers (jobs_of ws) → AreKnown (snapshot_of old numbers given) ws
       → KeepsForests (snapshot_of old numbers given) w (snapshot_of new numbers given)

@@ -14,7 +14,7 @@ loop-key-init g c = (added_first _ _ _ _ _ _ (search rules), λ v i. absurd (sub
 
 pub loop-key-preserved : goal.loop-key-preserved
 loop-key-preserved g c = (
-  added_on (snapshot_of_db g.P.Pages.store c.args.self.now) c.args.tree.now c.args.batch.now _ c.args.flights.now.items c.loop-key.flights.items c.loop-key.key-iterator c.in-Some.key.now c.in-Some.value.now c.next.new.self c.add_change.new.flights.items
+  added_on (snapshot_of_db g.P.Pages.store c.args.self.now) c.args.tree.now c.args.batch.now _ c.args.writes.now.items c.loop-key.writes.items c.loop-key.key-iterator c.in-Some.key.now c.in-Some.value.now c.next.new.self c.add_change.new.writes.items
       c.writes.ensures.rise (there_after (db_state g.P.Pages.store g.M.MergeOperator.meant c.args.self.now) c.args.before.now c.args.tree.now c.requires.tested) c.loop-key.invariant.0 (search rules) c.in_default.ensures.ok,
   c.in_default.ensures.way,
 )

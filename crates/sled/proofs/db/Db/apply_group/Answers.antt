@@ -7,17 +7,14 @@ returns-in-Err-clause-err g c = group_untested g.P.Pages.store g.M.MergeOperator
 pub returns-in-Err-changes-clause-err : goal.returns-in-Err-changes-clause-err
 returns-in-Err-changes-clause-err g c = group_unread g.P.Pages.store g.M.MergeOperator.meant c.args.self.now c.args.batches.now c.in_default.ensures.ok c.in-Err-changes.e c.in-Err-changes.ensures.err
 
-pub make_group-requires-clause-ready : goal.make_group-requires-clause-ready
-make_group-requires-clause-ready g c κs within = c.in-Ok.ensures.ok.ready
-
 pub invariant_of-self : goal.invariant_of-self
-invariant_of-self g c = group_db g.P.Pages.store g.M.MergeOperator.meant _ c.args.self.now c.self.view_is c.self.invariant c.args.batches.now c.in_default.ensures.ok c.in-Ok.flights.items c.in-Ok.ensures.ok c.make_group.new.pages c.make_group.new.queues c.make_group.result c.make_group.ensures.ok c.make_group.ensures.err
+invariant_of-self g c = group_db g.P.Pages.store g.M.MergeOperator.meant _ c.args.self.now c.self.view_is c.self.invariant c.args.batches.now c.in_default.ensures.ok c.in-Ok.writes.items c.in-Ok.ensures.ok c.make_group-made.new.pages c.make_group-made.new.queues c.make_group-made.result (rw c.as_slice.ensures.value at c.make_group-made.ensures.ok) (rw c.as_slice.ensures.value at c.make_group-made.ensures.err)
 
 pub returns-clause-ok : goal.returns-clause-ok
-returns-clause-ok g c = group_ok g.P.Pages.store g.M.MergeOperator.meant _ c.args.self.now c.self.view_is c.self.invariant c.args.batches.now c.in_default.ensures.ok c.in-Ok.flights.items c.in-Ok.ensures.ok c.make_group.new.pages c.make_group.new.queues c.make_group.result c.make_group.ensures.ok
+returns-clause-ok g c = group_ok g.P.Pages.store g.M.MergeOperator.meant _ c.args.self.now c.self.view_is c.self.invariant c.args.batches.now c.in_default.ensures.ok c.in-Ok.writes.items c.in-Ok.ensures.ok c.make_group-made.new.pages c.make_group-made.new.queues c.make_group-made.result (rw c.as_slice.ensures.value at c.make_group-made.ensures.ok)
 
 pub returns-clause-err : goal.returns-clause-err
-returns-clause-err g c = group_err g.P.Pages.store g.M.MergeOperator.meant _ c.args.self.now c.self.view_is c.self.invariant c.args.batches.now c.in_default.ensures.ok c.in-Ok.flights.items c.in-Ok.ensures.ok c.make_group.new.pages c.make_group.new.queues c.make_group.result c.make_group.ensures.err
+returns-clause-err g c = group_err g.P.Pages.store g.M.MergeOperator.meant _ c.args.self.now c.self.view_is c.self.invariant c.args.batches.now c.in_default.ensures.ok c.in-Ok.writes.items c.in-Ok.ensures.ok c.make_group-made.new.pages c.make_group-made.new.queues c.make_group-made.result (rw c.as_slice.ensures.value at c.make_group-made.ensures.err)
 
 pub returns-clause-quiet : goal.returns-clause-quiet
-returns-clause-quiet g c = group_quiet g.P.Pages.store g.M.MergeOperator.meant _ c.args.self.now c.self.view_is c.self.invariant c.args.batches.now c.in_default.ensures.ok c.in-Ok.flights.items c.in-Ok.ensures.ok c.make_group.new.pages c.make_group.new.queues c.make_group.result c.make_group.ensures.ok c.make_group.ensures.err
+returns-clause-quiet g c = group_quiet g.P.Pages.store g.M.MergeOperator.meant _ c.args.self.now c.self.view_is c.self.invariant c.args.batches.now c.in_default.ensures.ok c.in-Ok.writes.items c.in-Ok.ensures.ok c.make_group-made.new.pages c.make_group-made.new.queues c.make_group-made.result (rw c.as_slice.ensures.value at c.make_group-made.ensures.ok) (rw c.as_slice.ensures.value at c.make_group-made.ensures.err)
