@@ -33,7 +33,6 @@ fn goes_on(went: &Went) -> bool
 }
 
 /// A database: named trees over a store of pages.
-#[derive(Drop)]
 pub struct Db<P: Pages, M = Box<dyn MergeOperator + Send>> {
     pub(crate) alloc: Global,
     pub(crate) pages: P,
@@ -45,6 +44,27 @@ pub struct Db<P: Pages, M = Box<dyn MergeOperator + Send>> {
     pub(crate) queues: Queues,
     pub(crate) trees_given: u64,
     pub(crate) greatest_id: u64,
+}
+
+// By hand, so that whoever lets go of a database cites this, and need not prove again how each of its parts goes.
+impl<P: Pages, M: Drop> Drop for Db<P, M> {
+    fn drop(self) {
+        let Db {
+            alloc: _,
+            pages,
+            name,
+            trees,
+            operators,
+            queues,
+            trees_given: _,
+            greatest_id: _,
+        } = self;
+        drop(pages);
+        drop(name);
+        drop(trees);
+        drop(operators);
+        drop(queues);
+    }
 }
 
 impl<P: Pages, M> Model for Db<P, M> {
@@ -67,6 +87,7 @@ impl<P: Pages, M: MergeOperator> Db<P, M> {
     ghost use Rattle.sled.specs.Flights.{DbStep, DbSound, DbActs, DbFollows, DbPasses, DbLeaksNoPage, DbKnows, KeepsTreePages, DbStepContract, DbRunsToEnd, call_in_flight_of};
     ghost use Rattle.sled.specs.theory.Walking.{DbWalksDown};
     ghost use Rattle.sled.specs.Flush.{FlushesDb, RefusesFlush};
+    ghost use Rattle.sled.specs.Operators.{without_operators};
     ghost use Rattle.sled_queues.specs.Queues.{AreQueues};
 
     /// What holds of every database: its pages are well formed now and in every state that a crash may leave, its trees are
@@ -116,8 +137,52 @@ impl<P: Pages, M: MergeOperator> Db<P, M> {
         ensures well { IsValid (now (P.store result)) }
         ensures safe { IsCrashConsistent (P.store result) }
     {
-        let Db { pages, .. } = self;
+        let Db {
+            alloc: _,
+            pages,
+            name,
+            trees,
+            operators,
+            queues,
+            trees_given: _,
+            greatest_id: _,
+        } = self;
+        drop(name);
+        drop(trees);
+        drop(operators);
+        drop(queues);
         pages
+    }
+
+    /// The same database for merge operators of another type. Those that it has are let go.
+    ///
+    /// ```
+    /// let mut db: Db<MemPages, Adds> = db.with_operators();
+    /// ```
+    pub fn with_operators<N: MergeOperator>(self) -> Db<P, N>
+        ensures { result ≡ without_operators self }
+    {
+        let Db {
+            alloc,
+            pages,
+            name,
+            trees,
+            operators,
+            queues,
+            trees_given,
+            greatest_id,
+        } = self;
+        drop(operators);
+        Db {
+            alloc,
+            pages,
+            name,
+            trees,
+            operators: Vec::new(alloc),
+            queues,
+            trees_given,
+            greatest_id,
+        }
     }
 
     /// Whether the store was made from what an earlier one left.

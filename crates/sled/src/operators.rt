@@ -52,38 +52,7 @@ fn set_operator<M: Drop>(operators: &mut Vec<(u64, M)>, number: u64, operator: M
 }
 
 impl<P: Pages, M: MergeOperator> Db<P, M> {
-    ghost use Rattle.sled.specs.Operators.{OperatorSet, OperatorNotSet, without_operators};
-
-    /// The same database for merge operators of another type. Those that it has are let go.
-    ///
-    /// ```
-    /// let mut db: Db<MemPages, Adds> = db.with_operators();
-    /// ```
-    pub fn with_operators<N: MergeOperator>(self) -> Db<P, N>
-        ensures { result ≡ without_operators self }
-    {
-        let Db {
-            alloc,
-            pages,
-            name,
-            trees,
-            operators,
-            queues,
-            trees_given,
-            greatest_id,
-        } = self;
-        drop(operators);
-        Db {
-            alloc,
-            pages,
-            name,
-            trees,
-            operators: Vec::new(alloc),
-            queues,
-            trees_given,
-            greatest_id,
-        }
-    }
+    ghost use Rattle.sled.specs.Operators.{OperatorSet, OperatorNotSet};
 
     /// Gives a tree a merge operator, in place of the one that it has. A merge is decided by the operator that its tree has at the
     /// step that decides it. A call that is refused lets the operator go.

@@ -24,12 +24,24 @@ use std::collections::BTreeMap;
 use std::marker::Model;
 
 /// A database and the calls in flight on it.
-#[derive(Drop)]
 pub struct Machine<P: Pages, M = Box<dyn MergeOperator + Send>> {
     pub(crate) db: Db<P, M>,
     // the calls in flight, by slot
     pub(crate) flights: BTreeMap<u64, InFlight>,
     slots_given: u64,
+}
+
+// By hand, so that whoever lets go of a machine cites this, and need not prove again how each of its parts goes.
+impl<P: Pages, M: Drop> Drop for Machine<P, M> {
+    fn drop(self) {
+        let Machine {
+            db,
+            flights,
+            slots_given: _,
+        } = self;
+        drop(db);
+        drop(flights);
+    }
 }
 
 impl<P: Pages, M> Model for Machine<P, M> {
@@ -96,7 +108,12 @@ impl<P: Pages, M: MergeOperator> Machine<P, M> {
     pub fn into_db(self) -> Db<P, M>
         ensures { result ≡ self.db }
     {
-        let Machine { db, .. } = self;
+        let Machine {
+            db,
+            flights,
+            slots_given: _,
+        } = self;
+        drop(flights);
         db
     }
 

@@ -52,12 +52,25 @@ pub enum Act {
 }
 
 /// A machine, the current tree, and the slots that the lines began.
-#[derive(Drop)]
 pub struct Session<P: Pages = MemPages, M = Box<dyn MergeOperator + Send>> {
     machine: Machine<P, M>,
     tree: Tree,
     // The slot that each `begin` took, in order, and what the value in its reply is.
     slots: Vec<(Slot, Shown)>,
+}
+
+// By hand, so that whoever lets go of a session cites this, and need not prove again how each of its parts goes.
+impl<P: Pages, M: Drop> Drop for Session<P, M> {
+    fn drop(self) {
+        let Session {
+            machine,
+            tree,
+            slots,
+        } = self;
+        drop(machine);
+        drop(tree);
+        drop(slots);
+    }
 }
 
 impl<P: Pages, M: MergeOperator> Session<P, M> {

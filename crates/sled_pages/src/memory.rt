@@ -31,7 +31,6 @@ use std::alloc::Global;
 use undo::Undo;
 
 /// A store in memory.
-#[derive(Drop)]
 pub struct MemPages {
     alloc: Global,
     slots: Slots,
@@ -49,6 +48,32 @@ pub struct MemPages {
     ghost kept: { IsKept (places_of slots) (record { slots = slots_of slots; roots = roots_of roots.items; in_group = in_group }) log.items },
     ghost ascends: { is_sorted key_cmp roots.items ≡ true },
     ghost below: { AreBelow next_version (slots_of slots) log.items },
+}
+
+// By hand, so that whoever lets go of a store cites this, and need not prove again how each of its parts goes.
+impl Drop for MemPages {
+    fn drop(self) {
+        let MemPages {
+            alloc: _,
+            slots,
+            roots,
+            in_group: _,
+            log,
+            actions: _,
+            next_version: _,
+            calls: _,
+            refused,
+            faults: _,
+            unreadable,
+            mark: _,
+            recovered: _,
+        } = self;
+        drop(slots);
+        drop(roots);
+        drop(log);
+        drop(refused);
+        drop(unreadable);
+    }
 }
 
 // The codes of this store's faults: a call that was named, a page that was named, numbers that are used up.
@@ -176,9 +201,15 @@ impl MemPages {
             mut log,
             actions,
             next_version,
+            calls: _,
+            refused,
+            faults: _,
+            unreadable,
             mark,
-            ..
+            recovered: _,
         } = self;
+        drop(refused);
+        drop(unreadable);
         take_all_back(alloc, &mut slots, &mut roots, &mut in_group, &mut log, keep)?;
         settle(alloc, &mut slots, &mut log);
         Ok(MemPages {
