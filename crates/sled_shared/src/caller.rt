@@ -5,7 +5,6 @@ use std::sync::ledger::{Ledger, Share};
 
 /// A caller: its number, what it made, and its share of the ledger, which counts that. The list grows only with the history, whose
 /// length is the ledger's total.
-#[derive(Drop)]
 pub struct Caller<L: Ledger> {
     pub(crate) number: u64,
     pub(crate) made: Vec<Made>,
@@ -41,5 +40,18 @@ impl<L: Ledger> Caller<L> {
             made,
             share,
         }
+    }
+}
+
+// By hand, as a state's.
+impl<L: Ledger> Drop for Caller<L> {
+    fn drop(self) {
+        let Caller {
+            number: _,
+            made,
+            share,
+        } = self;
+        drop(made);
+        drop(share);
     }
 }

@@ -24,7 +24,6 @@ use std::sync::{Arc, Mutex, Wait};
 
 /// A database that several callers share: a machine under a lock, with the history of what they made. `L` marks the ledger that counts
 /// their calls, a part for each caller and one that stays here.
-#[derive(Drop)]
 pub struct Db<P: Pages, L: Ledger, M = Box<dyn MergeOperator + Send>> {
     pub(crate) lock: Arc<Mutex<Option<State<P, L, M>>>>,
     pub(crate) callers: u64,
@@ -203,4 +202,20 @@ fn fill<P: Pages, L: Ledger, M: MergeOperator>(
     let old = std::mem::replace(&mut *guard, Some(state));
     drop(old);
     drop(guard);
+}
+
+// By hand, as a state's.
+impl<P: Pages, L: Ledger, M: Drop> Drop for Db<P, L, M> {
+    fn drop(self) {
+        let Db {
+            lock,
+            callers: _,
+            given: _,
+            rest,
+            opening,
+        } = self;
+        drop(lock);
+        drop(rest);
+        drop(opening);
+    }
 }

@@ -33,7 +33,6 @@ impl Gate for NoGate {
 }
 
 /// A caller's way to a database that is shared. It goes to a thread by value, and comes back to `gather`.
-#[derive(Drop)]
 pub struct Handle<P: Pages, L: Ledger, M = Box<dyn MergeOperator + Send>> {
     lock: Arc<Mutex<Option<State<P, L, M>>>>,
     me: Caller<L>,
@@ -320,5 +319,14 @@ impl<P: Pages, L: Ledger, M: MergeOperator> Handle<P, L, M> {
             Ok(call) => self.call(rt, tree, call, &NoGate),
             Err(e) => Outcome::Refused(e),
         }
+    }
+}
+
+// By hand, as a state's.
+impl<P: Pages, L: Ledger, M: Drop> Drop for Handle<P, L, M> {
+    fn drop(self) {
+        let Handle { lock, me } = self;
+        drop(lock);
+        drop(me);
     }
 }

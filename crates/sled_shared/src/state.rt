@@ -9,7 +9,6 @@ use std::sync::ledger::{Book, Ledger};
 
 /// A machine, the collections that its database had when it was shared, and what callers made since, in order. As long as the database is open the
 /// history is legal, which `audit` tells.
-#[derive(Drop)]
 pub struct State<P: Pages, L: Ledger, M = Box<dyn MergeOperator + Send>> {
     pub(crate) machine: Machine<P, M>,
     // shared with the database, which compares at the end
@@ -31,4 +30,44 @@ impl<P: Pages, L: Ledger, M> Model for State<P, L, M> {
     ghost view = { λ s. record { machine = s.machine; opening = contents_of s.opening.value.items; history = entry_values s.history.items } };
 
     ghost invariant = { λ s. IsState P.store s.machine (contents_of s.opening.value.items) (entry_values s.history.items) s.calls.total };
+}
+
+impl<P: Pages, L: Ledger, M: MergeOperator> State<P, L, M> {
+    ghost use Rattle.std.specs.Prelude.{◌≡◌};
+
+    /// The machine. The history is let go.
+    ///
+    /// ```
+    /// let db = state.into_machine().into_db();
+    /// ```
+    pub fn into_machine(self) -> Machine<P, M>
+        ensures { result ≡ self.machine }
+    {
+        let Self {
+            machine,
+            opening,
+            history,
+            calls,
+        } = self;
+        drop(opening);
+        drop(history);
+        drop(calls);
+        machine
+    }
+}
+
+// By hand, so that whoever lets go of a state cites this, and need not prove again how each of its parts goes.
+impl<P: Pages, L: Ledger, M: Drop> Drop for State<P, L, M> {
+    fn drop(self) {
+        let State {
+            machine,
+            opening,
+            history,
+            calls,
+        } = self;
+        drop(machine);
+        drop(opening);
+        drop(history);
+        drop(calls);
+    }
 }

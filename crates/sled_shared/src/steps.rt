@@ -205,24 +205,4 @@ impl<P: Pages, L: Ledger, M: MergeOperator> State<P, L, M> {
     {
         let _history = &self.history;
     }
-
-    /// The machine. The history is let go.
-    ///
-    /// ```
-    /// let db = state.into_machine().into_db();
-    /// ```
-    pub fn into_machine(self) -> Machine<P, M>
-        ensures { result ≡ self.machine }
-    {
-        let State {
-            machine,
-            opening,
-            history,
-            calls,
-        } = self;
-        drop(opening);
-        drop(history);
-        drop(calls);
-        machine
-    }
 }
