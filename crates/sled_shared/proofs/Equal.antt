@@ -1,5 +1,5 @@
--- What a test of equality that says yes tells of lists, pairs, collections and whole calls.
-use Rattle.std.proofs.Common.{◌≡◌, ◌∙◌, ℕ, Bool, true, ◌&&◌, nat_eq, eqb-true, List, [], ◌∷◌, map, Option, Some, None, refl, ap}
+-- What a test of equality that says yes tells of lists, pairs, collections, calls and what was made.
+use Rattle.std.proofs.Common.{rules, ◌≡◌, ◌∙◌, ℕ, Bool, true, ◌&&◌, nat_eq, eqb-true, List, [], ◌∷◌, map, Option, Some, None, refl, ap}
 use Rattle.std.specs.Cmp.Lexicographic.{pointwise}
 use Rattle.std.specs.Global.{Vec}
 use Rattle.std.specs.Option.{option_eq}
@@ -8,11 +8,18 @@ use Rattle.sled_nodes.proofs.Basics.{false_true, both_true}
 use Rattle.sled_nodes.specs.Order.{Key}
 use Rattle.sled_store.specs.theory.Facts.{same_name}
 use Rattle.sled_model.specs.Collections.{content_of, contents_of}
+use Rattle.sled_model.specs.declared.call.Call.{Call}
 use Rattle.sled_model.specs.declared.call.Whole.{Whole}
 use Rattle.sled_model.specs.declared.call.Whole.TheVariants.{Flush, PopMin, PopMax, Clear, Group, OpenTree, DropTree, GenerateId, Import, Watch, Next, Unsubscribe}
+use Rattle.sled_model.specs.declared.reply.Reply.{Reply}
+use Rattle.sled_model.specs.contracts.call.CallPartialEq.TheImpl as call
 use Rattle.sled_model.specs.contracts.call.WholePartialEq.TheImpl as whole
+use Rattle.sled_model.specs.contracts.reply.ReplyPartialEq.TheImpl as reply
 use Rattle.sled_model.specs.contracts.tree.TreePartialEq.TheImpl as tree
-use Rattle.sled_shared.specs.Made.{whole_value}
+use Rattle.sled_shared.specs.Made.{PointMade, WholeMade, PartsMade, made_value, whole_value}
+use Rattle.sled_shared.specs.contracts.entry.MadePartialEq.TheImpl as made
+use Rattle.sled_shared.specs.declared.entry.Made.{Made}
+use Rattle.sled_shared.specs.declared.entry.Made.TheVariants.{Point, Whole as Wholly, Parts}
 use Rattle.sled_shared.specs.Wholes as value
 
 abbrev Sound : {X : Type 0} → (X → X → Bool) → Type 0
@@ -71,7 +78,7 @@ trees_same t u e =
     let b = both_true (bytes_eq t.name u.name) (nat_eq t.number u.number) a.1 in
     λ i. record { database = same_name t.database u.database a.0 i; name = same_name t.name u.name b.0 i; number = eqb-true t.number u.number b.1 i }
 
-pub wholes_same : (a b : Whole) → whole.ghosts.eq a b ≡ true → whole_value a ≡ whole_value b
+wholes_same : (a b : Whole) → whole.ghosts.eq a b ≡ true → whole_value a ≡ whole_value b
 wholes_same Flush Flush e = refl
 wholes_same (PopMin t) (PopMin u) e = ap value.PopMin (trees_same t u e)
 wholes_same (PopMax t) (PopMax u) e = ap value.PopMax (trees_same t u e)
@@ -85,3 +92,18 @@ wholes_same (Watch t p) (Watch u q) e = let both = both_true (tree.ghosts.eq t u
 wholes_same (Next n) (Next m) e = ap value.Next (eqb-true n m e)
 wholes_same (Unsubscribe n) (Unsubscribe m) e = ap value.Unsubscribe (eqb-true n m e)
 wholes_same a b e = false_true e
+
+calls_same : (a b : Call) → call.ghosts.eq a b ≡ true → a ≡ b
+calls_same a b e = search rules
+
+replies_same : (a b : Reply) → reply.ghosts.eq a b ≡ true → a ≡ b
+replies_same a b e = search rules
+
+pub mades_same : (a b : Made) → made.ghosts.eq a b ≡ true → made_value a ≡ made_value b
+mades_same (Point t c r) (Point u d s) e =
+    let both = both_true (tree.ghosts.eq t u) (call.ghosts.eq c d && reply.ghosts.eq r s) e in
+    let more = both_true (call.ghosts.eq c d) (reply.ghosts.eq r s) both.1 in
+    ap (λ z. PointMade z c r) (trees_same t u both.0) ∙ ap (λ z. PointMade u z r) (calls_same c d more.0) ∙ ap (λ z. PointMade u d z) (replies_same r s more.1)
+mades_same (Wholly w r) (Wholly x s) e = let both = both_true (whole.ghosts.eq w x) (reply.ghosts.eq r s) e in ap (λ z. WholeMade z r) (wholes_same w x both.0) ∙ ap (λ z. WholeMade (whole_value x) z) (replies_same r s both.1)
+mades_same (Parts w n) (Parts x m) e = let both = both_true (whole.ghosts.eq w x) (nat_eq n m) e in ap (λ z. PartsMade z n) (wholes_same w x both.0) ∙ ap (λ z. PartsMade (whole_value x) z) (eqb-true n m both.1)
+mades_same a b e = false_true e

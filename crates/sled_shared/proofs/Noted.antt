@@ -1,12 +1,13 @@
 -- What steps note, told by their outcomes alone.
-use Rattle.std.proofs.Common.{◌≡◌, ◌≢◌, ◌∙◌, ℕ, Bool, true, false, cond, List, [], ◌∷◌, ◌++◌, append-nil, Option, Some, None, Ok, Err, sym, refl, ap, subst}
+use Rattle.std.proofs.Common.{◌≡◌, ◌≢◌, ◌∙◌, ℕ, Bool, true, false, cond, List, [], ◌∷◌, ◌++◌, append-nil, Option, Some, None, Result, Ok, Err, IfOk, sym, refl, ap, subst}
 use Rattle.sled_nodes.proofs.Basics.{none_some}
 use Rattle.sled_nodes.specs.Order.{Key}
+use Rattle.sled_nodes.specs.declared.error.Error.{Error}
 use Rattle.sled_nodes.specs.Ranges.{Range}
 use Rattle.sled_store.specs.Store.{Store}
 use Rattle.sled_model.specs.Maps.{Maps, Merge}
 use Rattle.sled_model.specs.Answer.{decision_of, effect_of_write, same_value}
-use Rattle.sled_model.specs.State.{State, range_of}
+use Rattle.sled_model.specs.State.{State, IsOnKey, range_of}
 use Rattle.sled_model.specs.Transition.{transition_as, Decide}
 use Rattle.sled_model.specs.declared.call.Call.{Call}
 use Rattle.sled_model.specs.declared.call.Call.TheVariants.{Get, Insert, Remove, CompareAndSwap, Merge as Merges, Scan}
@@ -84,3 +85,8 @@ step_adds store number meant a b slot o made more s e = go o _ s.step.step.is e
     go outcome.NoSuchSlot maps t e = e ∙ append-nil made
     go outcome.Abandoned maps t e = e ∙ append-nil made
     go (outcome.Begun i) maps t e = e ∙ append-nil made
+
+-- where there was memory to make a call on a key it is one
+pub on_key_made : (made : Result Call Error) (call : Call) → IfOk made (λ it. it ≡ call) → IsOnKey call → IfOk made IsOnKey
+on_key_made (Ok it) call e k = subst IsOnKey (sym e) k
+on_key_made (Err x) call e k = tt

@@ -1,66 +1,30 @@
 //! Lists of callers against the history.
 ghost use Rattle.std.specs.Prelude.{◌≡◌, ◌≤◌, ◌++◌, ◌∷◌, [], true, All, IfSome, take, length};
+ghost use Rattle.sled_model.specs.Collections.{contents_of};
 ghost use Rattle.sled_shared.specs.History.{made_by};
-ghost use Rattle.sled_shared.specs.Made.{PointMade, WholeMade, PartsMade, entry_value, entry_values, made_value, made_values, whole_value};
+ghost use Rattle.sled_shared.specs.Made.{entry_value, entry_values, made_value, made_values};
 ghost use Rattle.sled_shared.specs.Gathered.{IsGiven, IsMadeIn, EachOnce, times};
 
 use crate::entry::{Entry, Made};
 use crate::handle::Handle;
-use crate::same_whole::{is_same_tree, is_same_whole};
-use sled_model::{Call, Reply, Tree, Whole};
+use sled_model::Collection;
 use sled_store::Pages;
 use std::sync::ledger::Ledger;
 
-fn is_same_call(a: &Call, b: &Call) -> bool
-    ensures { result ≡ true → a.now ≡ b.now }
+// Whether both hold the same, collection by collection.
+#[tactic(auto, using(crate::proofs::Equal::collections_same))]
+pub(crate) fn are_same_collections(a: &[Collection], b: &[Collection]) -> bool
+    ensures { result ≡ true → contents_of a.now ≡ contents_of b.now }
 {
     a == b
 }
 
-fn is_same_reply(a: &Reply, b: &Reply) -> bool
-    ensures { result ≡ true → a.now ≡ b.now }
-{
-    a == b
-}
-
-// Whether the same was made, with the same reply or as many parts.
+// Whether the same was made, with the same reply or as many parts: a group is the same with the same batches, and an import with the same
+// collections, wherever their vectors lie.
 fn is_same(a: &Made, b: &Made) -> bool
     ensures { result ≡ true → made_value a.now ≡ made_value b.now }
 {
-    match a {
-        Made::Point(tree, call, reply) => is_point(tree, call, reply, b),
-        Made::Whole(whole, reply) => is_whole(whole, reply, b),
-        Made::Parts(whole, number) => is_parts(whole, *number, b),
-    }
-}
-
-fn is_point(tree: &Tree, call: &Call, reply: &Reply, b: &Made) -> bool
-    ensures { result ≡ true → PointMade tree.now call.now reply.now ≡ made_value b.now }
-{
-    let Made::Point(tree_there, call_there, reply_there) = b else {
-        return false;
-    };
-    is_same_tree(tree, tree_there)
-        && is_same_call(call, call_there)
-        && is_same_reply(reply, reply_there)
-}
-
-fn is_whole(whole: &Whole, reply: &Reply, b: &Made) -> bool
-    ensures { result ≡ true → WholeMade (whole_value whole.now) reply.now ≡ made_value b.now }
-{
-    let Made::Whole(whole_there, reply_there) = b else {
-        return false;
-    };
-    is_same_whole(whole, whole_there) && is_same_reply(reply, reply_there)
-}
-
-fn is_parts(whole: &Whole, number: u64, b: &Made) -> bool
-    ensures { result ≡ true → PartsMade (whole_value whole.now) number ≡ made_value b.now }
-{
-    let Made::Parts(whole_there, number_there) = b else {
-        return false;
-    };
-    is_same_whole(whole, whole_there) && number == *number_there
+    a == b
 }
 
 // How far the list goes with one entry more, if it does.

@@ -5,10 +5,9 @@ ghost use Rattle.sled_shared.specs.History.{IsLegal, maps_from};
 ghost use Rattle.sled_shared.specs.Sound.{IsOpen, maps_now};
 ghost use Rattle.sled_shared.specs.Gathered.{EachOnce, IsMadeIn, IsOfGiven};
 
-use crate::compare::{all_agree, are_all, has_no_others};
+use crate::compare::{all_agree, are_all, are_same_collections, has_no_others};
 use crate::db::Db;
 use crate::handle::Handle;
-use crate::same_whole::are_same_collections;
 use crate::state::State;
 use sled_model::{Collection, MergeOperator};
 use sled_store::Pages;

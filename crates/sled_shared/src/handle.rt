@@ -1,7 +1,8 @@
 //! Callers' ways to a database that is shared.
-ghost use Rattle.std.specs.Prelude.{◌≡◌, ◌≢◌, ◌++◌};
+ghost use Rattle.std.specs.Prelude.{◌≡◌, ◌≢◌, ◌++◌, IfOk};
 ghost use Rattle.std.specs.Option.{option_copied};
 ghost use Rattle.sled_model.specs.State.{IsOnKey};
+ghost use Rattle.sled_model.specs.declared.call.Call.{Call};
 ghost use Rattle.sled_model.specs.declared.call.Call.TheVariants.{Get, Insert, Remove, CompareAndSwap, Merge};
 ghost use Rattle.sled_model.specs.declared.outcome.Outcome.TheVariants.{Moved};
 ghost use Rattle.sled_shared.specs.Made.{made_values};
@@ -11,8 +12,9 @@ ghost use Rattle.sled_shared.specs.WholeNotes.{AddsWhole};
 use crate::caller::Caller;
 use crate::entry::Made;
 use crate::state::State;
+use crate::steps::{abandon_in, begin_in, step_adding, step_of, whole_adding};
 use sled_model::{Call, MergeOperator, Outcome, Slot, Tree, Whole};
-use sled_nodes::{Error, Result};
+use sled_nodes::Result;
 use sled_store::Pages;
 use std::alloc::Global;
 use std::marker::Model;
@@ -88,13 +90,9 @@ impl<P: Pages, L: Ledger, M: MergeOperator> Handle<P, L, M> {
         ensures { self.new ≡ self.old }
     {
         let mut guard = self.lock.lock(rt);
-        match &mut *guard {
-            None => {
-                drop(call);
-                Err(Error::Closed)
-            }
-            Some(state) => state.begin(tree, call),
-        }
+        let begun = begin_in(&mut *guard, tree, call);
+        drop(guard);
+        begun
     }
 
     /// One step of the call in the slot, whoever began it. A call on a key that it decides becomes this caller's.
@@ -107,10 +105,9 @@ impl<P: Pages, L: Ledger, M: MergeOperator> Handle<P, L, M> {
         ensures number { self.new.number ≡ self.old.number }
     {
         let mut guard = self.lock.lock(rt);
-        match &mut *guard {
-            None => Outcome::Refused(Error::Closed),
-            Some(state) => state.step_adding(&mut self.me, slot),
-        }
+        let outcome = step_adding(&mut *guard, &mut self.me, slot);
+        drop(guard);
+        outcome
     }
 
     /// Gives the call in the slot up, whoever began it.
@@ -122,10 +119,9 @@ impl<P: Pages, L: Ledger, M: MergeOperator> Handle<P, L, M> {
         ensures { self.new ≡ self.old }
     {
         let mut guard = self.lock.lock(rt);
-        match &mut *guard {
-            None => Outcome::Refused(Error::Closed),
-            Some(state) => state.abandon(slot),
-        }
+        let outcome = abandon_in(&mut *guard, slot);
+        drop(guard);
+        outcome
     }
 
     /// Does a whole call, in one step under the lock. One that is decided becomes this caller's, with its reply; of `Next`, which tells each
@@ -135,19 +131,14 @@ impl<P: Pages, L: Ledger, M: MergeOperator> Handle<P, L, M> {
     /// ```
     /// let outcome = handle.whole(rt, Whole::PopMin(tree)); // `Decided(Reply::Pair(..))`, or why not.
     /// ```
-    #[tactic(auto, using(crate::proofs::WholeAdds::adds_refused))]
     pub fn whole(&mut self, rt: &impl Wait, whole: Whole) -> Outcome
         ensures made { AddsWhole whole result self.old.made self.new.made }
         ensures number { self.new.number ≡ self.old.number }
     {
         let mut guard = self.lock.lock(rt);
-        match &mut *guard {
-            None => {
-                drop(whole);
-                Outcome::Refused(Error::Closed)
-            }
-            Some(state) => state.whole_adding(&mut self.me, whole),
-        }
+        let outcome = whole_adding(&mut *guard, &mut self.me, whole);
+        drop(guard);
+        outcome
     }
 
     // One step of the call in the slot, if it is this one.
@@ -157,10 +148,9 @@ impl<P: Pages, L: Ledger, M: MergeOperator> Handle<P, L, M> {
         ensures number { self.new.number ≡ self.old.number }
     {
         let mut guard = self.lock.lock(rt);
-        match &mut *guard {
-            None => Outcome::Refused(Error::Closed),
-            Some(state) => state.step_of(&mut self.me, slot, tree, call),
-        }
+        let outcome = step_of(&mut *guard, &mut self.me, slot, tree, call);
+        drop(guard);
+        outcome
     }
 
     // Steps of the call in the slot until one does not go on. After each that does the gate is called.
@@ -219,20 +209,31 @@ impl<P: Pages, L: Ledger, M: MergeOperator> Handle<P, L, M> {
         outcome
     }
 
+    // The same without a gate, where there was memory to make the call.
+    fn call_made(&mut self, rt: &impl Wait, tree: &Tree, made: Result<Call>) -> Outcome
+        requires { IfOk made IsOnKey }
+        ensures made { (call : Call) → IfOk made (λ it. it ≡ call) → self.new.made ≡ self.old.made ++ noted_of result tree.now call }
+        ensures number { self.new.number ≡ self.old.number }
+        ensures ends { result ≢ Moved }
+    {
+        match made {
+            Ok(call) => self.call(rt, tree, call, &NoGate),
+            Err(e) => Outcome::Refused(e),
+        }
+    }
+
     /// Asks for the value at a key, as `call` does without a gate. Want of memory for the call is `Refused` too, as in the next four.
     ///
     /// ```
     /// let outcome = handle.get(rt, alloc, &tree, b"ulm");
     /// ```
+    #[tactic(auto, using(crate::proofs::Noted::on_key_made))]
     pub fn get(&mut self, rt: &impl Wait, alloc: Global, tree: &Tree, key: &[u8]) -> Outcome
         ensures made { self.new.made ≡ self.old.made ++ noted_of result tree.now (Get key.now) }
         ensures number { self.new.number ≡ self.old.number }
         ensures ends { result ≢ Moved }
     {
-        match Call::get(alloc, key) {
-            Ok(call) => self.call(rt, tree, call, &NoGate),
-            Err(e) => Outcome::Refused(e),
-        }
+        self.call_made(rt, tree, Call::get(alloc, key))
     }
 
     /// Sets the value at a key, and replies with the value that stood there.
@@ -240,6 +241,7 @@ impl<P: Pages, L: Ledger, M: MergeOperator> Handle<P, L, M> {
     /// ```
     /// let outcome = handle.insert(rt, alloc, &tree, b"ulm", b"21");
     /// ```
+    #[tactic(auto, using(crate::proofs::Noted::on_key_made))]
     pub fn insert(
         &mut self,
         rt: &impl Wait,
@@ -252,10 +254,7 @@ impl<P: Pages, L: Ledger, M: MergeOperator> Handle<P, L, M> {
         ensures number { self.new.number ≡ self.old.number }
         ensures ends { result ≢ Moved }
     {
-        match Call::insert(alloc, key, value) {
-            Ok(call) => self.call(rt, tree, call, &NoGate),
-            Err(e) => Outcome::Refused(e),
-        }
+        self.call_made(rt, tree, Call::insert(alloc, key, value))
     }
 
     /// Takes a key out, and replies with the value that stood there.
@@ -263,15 +262,13 @@ impl<P: Pages, L: Ledger, M: MergeOperator> Handle<P, L, M> {
     /// ```
     /// let outcome = handle.remove(rt, alloc, &tree, b"ulm");
     /// ```
+    #[tactic(auto, using(crate::proofs::Noted::on_key_made))]
     pub fn remove(&mut self, rt: &impl Wait, alloc: Global, tree: &Tree, key: &[u8]) -> Outcome
         ensures made { self.new.made ≡ self.old.made ++ noted_of result tree.now (Remove key.now) }
         ensures number { self.new.number ≡ self.old.number }
         ensures ends { result ≢ Moved }
     {
-        match Call::remove(alloc, key) {
-            Ok(call) => self.call(rt, tree, call, &NoGate),
-            Err(e) => Outcome::Refused(e),
-        }
+        self.call_made(rt, tree, Call::remove(alloc, key))
     }
 
     /// Where the first value stands at a key it becomes the second one; `None` is no value.
@@ -279,6 +276,7 @@ impl<P: Pages, L: Ledger, M: MergeOperator> Handle<P, L, M> {
     /// ```
     /// let outcome = handle.compare_and_swap(rt, alloc, &tree, b"ulm", Some(b"21"), None); // Takes the key out where `21` stands.
     /// ```
+    #[tactic(auto, using(crate::proofs::Noted::on_key_made))]
     pub fn compare_and_swap(
         &mut self,
         rt: &impl Wait,
@@ -292,10 +290,7 @@ impl<P: Pages, L: Ledger, M: MergeOperator> Handle<P, L, M> {
         ensures number { self.new.number ≡ self.old.number }
         ensures ends { result ≢ Moved }
     {
-        match Call::compare_and_swap(alloc, key, old, new) {
-            Ok(call) => self.call(rt, tree, call, &NoGate),
-            Err(e) => Outcome::Refused(e),
-        }
+        self.call_made(rt, tree, Call::compare_and_swap(alloc, key, old, new))
     }
 
     /// Joins bytes to the value at a key, by the merge operator of the tree, and replies with the new value.
@@ -303,6 +298,7 @@ impl<P: Pages, L: Ledger, M: MergeOperator> Handle<P, L, M> {
     /// ```
     /// let outcome = handle.merge(rt, alloc, &tree, b"visits", &1u64.to_be_bytes());
     /// ```
+    #[tactic(auto, using(crate::proofs::Noted::on_key_made))]
     pub fn merge(
         &mut self,
         rt: &impl Wait,
@@ -315,10 +311,7 @@ impl<P: Pages, L: Ledger, M: MergeOperator> Handle<P, L, M> {
         ensures number { self.new.number ≡ self.old.number }
         ensures ends { result ≢ Moved }
     {
-        match Call::merge(alloc, key, bytes) {
-            Ok(call) => self.call(rt, tree, call, &NoGate),
-            Err(e) => Outcome::Refused(e),
-        }
+        self.call_made(rt, tree, Call::merge(alloc, key, bytes))
     }
 }
 

@@ -25,7 +25,6 @@ mod gather;
 mod handle;
 mod kept;
 mod noting;
-mod same_whole;
 mod state;
 mod steps;
 mod whole_tests;

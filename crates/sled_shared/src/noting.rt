@@ -1,5 +1,5 @@
 //! Steps that are noted, over the parts of a state.
-ghost use Rattle.std.specs.Prelude.{◌≡◌, ◌<◌, ◌+◌, ◌++◌, ◌∷◌, [], true, IfOk, IfSome, OnOk, Some, vec_len, vec_capacity, length};
+ghost use Rattle.std.specs.Prelude.{◌≡◌, ◌<◌, ◌+◌, ◌++◌, ◌∷◌, [], true, IfSome, Some, vec_len, vec_capacity, length};
 ghost use Rattle.std.specs.Option.{option_map};
 ghost use Rattle.sled_calls.specs.Values.{slots_of, job_of_call};
 ghost use Rattle.sled_shared.specs.Made.{PointMade, made_value, made_values, entry_values};
@@ -11,47 +11,37 @@ use crate::entry::{Entry, Made};
 use crate::kept::{refuse_step, step, step_kept};
 use sled_calls::{Job, Machine};
 use sled_model::{MergeOperator, Outcome, Reply, Slot};
-use sled_nodes::{Error, Result};
 use sled_store::Pages;
 use std::sync::ledger::{Book, Ledger, Share};
 
-// The same job.
-fn copy_of(job: &Job) -> Result<Job>
-    ensures { IfOk result (λ copy. copy ≡ job.now) }
+// The same job, if there is memory for it.
+fn copy_of(job: &Job) -> Option<Job>
+    ensures { IfSome result (λ copy. copy ≡ job.now) }
 {
-    let tree = job.tree.clone()?;
+    let Ok(tree) = job.tree.clone() else {
+        return None;
+    };
     match job.call.clone() {
-        Ok(call) => Ok(Job { tree, call }),
-        Err(e) => {
+        Ok(call) => Some(Job { tree, call }),
+        Err(_) => {
             drop(tree);
-            Err(e)
+            None
         }
     }
 }
 
 // The same job, twice.
-fn copies_of(job: &Job) -> Result<(Job, Job)>
-    ensures first { IfOk result (λ both. both.0 ≡ job.now) }
-    ensures second { IfOk result (λ both. both.1 ≡ both.0) }
+fn copies_of(job: &Job) -> Option<(Job, Job)>
+    ensures first { IfSome result (λ both. both.0 ≡ job.now) }
+    ensures second { IfSome result (λ both. both.1 ≡ both.0) }
 {
     let first = copy_of(job)?;
     match copy_of(job) {
-        Ok(second) => Ok((first, second)),
-        Err(e) => {
+        Some(second) => Some((first, second)),
+        None => {
             drop(first);
-            Err(e)
+            None
         }
-    }
-}
-
-// What the call in the slot is to do, twice.
-fn jobs_in<P: Pages, M: MergeOperator>(machine: &Machine<P, M>, slot: Slot) -> Result<(Job, Job)>
-    ensures first { IfOk result (λ both. option_map job_of_call (slots_of machine.now.flights slot) ≡ Some (both.0.tree, both.0.call)) }
-    ensures second { IfOk result (λ both. both.1 ≡ both.0) }
-{
-    match machine.job(slot) {
-        Some(job) => copies_of(job),
-        None => Err(Error::NoMemory),
     }
 }
 
@@ -65,16 +55,37 @@ fn is_on_key_in<P: Pages, M: MergeOperator>(machine: &Machine<P, M>, slot: Slot)
     }
 }
 
-// Room for one more in both lists.
-pub(crate) fn make_room(history: &mut Vec<Entry>, made: &mut Vec<Made>) -> Result<()>
+// Room for one more in both lists. Whether there is memory for it.
+pub(crate) fn make_room(history: &mut Vec<Entry>, made: &mut Vec<Made>) -> bool
     ensures history { history.new.items ≡ history.old.items }
     ensures made { made.new.items ≡ made.old.items }
-    ensures room { OnOk result (vec_len history.new < vec_capacity history.new) }
-    ensures room_there { OnOk result (vec_len made.new < vec_capacity made.new) }
+    ensures room { result ≡ true → vec_len history.new < vec_capacity history.new }
+    ensures room_there { result ≡ true → vec_len made.new < vec_capacity made.new }
 {
-    history.reserve(1)?;
-    made.reserve(1)?;
-    Ok(())
+    history.reserve(1).is_ok() && made.reserve(1).is_ok()
+}
+
+// What the call in the slot is to do, twice, and room for one more in both lists.
+fn room_and_jobs<P: Pages, M: MergeOperator>(
+    machine: &Machine<P, M>,
+    history: &mut Vec<Entry>,
+    made: &mut Vec<Made>,
+    slot: Slot,
+) -> Option<(Job, Job)>
+    ensures first { IfSome result (λ both. option_map job_of_call (slots_of machine.now.flights slot) ≡ Some (both.0.tree, both.0.call)) }
+    ensures second { IfSome result (λ both. both.1 ≡ both.0) }
+    ensures history { history.new.items ≡ history.old.items }
+    ensures made { made.new.items ≡ made.old.items }
+    ensures room { IfSome result (λ both. vec_len history.new < vec_capacity history.new) }
+    ensures room_there { IfSome result (λ both. vec_len made.new < vec_capacity made.new) }
+{
+    if !make_room(history, made) {
+        return None;
+    }
+    match machine.job(slot) {
+        Some(job) => copies_of(job),
+        None => None,
+    }
 }
 
 // A call on a key with its reply, twice.
@@ -133,21 +144,14 @@ fn step_noting<P: Pages, M: MergeOperator>(
     if !is_on_key_in(machine, slot) {
         return (step(machine, slot), None);
     }
-    if let Err(e) = make_room(history, made) {
-        drop(e);
-        return (refuse_step(machine, slot), None);
-    }
-    match jobs_in(machine, slot) {
-        Ok(jobs) => step_of_jobs(machine, slot, jobs),
-        Err(e) => {
-            drop(e);
-            (refuse_step(machine, slot), None)
-        }
+    match room_and_jobs(machine, history, made, slot) {
+        Some(jobs) => step_of_jobs(machine, slot, jobs),
+        None => (refuse_step(machine, slot), None),
     }
 }
 
 // What was made comes to the end of the history, with the number of its caller, and of the caller's list.
-pub(crate) fn note(history: &mut Vec<Entry>, made: &mut Vec<Made>, number: u64, both: (Made, Made))
+fn note(history: &mut Vec<Entry>, made: &mut Vec<Made>, number: u64, both: (Made, Made))
     requires room { vec_len history.old < vec_capacity history.old }
     requires room_there { vec_len made.old < vec_capacity made.old }
     ensures history { entry_values history.new.items ≡ entry_values history.old.items ++ entries_of number (made_value both.0 ∷ []) }
@@ -161,6 +165,33 @@ pub(crate) fn note(history: &mut Vec<Entry>, made: &mut Vec<Made>, number: u64, 
         made: one,
     });
     made.push_reserved(two);
+}
+
+// What is to be noted, if anything is, comes to the ends of both lists, and is counted.
+pub(crate) fn note_and_count<L: Ledger>(
+    history: &mut Vec<Entry>,
+    calls: &mut Book<L>,
+    number: u64,
+    made: &mut Vec<Made>,
+    share: &mut Share<L>,
+    noted: Option<(Made, Made)>,
+)
+    requires part { share.old.parts ≡ 1 }
+    requires counted { length history.old.items ≡ calls.old.total }
+    requires shared { share.old.amount ≡ length made.old.items }
+    requires room { IfSome noted (λ both. vec_len history.old < vec_capacity history.old) }
+    requires room_there { IfSome noted (λ both. vec_len made.old < vec_capacity made.old) }
+    requires again { second_noted noted ≡ first_noted noted }
+    ensures history { entry_values history.new.items ≡ entry_values history.old.items ++ entries_of number (first_noted noted) }
+    ensures made { made_values made.new.items ≡ made_values made.old.items ++ first_noted noted }
+    ensures part { share.new.parts ≡ 1 }
+    ensures counted { length history.new.items ≡ calls.new.total }
+    ensures shared { share.new.amount ≡ length made.new.items }
+{
+    if let Some(both) = noted {
+        note(history, made, number, both);
+        calls.add(share, 1);
+    }
 }
 
 // A step of a slot, over the parts of a state and of a caller. A call on a key that it decides is noted, and counted.
@@ -184,12 +215,6 @@ pub(crate) fn step_in<P: Pages, L: Ledger, M: MergeOperator>(
     ensures shared { share.new.amount ≡ length made.new.items }
 {
     let (outcome, noted) = step_noting(machine, history, made, slot);
-    match noted {
-        None => outcome,
-        Some(both) => {
-            note(history, made, number, both);
-            calls.add(share, 1);
-            outcome
-        }
-    }
+    note_and_count(history, calls, number, made, share, noted);
+    outcome
 }

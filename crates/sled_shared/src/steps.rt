@@ -23,7 +23,7 @@ use crate::state::State;
 use crate::wholes::whole_in;
 use sled_calls::{Job, Machine};
 use sled_model::{Call, Collection, MergeOperator, Outcome, Slot, Tree, Whole};
-use sled_nodes::Result;
+use sled_nodes::{Error, Result};
 use sled_store::Pages;
 use std::sync::ledger::Ledger;
 
@@ -94,32 +94,6 @@ impl<P: Pages, L: Ledger, M: MergeOperator> State<P, L, M> {
         )
     }
 
-    // The same, where what comes to the caller's list is told by the outcome alone.
-    pub(crate) fn step_adding(&mut self, me: &mut Caller<L>, slot: Slot) -> Outcome
-        ensures made { AddsStep result me.old.made me.new.made }
-        ensures number { me.new.number ≡ me.old.number }
-    {
-        self.step(me, slot)
-    }
-
-    // The same, if the slot has this call on a key. Without the call in it no step is made, and there is no such slot for the caller.
-    pub(crate) fn step_of(
-        &mut self,
-        me: &mut Caller<L>,
-        slot: Slot,
-        tree: &Tree,
-        call: &Call,
-    ) -> Outcome
-        requires { IsOnKey call.now }
-        ensures made { me.new.made ≡ me.old.made ++ noted_of result tree.now call.now }
-        ensures number { me.new.number ≡ me.old.number }
-    {
-        if !has_job(&self.machine, slot, tree, call) {
-            return Outcome::NoSuchSlot;
-        }
-        self.step(me, slot)
-    }
-
     /// Gives the call in the slot up, as `abandon` of the machine does. Nothing is noted.
     ///
     /// ```
@@ -162,14 +136,6 @@ impl<P: Pages, L: Ledger, M: MergeOperator> State<P, L, M> {
         )
     }
 
-    // The same, where what comes to the caller's list is told by the outcome alone.
-    pub(crate) fn whole_adding(&mut self, me: &mut Caller<L>, whole: Whole) -> Outcome
-        ensures made { AddsWhole whole result me.old.made me.new.made }
-        ensures number { me.new.number ≡ me.old.number }
-    {
-        self.whole(me, whole)
-    }
-
     /// The collections that the database had when it was shared, as its export gave them.
     ///
     /// ```
@@ -204,5 +170,87 @@ impl<P: Pages, L: Ledger, M: MergeOperator> State<P, L, M> {
         ensures ids { RiseBetween 0 (ids_made self.now.history) self.now.machine.db.greatest_id }
     {
         let _history = &self.history;
+    }
+}
+
+// The same calls of what a lock holds. What was taken from under it is closed. These say what comes to the caller's list by the outcome
+// alone.
+
+// Begins a call on a tree.
+pub(crate) fn begin_in<P: Pages, L: Ledger, M: MergeOperator>(
+    held: &mut Option<State<P, L, M>>,
+    tree: &Tree,
+    call: Call,
+) -> Result<Slot> {
+    match held {
+        None => {
+            drop(call);
+            Err(Error::Closed)
+        }
+        Some(state) => state.begin(tree, call),
+    }
+}
+
+// One step of the call in the slot.
+pub(crate) fn step_adding<P: Pages, L: Ledger, M: MergeOperator>(
+    held: &mut Option<State<P, L, M>>,
+    me: &mut Caller<L>,
+    slot: Slot,
+) -> Outcome
+    ensures made { AddsStep result me.old.made me.new.made }
+    ensures number { me.new.number ≡ me.old.number }
+{
+    match held {
+        None => Outcome::Refused(Error::Closed),
+        Some(state) => state.step(me, slot),
+    }
+}
+
+// The same, if the slot has this call on a key. Without the call in it no step is made, and there is no such slot for the caller.
+pub(crate) fn step_of<P: Pages, L: Ledger, M: MergeOperator>(
+    held: &mut Option<State<P, L, M>>,
+    me: &mut Caller<L>,
+    slot: Slot,
+    tree: &Tree,
+    call: &Call,
+) -> Outcome
+    requires { IsOnKey call.now }
+    ensures made { me.new.made ≡ me.old.made ++ noted_of result tree.now call.now }
+    ensures number { me.new.number ≡ me.old.number }
+{
+    match held {
+        None => Outcome::Refused(Error::Closed),
+        Some(state) if has_job(&state.machine, slot, tree, call) => state.step(me, slot),
+        Some(_) => Outcome::NoSuchSlot,
+    }
+}
+
+// Gives the call in the slot up.
+pub(crate) fn abandon_in<P: Pages, L: Ledger, M: MergeOperator>(
+    held: &mut Option<State<P, L, M>>,
+    slot: Slot,
+) -> Outcome {
+    match held {
+        None => Outcome::Refused(Error::Closed),
+        Some(state) => state.abandon(slot),
+    }
+}
+
+// Does a whole call.
+#[tactic(auto, using(crate::proofs::WholeAdds::adds_refused))]
+pub(crate) fn whole_adding<P: Pages, L: Ledger, M: MergeOperator>(
+    held: &mut Option<State<P, L, M>>,
+    me: &mut Caller<L>,
+    whole: Whole,
+) -> Outcome
+    ensures made { AddsWhole whole result me.old.made me.new.made }
+    ensures number { me.new.number ≡ me.old.number }
+{
+    match held {
+        None => {
+            drop(whole);
+            Outcome::Refused(Error::Closed)
+        }
+        Some(state) => state.whole(me, whole),
     }
 }

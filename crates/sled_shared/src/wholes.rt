@@ -1,5 +1,5 @@
 //! Whole calls that are noted, over the parts of a state.
-ghost use Rattle.std.specs.Prelude.{◌≡◌, ◌≢◌, ◌<◌, ◌++◌, [], None, IfOk, IfSome, OnOk, vec_len, vec_capacity, length};
+ghost use Rattle.std.specs.Prelude.{◌≡◌, ◌≢◌, ◌<◌, ◌++◌, [], None, IfSome, vec_len, vec_capacity, length};
 ghost use Rattle.sled_model.specs.declared.outcome.Step.TheVariants as step;
 ghost use Rattle.sled.specs.Values.{db_state};
 ghost use Rattle.sled_calls.specs.Kept.{kept_of_whole, CountsParts};
@@ -10,33 +10,36 @@ ghost use Rattle.sled_shared.specs.theory.Noting.{first_noted, second_noted};
 ghost use Rattle.sled_shared.specs.WholeNotes.{ComesToWhole, DoesWhole, NotesWhole, noted_with, whole_test};
 
 use crate::entry::{Entry, Made};
-use crate::noting::{make_room, note};
+use crate::noting::{make_room, note_and_count};
 use crate::whole_tests::passes_whole;
 use sled_calls::Machine;
 use sled_model::{MergeOperator, Outcome, Reply, Whole};
-use sled_nodes::{Error, Result};
+use sled_nodes::Error;
 use sled_store::Pages;
 use std::sync::ledger::{Book, Ledger, Share};
 
-// The same call.
+// The same call, if there is memory for it.
 #[tactic(auto, using(crate::proofs::WholeTests::same_whole_value))]
-fn copy_of(whole: &Whole) -> Result<Whole>
-    ensures { IfOk result (λ copy. whole_value copy ≡ whole_value whole.now) }
+fn copy_of(whole: &Whole) -> Option<Whole>
+    ensures { IfSome result (λ copy. whole_value copy ≡ whole_value whole.now) }
 {
-    whole.clone()
+    match whole.clone() {
+        Ok(copy) => Some(copy),
+        Err(_) => None,
+    }
 }
 
 // The same call, twice.
-fn copies_of(whole: &Whole) -> Result<(Whole, Whole)>
-    ensures first { IfOk result (λ both. whole_value both.0 ≡ whole_value whole.now) }
-    ensures second { IfOk result (λ both. whole_value both.1 ≡ whole_value whole.now) }
+fn copies_of(whole: &Whole) -> Option<(Whole, Whole)>
+    ensures first { IfSome result (λ both. whole_value both.0 ≡ whole_value whole.now) }
+    ensures second { IfSome result (λ both. whole_value both.1 ≡ whole_value whole.now) }
 {
     let first = copy_of(whole)?;
     match copy_of(whole) {
-        Ok(second) => Ok((first, second)),
-        Err(e) => {
+        Some(second) => Some((first, second)),
+        None => {
             drop(first);
-            Err(e)
+            None
         }
     }
 }
@@ -46,15 +49,17 @@ fn room_and_copies(
     history: &mut Vec<Entry>,
     made: &mut Vec<Made>,
     whole: &Whole,
-) -> Result<(Whole, Whole)>
-    ensures first { IfOk result (λ both. whole_value both.0 ≡ whole_value whole.now) }
-    ensures second { IfOk result (λ both. whole_value both.1 ≡ whole_value whole.now) }
+) -> Option<(Whole, Whole)>
+    ensures first { IfSome result (λ both. whole_value both.0 ≡ whole_value whole.now) }
+    ensures second { IfSome result (λ both. whole_value both.1 ≡ whole_value whole.now) }
     ensures history { history.new.items ≡ history.old.items }
     ensures made { made.new.items ≡ made.old.items }
-    ensures room { OnOk result (vec_len history.new < vec_capacity history.new) }
-    ensures room_there { OnOk result (vec_len made.new < vec_capacity made.new) }
+    ensures room { IfSome result (λ both. vec_len history.new < vec_capacity history.new) }
+    ensures room_there { IfSome result (λ both. vec_len made.new < vec_capacity made.new) }
 {
-    make_room(history, made)?;
+    if !make_room(history, made) {
+        return None;
+    }
     copies_of(whole)
 }
 
@@ -165,38 +170,8 @@ fn whole_noting<P: Pages, M: MergeOperator>(
     ensures room_there { IfSome result.1 (λ both. vec_len made.new < vec_capacity made.new) }
 {
     match room_and_copies(history, made, &whole) {
-        Ok(both) => make_whole(machine, whole, both),
-        Err(e) => {
-            drop(e);
-            (refuse_whole(machine, whole), None)
-        }
-    }
-}
-
-// What is to be noted, if anything is, comes to the ends of both lists, and is counted.
-fn note_and_count<L: Ledger>(
-    history: &mut Vec<Entry>,
-    calls: &mut Book<L>,
-    number: u64,
-    made: &mut Vec<Made>,
-    share: &mut Share<L>,
-    noted: Option<(Made, Made)>,
-)
-    requires part { share.old.parts ≡ 1 }
-    requires counted { length history.old.items ≡ calls.old.total }
-    requires shared { share.old.amount ≡ length made.old.items }
-    requires room { IfSome noted (λ both. vec_len history.old < vec_capacity history.old) }
-    requires room_there { IfSome noted (λ both. vec_len made.old < vec_capacity made.old) }
-    requires again { second_noted noted ≡ first_noted noted }
-    ensures history { entry_values history.new.items ≡ entry_values history.old.items ++ entries_of number (first_noted noted) }
-    ensures made { made_values made.new.items ≡ made_values made.old.items ++ first_noted noted }
-    ensures part { share.new.parts ≡ 1 }
-    ensures counted { length history.new.items ≡ calls.new.total }
-    ensures shared { share.new.amount ≡ length made.new.items }
-{
-    if let Some(both) = noted {
-        note(history, made, number, both);
-        calls.add(share, 1);
+        Some(both) => make_whole(machine, whole, both),
+        None => (refuse_whole(machine, whole), None),
     }
 }
 

@@ -1,5 +1,0 @@
-use Rattle.sled_shared.proofs.WholeAdds.{whole_adds}
-use Rattle.sled_shared.proofs.state.State.whole_adding.Goals as goal
-
-pub returns-clause-made : goal.returns-clause-made
-returns-clause-made g c = whole_adds g.P.Pages.store g.P.Pages.flush_number g.M.MergeOperator.meant _ _ _ _ _ _ _ _ c.whole.result c.whole.ensures.whole
