@@ -38,13 +38,7 @@ fn passes<P: Pages, M: MergeOperator>(machine: &Machine<P, M>, tree: &Tree, call
     ensures yes { result ≡ true → must_refuse (db_state P.store M.meant machine.now.db) (ToPoint tree.now call.now) ≡ None }
     ensures no { must_refuse (db_state P.store M.meant machine.now.db) (ToPoint tree.now call.now) ≡ None → result ≡ true }
 {
-    match machine.db().check_call(tree, call) {
-        Ok(()) => true,
-        Err(e) => {
-            drop(e);
-            false
-        }
-    }
+    machine.db().check_call(tree, call).is_ok()
 }
 
 // Whether the call in the slot passes the tests and has a turn left. One that has none is told so by its next step.

@@ -1,5 +1,5 @@
 //! Steps that are noted, over the parts of a state.
-ghost use Rattle.std.specs.Prelude.{◌≡◌, ◌<◌, ◌+◌, ◌++◌, ◌∷◌, [], true, IfSome, Some, vec_len, vec_capacity, length};
+ghost use Rattle.std.specs.Prelude.{◌≡◌, ◌<◌, ◌+◌, ◌++◌, ◌∷◌, [], true, IfOk, IfSome, Some, vec_len, vec_capacity, length};
 ghost use Rattle.std.specs.Option.{option_map};
 ghost use Rattle.sled_calls.specs.Values.{slots_of, job_of_call};
 ghost use Rattle.sled_shared.specs.Made.{PointMade, made_value, made_values, entry_values};
@@ -11,36 +11,35 @@ use crate::entry::{Entry, Made};
 use crate::kept::{refuse_step, step, step_kept};
 use sled_calls::{Job, Machine};
 use sled_model::{MergeOperator, Outcome, Reply, Slot};
+use sled_nodes::Result;
 use sled_store::Pages;
 use std::sync::ledger::{Book, Ledger, Share};
 
-// The same job, if there is memory for it.
-fn copy_of(job: &Job) -> Option<Job>
-    ensures { IfSome result (λ copy. copy ≡ job.now) }
+// The same job.
+fn copy_of(job: &Job) -> Result<Job>
+    ensures { IfOk result (λ copy. copy ≡ job.now) }
 {
-    let Ok(tree) = job.tree.clone() else {
-        return None;
-    };
+    let tree = job.tree.clone()?;
     match job.call.clone() {
-        Ok(call) => Some(Job { tree, call }),
-        Err(_) => {
+        Ok(call) => Ok(Job { tree, call }),
+        Err(e) => {
             drop(tree);
-            None
+            Err(e)
         }
     }
 }
 
 // The same job, twice.
-fn copies_of(job: &Job) -> Option<(Job, Job)>
-    ensures first { IfSome result (λ both. both.0 ≡ job.now) }
-    ensures second { IfSome result (λ both. both.1 ≡ both.0) }
+fn copies_of(job: &Job) -> Result<(Job, Job)>
+    ensures first { IfOk result (λ both. both.0 ≡ job.now) }
+    ensures second { IfOk result (λ both. both.1 ≡ both.0) }
 {
     let first = copy_of(job)?;
     match copy_of(job) {
-        Some(second) => Some((first, second)),
-        None => {
+        Ok(second) => Ok((first, second)),
+        Err(e) => {
             drop(first);
-            None
+            Err(e)
         }
     }
 }
@@ -83,7 +82,7 @@ fn room_and_jobs<P: Pages, M: MergeOperator>(
         return None;
     }
     match machine.job(slot) {
-        Some(job) => copies_of(job),
+        Some(job) => copies_of(job).ok(),
         None => None,
     }
 }

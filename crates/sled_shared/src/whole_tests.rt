@@ -30,13 +30,7 @@ fn passes_on<P: Pages, M: MergeOperator>(machine: &Machine<P, M>, tree: &Tree) -
     ensures yes { result ≡ true → must_refuse_of (db_state P.store M.meant machine.now.db) (tree.now ∷ []) ≡ None }
     ensures no { must_refuse_of (db_state P.store M.meant machine.now.db) (tree.now ∷ []) ≡ None → result ≡ true }
 {
-    match machine.db().check(tree) {
-        Ok(()) => true,
-        Err(e) => {
-            drop(e);
-            false
-        }
-    }
+    machine.db().check(tree).is_ok()
 }
 
 // Whether the tree of each batch does.

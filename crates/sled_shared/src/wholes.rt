@@ -1,5 +1,5 @@
 //! Whole calls that are noted, over the parts of a state.
-ghost use Rattle.std.specs.Prelude.{◌≡◌, ◌≢◌, ◌<◌, ◌++◌, [], None, IfSome, vec_len, vec_capacity, length};
+ghost use Rattle.std.specs.Prelude.{◌≡◌, ◌≢◌, ◌<◌, ◌++◌, [], None, IfOk, IfSome, vec_len, vec_capacity, length};
 ghost use Rattle.sled_model.specs.declared.outcome.Step.TheVariants as step;
 ghost use Rattle.sled.specs.Values.{db_state};
 ghost use Rattle.sled_calls.specs.Kept.{kept_of_whole, CountsParts};
@@ -14,32 +14,29 @@ use crate::noting::{make_room, note_and_count};
 use crate::whole_tests::passes_whole;
 use sled_calls::Machine;
 use sled_model::{MergeOperator, Outcome, Reply, Whole};
-use sled_nodes::Error;
+use sled_nodes::{Error, Result};
 use sled_store::Pages;
 use std::sync::ledger::{Book, Ledger, Share};
 
-// The same call, if there is memory for it.
+// The same call.
 #[tactic(auto, using(crate::proofs::WholeTests::same_whole_value))]
-fn copy_of(whole: &Whole) -> Option<Whole>
-    ensures { IfSome result (λ copy. whole_value copy ≡ whole_value whole.now) }
+fn copy_of(whole: &Whole) -> Result<Whole>
+    ensures { IfOk result (λ copy. whole_value copy ≡ whole_value whole.now) }
 {
-    match whole.clone() {
-        Ok(copy) => Some(copy),
-        Err(_) => None,
-    }
+    whole.clone()
 }
 
 // The same call, twice.
-fn copies_of(whole: &Whole) -> Option<(Whole, Whole)>
-    ensures first { IfSome result (λ both. whole_value both.0 ≡ whole_value whole.now) }
-    ensures second { IfSome result (λ both. whole_value both.1 ≡ whole_value whole.now) }
+fn copies_of(whole: &Whole) -> Result<(Whole, Whole)>
+    ensures first { IfOk result (λ both. whole_value both.0 ≡ whole_value whole.now) }
+    ensures second { IfOk result (λ both. whole_value both.1 ≡ whole_value whole.now) }
 {
     let first = copy_of(whole)?;
     match copy_of(whole) {
-        Some(second) => Some((first, second)),
-        None => {
+        Ok(second) => Ok((first, second)),
+        Err(e) => {
             drop(first);
-            None
+            Err(e)
         }
     }
 }
@@ -60,7 +57,7 @@ fn room_and_copies(
     if !make_room(history, made) {
         return None;
     }
-    copies_of(whole)
+    copies_of(whole).ok()
 }
 
 // A decided call with its reply, twice.
