@@ -38,7 +38,13 @@ fn passes<P: Pages, M: MergeOperator>(machine: &Machine<P, M>, tree: &Tree, call
     ensures yes { result ≡ true → must_refuse (db_state P.store M.meant machine.now.db) (ToPoint tree.now call.now) ≡ None }
     ensures no { must_refuse (db_state P.store M.meant machine.now.db) (ToPoint tree.now call.now) ≡ None → result ≡ true }
 {
-    machine.db().check_call(tree, call).is_ok()
+    match machine.db().check_call(tree, call) {
+        Ok(()) => true,
+        Err(e) => {
+            drop(e);
+            false
+        }
+    }
 }
 
 // Whether the call in the slot passes the tests and has a turn left. One that has none is told so by its next step.

@@ -30,7 +30,13 @@ fn passes_on<P: Pages, M: MergeOperator>(machine: &Machine<P, M>, tree: &Tree) -
     ensures yes { result ≡ true → must_refuse_of (db_state P.store M.meant machine.now.db) (tree.now ∷ []) ≡ None }
     ensures no { must_refuse_of (db_state P.store M.meant machine.now.db) (tree.now ∷ []) ≡ None → result ≡ true }
 {
-    machine.db().check(tree).is_ok()
+    match machine.db().check(tree) {
+        Ok(()) => true,
+        Err(e) => {
+            drop(e);
+            false
+        }
+    }
 }
 
 // Whether the tree of each batch does.
