@@ -126,7 +126,7 @@ fn step_of_jobs<P: Pages, M: MergeOperator>(
 
 // A step of a slot, and what is to be noted of it, twice, with room for it in both lists. Room and copies are made before the step, and
 // want of memory for them refuses it.
-fn step_noting<P: Pages, M: MergeOperator>(
+pub(crate) fn step_noting<P: Pages, M: MergeOperator>(
     machine: &mut Machine<P, M>,
     history: &mut Vec<Entry>,
     made: &mut Vec<Made>,
@@ -191,29 +191,4 @@ pub(crate) fn note_and_count<L: Ledger>(
         note(history, made, number, both);
         calls.add(share, 1);
     }
-}
-
-// A step of a slot, over the parts of a state and of a caller. A call on a key that it decides is noted, and counted.
-pub(crate) fn step_in<P: Pages, L: Ledger, M: MergeOperator>(
-    machine: &mut Machine<P, M>,
-    history: &mut Vec<Entry>,
-    calls: &mut Book<L>,
-    number: u64,
-    made: &mut Vec<Made>,
-    share: &mut Share<L>,
-    slot: Slot,
-) -> Outcome
-    requires part { share.old.parts ≡ 1 }
-    requires counted { length history.old.items ≡ calls.old.total }
-    requires shared { share.old.amount ≡ length made.old.items }
-    ensures step { SlotStep P.store P.flush_number M.meant machine.old slot result machine.new }
-    ensures history { entry_values history.new.items ≡ entry_values history.old.items ++ entries_of number (noted_in result (slots_of machine.old.flights slot)) }
-    ensures made { made_values made.new.items ≡ made_values made.old.items ++ noted_in result (slots_of machine.old.flights slot) }
-    ensures part { share.new.parts ≡ 1 }
-    ensures counted { length history.new.items ≡ calls.new.total }
-    ensures shared { share.new.amount ≡ length made.new.items }
-{
-    let (outcome, noted) = step_noting(machine, history, made, slot);
-    note_and_count(history, calls, number, made, share, noted);
-    outcome
 }

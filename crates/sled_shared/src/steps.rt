@@ -18,9 +18,9 @@ ghost use Rattle.sled_shared.specs.WholeNotes.{AddsWhole, NotesWhole};
 
 use crate::caller::Caller;
 use crate::entry::Entry;
-use crate::noting::step_in;
+use crate::noting::{note_and_count, step_noting};
 use crate::state::State;
-use crate::wholes::whole_in;
+use crate::wholes::whole_noting;
 use sled_calls::{Job, Machine};
 use sled_model::{Call, Collection, MergeOperator, Outcome, Slot, Tree, Whole};
 use sled_nodes::{Error, Result};
@@ -83,15 +83,16 @@ impl<P: Pages, L: Ledger, M: MergeOperator> State<P, L, M> {
             made,
             share,
         } = me;
-        step_in(
-            &mut self.machine,
+        let (outcome, noted) = step_noting(&mut self.machine, &mut self.history, made, slot);
+        note_and_count(
             &mut self.history,
             &mut self.calls,
             *number,
             made,
             share,
-            slot,
-        )
+            noted,
+        );
+        outcome
     }
 
     /// Gives the call in the slot up, as `abandon` of the machine does. Nothing is noted.
@@ -125,15 +126,16 @@ impl<P: Pages, L: Ledger, M: MergeOperator> State<P, L, M> {
             made,
             share,
         } = me;
-        whole_in(
-            &mut self.machine,
+        let (outcome, noted) = whole_noting(&mut self.machine, &mut self.history, made, whole);
+        note_and_count(
             &mut self.history,
             &mut self.calls,
             *number,
             made,
             share,
-            whole,
-        )
+            noted,
+        );
+        outcome
     }
 
     /// The collections that the database had when it was shared, as its export gave them.

@@ -1,22 +1,20 @@
 //! Whole calls that are noted, over the parts of a state.
-ghost use Rattle.std.specs.Prelude.{◌≡◌, ◌≢◌, ◌<◌, ◌++◌, [], None, IfOk, IfSome, vec_len, vec_capacity, length};
+ghost use Rattle.std.specs.Prelude.{◌≡◌, ◌≢◌, ◌<◌, ◌++◌, [], None, IfOk, IfSome, vec_len, vec_capacity};
 ghost use Rattle.sled_model.specs.declared.outcome.Step.TheVariants as step;
 ghost use Rattle.sled.specs.Values.{db_state};
 ghost use Rattle.sled_calls.specs.Kept.{kept_of_whole, CountsParts};
 ghost use Rattle.sled_calls.specs.Step.{MachineStepContract};
-ghost use Rattle.sled_shared.specs.Made.{WholeMade, made_value, made_values, entry_values, whole_value};
-ghost use Rattle.sled_shared.specs.Notes.{entries_of};
+ghost use Rattle.sled_shared.specs.Made.{WholeMade, made_value, whole_value};
 ghost use Rattle.sled_shared.specs.theory.Noting.{first_noted, second_noted};
-ghost use Rattle.sled_shared.specs.WholeNotes.{ComesToWhole, DoesWhole, NotesWhole, noted_with, whole_test};
+ghost use Rattle.sled_shared.specs.WholeNotes.{ComesToWhole, DoesWhole, noted_with, whole_test};
 
 use crate::entry::{Entry, Made};
-use crate::noting::{make_room, note_and_count};
+use crate::noting::make_room;
 use crate::whole_tests::passes_whole;
 use sled_calls::Machine;
 use sled_model::{MergeOperator, Outcome, Reply, Whole};
 use sled_nodes::{Error, Result};
 use sled_store::Pages;
-use std::sync::ledger::{Book, Ledger, Share};
 
 // The same call.
 #[tactic(auto, using(crate::proofs::WholeTests::same_whole_value))]
@@ -153,7 +151,7 @@ fn refuse_whole<P: Pages, M: MergeOperator>(machine: &mut Machine<P, M>, whole: 
 
 // A whole call, and what is to be noted of it, twice, with room for it in both lists. Room and copies are made before the call, and want
 // of memory for them refuses it.
-fn whole_noting<P: Pages, M: MergeOperator>(
+pub(crate) fn whole_noting<P: Pages, M: MergeOperator>(
     machine: &mut Machine<P, M>,
     history: &mut Vec<Entry>,
     made: &mut Vec<Made>,
@@ -170,27 +168,4 @@ fn whole_noting<P: Pages, M: MergeOperator>(
         Some(both) => make_whole(machine, whole, both),
         None => (refuse_whole(machine, whole), None),
     }
-}
-
-// A whole call, over the parts of a state and of a caller. What it made is noted, and counted.
-pub(crate) fn whole_in<P: Pages, L: Ledger, M: MergeOperator>(
-    machine: &mut Machine<P, M>,
-    history: &mut Vec<Entry>,
-    calls: &mut Book<L>,
-    number: u64,
-    made: &mut Vec<Made>,
-    share: &mut Share<L>,
-    whole: Whole,
-) -> Outcome
-    requires part { share.old.parts ≡ 1 }
-    requires counted { length history.old.items ≡ calls.old.total }
-    requires shared { share.old.amount ≡ length made.old.items }
-    ensures whole { NotesWhole P.store P.flush_number M.meant machine.old (entry_values history.old.items) number (made_values made.old.items) whole result machine.new (entry_values history.new.items) (made_values made.new.items) }
-    ensures part { share.new.parts ≡ 1 }
-    ensures counted { length history.new.items ≡ calls.new.total }
-    ensures shared { share.new.amount ≡ length made.new.items }
-{
-    let (outcome, noted) = whole_noting(machine, history, made, whole);
-    note_and_count(history, calls, number, made, share, noted);
-    outcome
 }

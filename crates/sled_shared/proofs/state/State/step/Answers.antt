@@ -1,14 +1,32 @@
-use Rattle.std.proofs.Common.{◌∙◌}
+use Rattle.std.proofs.Common.{◌≡◌, ◌∙◌, ◌++◌, ap, subst}
 use Rattle.std.proofs.lemmas.List.{length-map}
-use Rattle.sled_shared.specs.Made.{entry_value}
+use Rattle.sled_calls.specs.Values.{slots_of}
+use Rattle.sled_shared.specs.Made.{entry_value, entry_values, made_values}
+use Rattle.sled_shared.specs.Notes.{entries_of, noted_in}
+use Rattle.sled_shared.specs.Values.{CallerValue, StateValue}
+use Rattle.sled_shared.specs.theory.Noting.{first_noted}
 use Rattle.sled_model.specs.Collections.{contents_of}
 use Rattle.sled_shared.proofs.Ids.{step_risen}
 use Rattle.sled_shared.proofs.Legal.{stays_legal}
 use Rattle.sled_shared.proofs.state.State.step.Goals as goal
 
+pub returns-clause-history : goal.returns-clause-history
+returns-clause-history g c =
+    let longer = c.note_and_count.ensures.history ∙ ap (λ es. entry_values es ++ entries_of c.me.inside.number (first_noted c.step_noting-outcome.result.1)) c.step_noting-outcome.ensures.history ∙ ap (λ m. entry_values c.self.inside.history.items ++ entries_of c.me.inside.number m) c.step_noting-outcome.ensures.noted in
+    subst (λ (s : StateValue _ _). entry_values c.note_and_count.new.history.items ≡ s.history ++ entries_of c.args.me.now.number (noted_in c.step_noting-outcome.result.0 (slots_of s.machine.flights c.args.slot))) c.self.view_is
+      (subst (λ (m : CallerValue). entry_values c.note_and_count.new.history.items ≡ entry_values c.self.inside.history.items ++ entries_of m.number (noted_in c.step_noting-outcome.result.0 (slots_of c.self.inside.machine.flights c.args.slot))) c.me.view_is longer)
+
+pub returns-clause-made : goal.returns-clause-made
+returns-clause-made g c =
+    let longer = c.note_and_count.ensures.made ∙ ap (λ ms. made_values ms ++ first_noted c.step_noting-outcome.result.1) c.step_noting-outcome.ensures.made ∙ ap (λ m. made_values c.me.inside.made.items ++ m) c.step_noting-outcome.ensures.noted in
+    subst (λ (s : StateValue _ _). made_values c.note_and_count.new.made.items ≡ c.args.me.now.made ++ noted_in c.step_noting-outcome.result.0 (slots_of s.machine.flights c.args.slot)) c.self.view_is
+      (subst (λ (m : CallerValue). made_values c.note_and_count.new.made.items ≡ m.made ++ noted_in c.step_noting-outcome.result.0 (slots_of c.self.inside.machine.flights c.args.slot)) c.me.view_is longer)
+
 pub invariant_of-self : goal.invariant_of-self
-invariant_of-self g c = record {
-  legal = stays_legal g.P.Pages.store g.P.Pages.flush_number g.M.MergeOperator.meant c.self.inside.machine c.step_in.new.machine (contents_of c.self.inside.opening.value.items) c.me.inside.number _ _ _ _ _ c.step_in.ensures.step.step.step.is c.step_in.ensures.history c.self.invariant.legal;
-  ids = step_risen g.P.Pages.store g.P.Pages.flush_number g.M.MergeOperator.meant c.self.inside.machine c.step_in.new.machine c.me.inside.number _ _ _ _ _ c.step_in.ensures.step.step.step.is c.step_in.ensures.history c.self.invariant.ids;
-  counted = length-map c.step_in.new.history.items entry_value ∙ c.step_in.ensures.counted;
-}
+invariant_of-self g c =
+    let longer = c.note_and_count.ensures.history ∙ ap (λ es. entry_values es ++ entries_of c.me.inside.number (first_noted c.step_noting-outcome.result.1)) c.step_noting-outcome.ensures.history ∙ ap (λ m. entry_values c.self.inside.history.items ++ entries_of c.me.inside.number m) c.step_noting-outcome.ensures.noted in
+    record {
+      legal = stays_legal g.P.Pages.store g.P.Pages.flush_number g.M.MergeOperator.meant c.self.inside.machine c.step_noting-outcome.new.machine (contents_of c.self.inside.opening.value.items) c.me.inside.number _ _ _ _ _ c.step_noting-outcome.ensures.step.step.step.is longer c.self.invariant.legal;
+      ids = step_risen g.P.Pages.store g.P.Pages.flush_number g.M.MergeOperator.meant c.self.inside.machine c.step_noting-outcome.new.machine c.me.inside.number _ _ _ _ _ c.step_noting-outcome.ensures.step.step.step.is longer c.self.invariant.ids;
+      counted = length-map c.note_and_count.new.history.items entry_value ∙ c.note_and_count.ensures.counted;
+    }
