@@ -1,13 +1,13 @@
 -- What steps note, told by their outcomes alone.
-use Rattle.std.proofs.Common.{◌≡◌, ◌≢◌, ◌∙◌, ℕ, Bool, true, false, cond, List, [], ◌∷◌, ◌++◌, append-nil, Option, Some, None, Result, Ok, Err, IfOk, sym, refl, ap, subst}
-use Rattle.sled_nodes.proofs.Basics.{none_some}
+use Rattle.std.proofs.Common.{◌≡◌, ◌≢◌, ◌∙◌, ℕ, Bool, true, false, cond, List, [], ◌∷◌, ◌++◌, append-nil, Option, Some, None, is_none, Result, Ok, Err, IfOk, sym, refl, ap, subst}
+use Rattle.sled_nodes.proofs.Basics.{none_some, true_false}
 use Rattle.sled_nodes.specs.Order.{Key}
 use Rattle.sled_nodes.specs.declared.error.Error.{Error}
 use Rattle.sled_nodes.specs.Ranges.{Range}
 use Rattle.sled_store.specs.Store.{Store}
 use Rattle.sled_model.specs.Maps.{Maps, Merge}
 use Rattle.sled_model.specs.Answer.{decision_of, effect_of_write, same_value}
-use Rattle.sled_model.specs.State.{State, IsOnKey, range_of}
+use Rattle.sled_model.specs.State.{State, CallInFlight, IsOnKey, range_of}
 use Rattle.sled_model.specs.Transition.{transition_as, Decide}
 use Rattle.sled_model.specs.declared.call.Call.{Call}
 use Rattle.sled_model.specs.declared.call.Call.TheVariants.{Get, Insert, Remove, CompareAndSwap, Merge as Merges, Scan}
@@ -23,6 +23,7 @@ use Rattle.sled_calls.specs.Values.{MachineValue, configuration_of, slots_of}
 use Rattle.sled_shared.specs.Made.{MadeValue, PointMade}
 use Rattle.sled_shared.specs.Notes.{noted_as, noted_in, AddsReply, AddsStep}
 use Rattle.sled_shared.specs.Steps.{SlotStep}
+use Rattle.sled_shared.specs.theory.Noting.{is_on_key_in}
 
 -- the reply of a scan is its end, and of no call on a key
 scan_ends : (merge : Option Merge) (call : Call) (value : Option Key) (r : Range) → range_of call ≡ Some r → (decision_of merge call value).reply ≡ told.End
@@ -90,3 +91,18 @@ step_adds store number meant a b slot o made more s e = go o _ s.step.step.is e
 pub on_key_made : (made : Result Call Error) (call : Call) → IfOk made (λ it. it ≡ call) → IsOnKey call → IfOk made IsOnKey
 on_key_made (Ok it) call e k = subst IsOnKey (sym e) k
 on_key_made (Err x) call e k = tt
+
+-- nothing is noted of a slot that has no call on a key
+not_noted_as : (r : Option Range) (tree : Tree) (call : Call) (reply : Reply) → is_none r ≡ false → [] ≡ noted_as r tree call reply
+not_noted_as None tree call reply e = true_false e
+not_noted_as (Some r) tree call reply e = refl
+
+pub not_noted : (o : Outcome) (slot : Option CallInFlight) → is_on_key_in slot ≡ false → [] ≡ noted_in o slot
+not_noted (outcome.Decided reply) None e = refl
+not_noted (outcome.Decided reply) (Some f) e = not_noted_as (range_of f.call) f.tree f.call reply e
+not_noted outcome.Moved slot e = refl
+not_noted (outcome.Yielded key value) slot e = refl
+not_noted (outcome.Refused x) slot e = refl
+not_noted outcome.NoSuchSlot slot e = refl
+not_noted outcome.Abandoned slot e = refl
+not_noted (outcome.Begun i) slot e = refl

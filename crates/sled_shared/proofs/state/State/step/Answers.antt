@@ -14,13 +14,13 @@ pub returns-clause-history : goal.returns-clause-history
 returns-clause-history g c =
     let longer = c.note_and_count.ensures.history ∙ ap (λ es. entry_values es ++ entries_of c.me.inside.number (first_noted c.step_noting-outcome.result.1)) c.step_noting-outcome.ensures.history ∙ ap (λ m. entry_values c.self.inside.history.items ++ entries_of c.me.inside.number m) c.step_noting-outcome.ensures.noted in
     subst (λ (s : StateValue _ _). entry_values c.note_and_count.new.history.items ≡ s.history ++ entries_of c.args.me.now.number (noted_in c.step_noting-outcome.result.0 (slots_of s.machine.flights c.args.slot))) c.self.view_is
-      (subst (λ (m : CallerValue). entry_values c.note_and_count.new.history.items ≡ entry_values c.self.inside.history.items ++ entries_of m.number (noted_in c.step_noting-outcome.result.0 (slots_of c.self.inside.machine.flights c.args.slot))) c.me.view_is longer)
+    (subst (λ (m : CallerValue). entry_values c.note_and_count.new.history.items ≡ entry_values c.self.inside.history.items ++ entries_of m.number (noted_in c.step_noting-outcome.result.0 (slots_of c.self.inside.machine.flights c.args.slot))) c.me.view_is longer)
 
 pub returns-clause-made : goal.returns-clause-made
 returns-clause-made g c =
     let longer = c.note_and_count.ensures.made ∙ ap (λ ms. made_values ms ++ first_noted c.step_noting-outcome.result.1) c.step_noting-outcome.ensures.made ∙ ap (λ m. made_values c.me.inside.made.items ++ m) c.step_noting-outcome.ensures.noted in
     subst (λ (s : StateValue _ _). made_values c.note_and_count.new.made.items ≡ c.args.me.now.made ++ noted_in c.step_noting-outcome.result.0 (slots_of s.machine.flights c.args.slot)) c.self.view_is
-      (subst (λ (m : CallerValue). made_values c.note_and_count.new.made.items ≡ m.made ++ noted_in c.step_noting-outcome.result.0 (slots_of c.self.inside.machine.flights c.args.slot)) c.me.view_is longer)
+    (subst (λ (m : CallerValue). made_values c.note_and_count.new.made.items ≡ m.made ++ noted_in c.step_noting-outcome.result.0 (slots_of c.self.inside.machine.flights c.args.slot)) c.me.view_is longer)
 
 pub invariant_of-self : goal.invariant_of-self
 invariant_of-self g c =

@@ -19,7 +19,7 @@ returns-clause-whole g c =
       adds_there = c.note_and_count.ensures.made ∙ ap (λ ms. made_values ms ++ first_noted c.whole_noting-outcome.result.1) c.whole_noting-outcome.ensures.made;
     } in
     subst (λ (s : StateValue _ _). NotesWhole g.P.Pages.store g.P.Pages.flush_number g.M.MergeOperator.meant s.machine s.history c.args.me.now.number c.args.me.now.made c.args.whole c.whole_noting-outcome.result.0 c.whole_noting-outcome.new.machine (entry_values c.note_and_count.new.history.items) (made_values c.note_and_count.new.made.items)) c.self.view_is
-      (subst (λ (m : CallerValue). NotesWhole g.P.Pages.store g.P.Pages.flush_number g.M.MergeOperator.meant c.self.inside.machine (entry_values c.self.inside.history.items) m.number m.made c.args.whole c.whole_noting-outcome.result.0 c.whole_noting-outcome.new.machine (entry_values c.note_and_count.new.history.items) (made_values c.note_and_count.new.made.items)) c.me.view_is notes)
+    (subst (λ (m : CallerValue). NotesWhole g.P.Pages.store g.P.Pages.flush_number g.M.MergeOperator.meant c.self.inside.machine (entry_values c.self.inside.history.items) m.number m.made c.args.whole c.whole_noting-outcome.result.0 c.whole_noting-outcome.new.machine (entry_values c.note_and_count.new.history.items) (made_values c.note_and_count.new.made.items)) c.me.view_is notes)
 
 pub invariant_of-self : goal.invariant_of-self
 invariant_of-self g c =
