@@ -1,19 +1,22 @@
 //! The calls of a history, made again on a plain map.
+use crate::beside::Gathered;
 use sled_machine::shared::{Entry, Made};
-use sled_model::{Call, Reply};
+use sled_model::{Call, Collection, Reply, Whole};
 use sled_nodes::{Error, IVec, Result};
 use std::alloc::Global;
 use std::collections::BTreeMap;
 use std::process::Abort;
+use std::sync::ledger::Ledger;
 
 type Plain = BTreeMap<IVec, IVec>;
 
-// A value is put at a key. The value that stood there.
-fn put(map: &mut Plain, key: &IVec, value: &IVec) -> Result<Option<IVec>> {
-    let key = key.clone()?;
-    let value = value.clone()?;
-    match map.insert(key, value) {
-        Ok(old) => Ok(old),
+// Puts a value at a key.
+fn put(map: &mut Plain, key: &IVec, value: &IVec) -> Result<()> {
+    match map.insert(key.clone()?, value.clone()?) {
+        Ok(old) => {
+            drop(old);
+            Ok(())
+        }
         Err(failed) => {
             drop(failed);
             Err(Error::NoMemory)
@@ -21,72 +24,112 @@ fn put(map: &mut Plain, key: &IVec, value: &IVec) -> Result<Option<IVec>> {
     }
 }
 
-// The value at a key.
-fn value_at(map: &Plain, key: &IVec) -> Result<Option<IVec>> {
-    match map.get(key) {
-        Some(value) => Ok(Some(value.clone()?)),
-        None => Ok(None),
+// Puts a value at a key, or takes the key out.
+fn set(map: &mut Plain, key: &IVec, value: &Option<IVec>) -> Result<()> {
+    match value {
+        Some(value) => put(map, key, value),
+        None => {
+            drop(map.remove(key));
+            Ok(())
+        }
     }
 }
 
-// Whether the reply is this value.
-fn tells(reply: &Reply, value: Option<IVec>) -> bool {
-    let same = match reply {
-        Reply::Value(told) => *told == value,
+// Whether this stands at a key.
+fn stands(map: &Plain, key: &IVec, value: &Option<IVec>) -> bool {
+    match (map.get(key), value) {
+        (Some(there), Some(value)) => there == value,
+        (None, None) => true,
         _ => false,
-    };
-    drop(value);
+    }
+}
+
+// Makes the call on the map. Whether it has the reply there; of a merge what its reply tells is written.
+fn makes(map: &mut Plain, call: &Call, reply: &Reply) -> Result<bool> {
+    match (call, reply) {
+        (Call::Get(key), Reply::Value(told)) => Ok(stands(map, key, told)),
+        (Call::Insert(key, value), Reply::Value(told)) => {
+            let same = stands(map, key, told);
+            put(map, key, value)?;
+            Ok(same)
+        }
+        (Call::Remove(key), Reply::Value(told)) => {
+            let same = stands(map, key, told);
+            drop(map.remove(key));
+            Ok(same)
+        }
+        (Call::Merge(key, _), Reply::Value(told)) => {
+            set(map, key, told)?;
+            Ok(true)
+        }
+        (Call::CompareAndSwap(key, old, new), Reply::Swapped(swapped)) => {
+            let same = stands(map, key, old);
+            if same {
+                set(map, key, new)?;
+            }
+            Ok(same == swapped.is_ok())
+        }
+        _ => Ok(false),
+    }
+}
+
+// Takes the first pair out of the map. Whether it is this one.
+fn pops(map: &mut Plain, pair: &Option<(IVec, IVec)>) -> bool {
+    let popped = map.pop_first();
+    let same = popped == *pair;
+    drop(popped);
     same
 }
 
-// What a merge writes is the value that its reply tells.
-fn merge(map: &mut Plain, key: &IVec, reply: &Reply) -> Result<bool> {
-    match reply {
-        Reply::Value(Some(value)) => {
-            let old = put(map, key, value)?;
-            drop(old);
-            Ok(true)
+// Makes the whole call on the map. Whether it has such a reply there.
+fn makes_whole(map: &mut Plain, whole: &Whole, reply: &Reply) -> bool {
+    match (whole, reply) {
+        (Whole::PopMin(_), Reply::Pair(pair)) => pops(map, pair),
+        (Whole::Clear(_), Reply::Done) | (Whole::DropTree(_), Reply::Flag(true)) => {
+            map.clear();
+            true
         }
-        Reply::Value(None) => {
-            let old = map.remove(key);
-            drop(old);
-            Ok(true)
-        }
-        _ => Ok(false),
+        (Whole::GenerateId, Reply::Number(_))
+        | (Whole::Watch(_, _), Reply::Subscriber(_))
+        | (Whole::Next(_), Reply::Done) => true,
+        _ => false,
     }
 }
 
-// Makes the call on the map. Whether it has the reply there. No test swaps.
-fn makes(map: &mut Plain, call: &Call, reply: &Reply) -> Result<bool> {
-    match call {
-        Call::Get(key) => Ok(tells(reply, value_at(map, key)?)),
-        Call::Insert(key, value) => Ok(tells(reply, put(map, key, value)?)),
-        Call::Remove(key) => Ok(tells(reply, map.remove(key))),
-        Call::Merge(key, _) => merge(map, key, reply),
-        _ => Ok(false),
-    }
-}
-
-// The same of what was made. Of whole calls the map makes none.
 fn makes_made(map: &mut Plain, made: &Made) -> Result<bool> {
     match made {
         Made::Point(_, call, reply) => makes(map, call, reply),
-        _ => Ok(false),
+        Made::Whole(whole, reply) => Ok(makes_whole(map, whole, reply)),
+        Made::Parts(_, _) => Ok(false),
     }
 }
 
-// Whether a plain map, empty at first, makes each call of the history with the same reply.
-fn replays(alloc: Global, history: &[Entry]) -> Result<bool> {
-    let mut map = BTreeMap::new(alloc);
-    let mut same = true;
+// Puts the pairs of all collections into the map.
+fn fill(map: &mut Plain, opening: &[Collection]) -> Result<()> {
+    for collection in opening {
+        for (key, value) in &collection.2 {
+            put(map, key, value)?;
+        }
+    }
+    Ok(())
+}
+
+// Whether the map makes each call of the history with the same reply.
+fn replays(map: &mut Plain, opening: &[Collection], history: &[Entry]) -> Result<bool> {
+    fill(map, opening)?;
     for entry in history {
-        same = same && makes_made(&mut map, &entry.made)?;
+        if !makes_made(map, &entry.made)? {
+            return Ok(false);
+        }
     }
-    drop(map);
-    Ok(same)
+    Ok(true)
 }
 
-/// The same, of calls that are all on one tree.
-pub fn are_replayed<R: Abort>(rt: &R, alloc: Global, history: &[Entry]) -> bool {
-    replays(alloc, history).expect(rt, "memory")
+/// Whether a plain map that begins with what the database had when it was shared makes each call of the history with the same reply. All
+/// pairs and calls are of one tree.
+pub fn is_replayed<L: Ledger, R: Abort>(rt: &R, alloc: Global, state: &Gathered<L>) -> bool {
+    let mut map = BTreeMap::new(alloc);
+    let same = replays(&mut map, state.opening(), state.history());
+    drop(map);
+    same.expect(rt, "memory")
 }

@@ -1,103 +1,62 @@
 //! Whole calls of two callers, and the entries of them.
-use crate::beside::{Gathered, Trial, Way, new_database, require, try_out, wait_for_more};
-use sled_machine::shared::{Entry, Made};
-use sled_model::{Outcome, Reply, Tree, Whole};
-use std::alloc::Global;
+use crate::asking::{Ask, Told, ask_all, is_noted, require_made};
+use crate::beside::{EMPTY, Gathered, Scene, Trial, Way, require, try_out, wait_for_more};
+use sled_machine::shared::Entry;
 use std::process::Abort;
 use std::sync::Wait;
-use std::sync::atomic::{AtomicU64, Ordering};
+use std::sync::atomic::Ordering;
 use std::sync::ledger::Ledger;
 
-// The first caller fills this tree and pops from it, and then the second one clears it.
-#[derive(Drop)]
-struct Wholes {
-    tree: Tree,
-    popped: AtomicU64,
-}
-
-impl Wholes {
-    // Two keys, of which the least is popped.
-    fn fill_and_pop<L: Ledger, R: Wait + Abort>(&self, rt: &R, alloc: Global, handle: &mut Way<L>) {
-        let first = handle.insert(rt, alloc, &self.tree, b"a", b"1");
-        drop(first);
-        let second = handle.insert(rt, alloc, &self.tree, b"b", b"2");
-        drop(second);
-        let same = self.tree.clone().expect(rt, "memory");
-        let popped = handle.whole(rt, Whole::PopMin(same));
-        require(
-            rt,
-            matches!(&popped, Outcome::Decided(Reply::Pair(Some(_)))),
-            "a pair is popped",
-        );
-        drop(popped);
+// Whether the history has an entry of this caller that tells this.
+fn has_entry(history: &[Entry], by: u64, told: Told) -> bool {
+    for entry in history {
+        if is_noted(entry, by, told) {
+            return true;
+        }
     }
-
-    // A clear, and an id.
-    fn clear_and_count<L: Ledger, R: Wait + Abort>(&self, rt: &R, handle: &mut Way<L>) {
-        let same = self.tree.clone().expect(rt, "memory");
-        let cleared = handle.whole(rt, Whole::Clear(same));
-        require(
-            rt,
-            matches!(&cleared, Outcome::Decided(Reply::Done)),
-            "the tree is cleared",
-        );
-        drop(cleared);
-        let id = handle.whole(rt, Whole::GenerateId);
-        require(
-            rt,
-            matches!(&id, Outcome::Decided(Reply::Number(_))),
-            "an id is given",
-        );
-        drop(id);
-    }
+    false
 }
 
-fn is_pop(entry: &Entry) -> bool {
-    entry.by == 1
-        && matches!(
-            &entry.made,
-            Made::Whole(Whole::PopMin(_), Reply::Pair(Some(_)))
-        )
-}
-
-fn is_clear(entry: &Entry) -> bool {
-    entry.by == 2 && matches!(&entry.made, Made::Whole(Whole::Clear(_), Reply::Done))
-}
+// The first caller fills the tree with two keys and pops the least of them, and then the second one clears it, and takes an id.
+struct Wholes;
 
 impl Trial for Wholes {
-    fn work<L: Ledger, R: Wait + Abort>(&self, rt: &R, alloc: Global, handle: &mut Way<L>) {
+    fn work<L: Ledger, R: Wait + Abort>(&self, rt: &R, scene: &Scene, handle: &mut Way<L>) {
         if handle.number() == 1 {
-            self.fill_and_pop(rt, alloc, handle);
-            require(rt, handle.made().len() == 3, "three calls");
-            self.popped.store(1, Ordering::SeqCst);
+            let calls = [
+                (Ask::Insert(b"a", b"1"), Told::NoValue),
+                (Ask::Insert(b"b", b"2"), Told::NoValue),
+                (Ask::PopMin, Told::Popped),
+            ];
+            ask_all(rt, scene, handle, &calls);
+            require_made(rt, handle, 3);
+            scene.ready.store(1, Ordering::SeqCst);
         } else {
-            wait_for_more(rt, &self.popped, 0);
-            self.clear_and_count(rt, handle);
-            require(rt, handle.made().len() == 2, "two calls");
+            wait_for_more(rt, &scene.ready, 0);
+            let calls = [(Ask::Clear, Told::Cleared), (Ask::GenerateId, Told::Id)];
+            ask_all(rt, scene, handle, &calls);
+            require_made(rt, handle, 2);
         }
     }
 
     // The pop and the clear are told by their entries.
-    fn check<L: Ledger, R: Abort>(&self, rt: &R, _alloc: Global, state: Gathered<L>) {
-        require(rt, state.history().len() == 5, "all five calls");
-        require(rt, state.history().iter().any(is_pop), "the pop among them");
+    fn check<L: Ledger, R: Abort>(&self, rt: &R, _scene: &Scene, state: &mut Gathered<L>) {
+        let history = state.history();
+        require(rt, history.len() == 5, "all five calls");
         require(
             rt,
-            state.history().iter().any(is_clear),
+            has_entry(history, 1, Told::Popped),
+            "the pop among them",
+        );
+        require(
+            rt,
+            has_entry(history, 2, Told::Cleared),
             "the clear among them",
         );
-        drop(state);
     }
 }
 
 #[test]
 fn whole_calls_are_noted(rt: HostRuntime) {
-    let db = new_database(&rt, rt.alloc());
-    let tree = db.default_tree().expect(&rt, "a tree");
-    let wholes = Wholes {
-        tree,
-        popped: AtomicU64::new(0),
-    };
-    try_out(&rt, rt.alloc(), db, 2, &wholes);
-    drop(wholes);
+    try_out(&rt, rt.alloc(), EMPTY, 2, &Wholes);
 }

@@ -9,19 +9,28 @@ pub type Owned = Db<MemPages>;
 // After so many inserts there is a flush.
 const FLUSH: u64 = 1000;
 
-fn insert(db: &mut Owned, tree: &Tree, pairs: &Pairs, place: u64) -> Option<()> {
-    let old = db.insert(tree, &pairs.key(place), &pairs.value(place, 0));
-    drop(old.ok()?);
-    if place % FLUSH == FLUSH - 1 {
-        db.flush().ok()?;
-    }
-    Some(())
+// Puts the pair at a place into the tree. Whether there was memory for it.
+fn insert(db: &mut Owned, tree: &Tree, pairs: &Pairs, place: u64) -> bool {
+    db.insert(tree, &pairs.key(place), &pairs.value(place, 0)).is_ok()
 }
 
-/// Puts these pairs into the tree.
-pub fn fill(db: &mut Owned, tree: &Tree, pairs: &Pairs) -> Option<()> {
+// Puts these pairs into the tree. Whether there was memory for them.
+fn fill(db: &mut Owned, tree: &Tree, pairs: &Pairs) -> bool {
     for place in 0..pairs.count {
-        insert(db, tree, pairs, place)?;
+        if !insert(db, tree, pairs, place) {
+            return false;
+        }
+        if place % FLUSH == FLUSH - 1 && db.flush().is_err() {
+            return false;
+        }
     }
-    Some(())
+    true
+}
+
+/// Puts these pairs into a tree of the database, which it answers.
+pub fn load(db: &mut Owned, pairs: &Pairs) -> Option<Tree> {
+    match db.default_tree() {
+        Ok(tree) if fill(db, &tree, pairs) => Some(tree),
+        _ => None,
+    }
 }

@@ -17,9 +17,10 @@ mod pairs;
 mod threads;
 mod work;
 
-use loaded::{Owned, fill};
+use loaded::{Owned, load};
 use pairs::Pairs;
 use sled::{Db, empty_pages};
+use sled_model::Tree;
 use std::alloc::Global;
 use std::env;
 use std::marker::Brand;
@@ -53,34 +54,31 @@ fn tell<R: Print + Eprint>(rt: &R, name: &str, told: &Told) -> Option<()> {
     eprintln!(rt; "{name} {time}").ok()
 }
 
-// Puts the pairs into a new database, has the threads make their calls, and tells what came of it.
+// Shares the database among the threads, has them make their calls, and tells what came of it.
 fn measure_on<R: Threads + Wait + Clock + Sync>(
     rt: &R,
     alloc: Global,
-    mut db: Owned,
+    db: Owned,
+    tree: &Tree,
     work: &Work,
 ) -> Option<Told> {
-    let Ok(tree) = db.default_tree() else {
-        drop(db);
-        return None;
-    };
-    if fill(&mut db, &tree, &work.pairs).is_none() {
-        drop(db);
-        drop(tree);
-        return None;
-    }
     let blank = Blank::new(u64::from(work.threads) + 1);
-    let told = run::<Brand, _>(rt, alloc, blank, db, &tree, work);
-    drop(tree);
-    told
+    run::<Brand, _>(rt, alloc, blank, db, tree, work)
 }
 
-// The same, on a database that it opens.
+// Puts the pairs into a new database, and tells what came of the calls of the threads.
 fn measure<R: Threads + Wait + Clock + Sync>(rt: &R, alloc: Global, work: &Work) -> Option<Told> {
-    match Db::open(alloc, empty_pages(alloc), b"threads") {
-        Ok(db) => measure_on(rt, alloc, db, work),
-        Err(refused) => {
-            drop(refused);
+    let Ok(mut db) = Db::open(alloc, empty_pages(alloc), b"threads") else {
+        return None;
+    };
+    match load(&mut db, &work.pairs) {
+        Some(tree) => {
+            let told = measure_on(rt, alloc, db, &tree, work);
+            drop(tree);
+            told
+        }
+        None => {
+            drop(db);
             None
         }
     }

@@ -10,7 +10,7 @@ use sled_model::{Call, Reply, Tree};
 use std::alloc::Global;
 use std::sync::Wait;
 use std::sync::ledger::{Blank, Ledger};
-use std::thread::{Threads, map_vec};
+use std::thread::{Threads, for_each_mut};
 use std::time::{Clock, Duration, Instant};
 
 type Shared<L> = Db<MemPages, L>;
@@ -23,40 +23,37 @@ pub struct Told {
     pub time: Duration,
 }
 
-// Puts a handle for a new caller to the others.
-fn add_handle<L: Ledger>(
-    alloc: Global,
-    shared: &mut Shared<L>,
-    handles: &mut Vec<Way<L>>,
-) -> Option<()> {
-    let handle = shared.handle(alloc).ok()?;
-    handles.push(handle).ok()
-}
-
-// The same for so many callers.
+// Puts a handle for each of so many callers to the others. Whether there was memory for them.
 fn add_handles<L: Ledger>(
     alloc: Global,
     shared: &mut Shared<L>,
     handles: &mut Vec<Way<L>>,
     callers: u8,
-) -> Option<()> {
+) -> bool {
     for _ in 0..callers {
-        add_handle(alloc, shared, handles)?;
+        let Ok(handle) = shared.handle(alloc) else {
+            return false;
+        };
+        if handles.push(handle).is_err() {
+            return false;
+        }
     }
-    Some(())
+    true
 }
 
-// Each handle goes to a thread, which makes its calls, and comes back. Where there is no memory for that none comes back.
+// Each handle goes to a thread, which makes its calls.
 fn side_by_side<L: Ledger + Send + Sync, R: Threads + Wait + Sync>(
     rt: &R,
     alloc: Global,
     tree: &Tree,
     work: &Work,
-    handles: Vec<Way<L>>,
-) -> Vec<Way<L>> {
-    match map_vec(rt, handles, &|handle| work.done(rt, alloc, tree, handle)) {
-        Ok(handles) => handles,
-        Err(_) => Vec::new(alloc),
+    handles: &mut [Way<L>],
+) {
+    let threads = handles.len();
+    if threads > 0 {
+        for_each_mut(rt, handles, threads, &|_, handle| {
+            work.done(rt, alloc, tree, handle)
+        });
     }
 }
 
@@ -86,38 +83,34 @@ fn sum_of(history: &[Entry]) -> u64 {
     sum
 }
 
-// What a state tells, which is let go.
-fn told_by<L: Ledger>(state: State<MemPages, L>, time: Option<Duration>) -> Option<Told> {
-    let history = state.history();
-    let (calls, sum) = (history.len() as u64, sum_of(history));
-    drop(state);
-    let time = time?;
-    Some(Told { calls, sum, time })
-}
-
 // What the history tells, if all handles are back.
 fn gathered<L: Ledger, R: Wait>(
     rt: &R,
     shared: Shared<L>,
     handles: Vec<Way<L>>,
-    time: Option<Duration>,
-) -> Option<Told> {
+) -> Option<(u64, u64)> {
     match shared.gather(rt, handles) {
-        Ok(state) => told_by(state, time),
-        Err((shared, handles)) => {
-            drop(shared);
-            drop(handles);
-            None
+        Ok(state) => {
+            let history = state.history();
+            let told = (history.len() as u64, sum_of(history));
+            drop(state);
+            Some(told)
         }
+        Err(_) => None,
     }
 }
 
-// How long ago this was, where the clock tells it.
-fn time_since<R: Clock>(rt: &R, start: Option<Instant>) -> Option<Duration> {
-    match start {
-        Some(start) => start.elapsed(rt).ok(),
-        None => None,
-    }
+// How long all callers take to work, each by a handle of its own, where the clock tells it.
+fn timed<L: Ledger + Send + Sync, R: Threads + Wait + Clock + Sync>(
+    rt: &R,
+    alloc: Global,
+    tree: &Tree,
+    work: &Work,
+    handles: &mut [Way<L>],
+) -> Option<Duration> {
+    let start = Instant::now(rt).ok();
+    side_by_side(rt, alloc, tree, work, handles);
+    start?.elapsed(rt).ok()
 }
 
 // Has each caller work by a handle of its own, and tells what came of it.
@@ -129,15 +122,16 @@ fn run_shared<L: Ledger + Send + Sync, R: Threads + Wait + Clock + Sync>(
     work: &Work,
 ) -> Option<Told> {
     let mut handles = Vec::new(alloc);
-    if add_handles(alloc, &mut shared, &mut handles, work.threads).is_none() {
-        drop(shared);
-        drop(handles);
-        return None;
+    let time = if add_handles(alloc, &mut shared, &mut handles, work.threads) {
+        timed(rt, alloc, tree, work, handles.as_mut_slice())
+    } else {
+        None
+    };
+    let told = gathered(rt, shared, handles);
+    match (told, time) {
+        (Some((calls, sum)), Some(time)) => Some(Told { calls, sum, time }),
+        _ => None,
     }
-    let start = Instant::now(rt).ok();
-    let handles = side_by_side(rt, alloc, tree, work, handles);
-    let time = time_since(rt, start);
-    gathered(rt, shared, handles, time)
 }
 
 /// Shares a database among threads that work on it, and tells what came of it.
@@ -156,10 +150,6 @@ where
 {
     match Db::new(rt, alloc, db, blank, u64::from(work.threads)) {
         Ok(shared) => run_shared::<L, R>(rt, alloc, shared, tree, work),
-        Err((db, e)) => {
-            drop(db);
-            drop(e);
-            None
-        }
+        Err(_) => None,
     }
 }

@@ -48,18 +48,17 @@ impl Work {
         }
     }
 
-    /// Makes all calls of a caller, in a thread. Its handle comes back.
+    /// Makes all calls of a caller, in a thread.
     pub fn done<L: Ledger, R: Wait>(
         &self,
         rt: &R,
         alloc: Global,
         tree: &Tree,
-        mut handle: Way<L>,
-    ) -> Way<L> {
+        handle: &mut Way<L>,
+    ) {
         for turn in 0..self.calls {
             let choice = self.pairs.choice(handle.number(), turn);
-            drop(self.call(rt, alloc, tree, &mut handle, choice));
+            drop(self.call(rt, alloc, tree, handle, choice));
         }
-        handle
     }
 }

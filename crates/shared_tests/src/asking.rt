@@ -1,0 +1,179 @@
+//! Calls of a caller, and what came of them, boiled down to small values.
+use crate::beside::{Scene, Way, require};
+use sled_machine::shared::{Entry, Made};
+use sled_model::{Next, Outcome, Reply, Subscriber, Whole};
+use sled_nodes::{Error, IVec};
+use std::process::Abort;
+use std::sync::Wait;
+use std::sync::ledger::Ledger;
+
+/// A call on the tree of a scene.
+#[derive(Clone, Copy)]
+pub enum Ask<'a> {
+    Get(&'a [u8]),
+    Insert(&'a [u8], &'a [u8]),
+    Remove(&'a [u8]),
+    Merge(&'a [u8], &'a [u8]),
+    Swap(&'a [u8], &'a [u8], &'a [u8]),
+    PopMin,
+    Clear,
+    DropTree,
+    GenerateId,
+    Watch,
+    Next(u64),
+}
+
+/// What came of a call.
+#[derive(Clone, Copy, PartialEq, Eq)]
+pub enum Told {
+    /// The value, as a number.
+    Value(u64),
+    NoValue,
+    Swapped,
+    Conflict,
+    Popped,
+    Cleared,
+    Dropped,
+    Id,
+    Subscriber(u64),
+    /// An insert at the key that is this number.
+    Event(u64),
+    /// So many events that were missed.
+    Missed(u64),
+    Moved,
+    Abandoned,
+    NoSuchSlot,
+    NoSuchTree,
+    /// Nothing, or something else.
+    Other,
+}
+
+// The number of these bytes, the highest first. Of more than eight the last ones count.
+fn number_of(bytes: &[u8]) -> u64 {
+    let mut number = 0u64;
+    for byte in bytes {
+        number = number << 8 | u64::from(*byte);
+    }
+    number
+}
+
+fn next_told(next: &Next) -> Told {
+    match next {
+        Next::Event(sled_model::Event::Insert { key, .. }) => Told::Event(number_of(key.as_ref())),
+        Next::Event(_) => Told::Other,
+        Next::Missed(count) => Told::Missed(*count),
+    }
+}
+
+fn reply_told(reply: &Reply) -> Told {
+    match reply {
+        Reply::Value(Some(value)) => Told::Value(number_of(value.as_ref())),
+        Reply::Value(None) => Told::NoValue,
+        Reply::Swapped(Ok(())) => Told::Swapped,
+        Reply::Swapped(Err(_)) => Told::Conflict,
+        Reply::Pair(Some(_)) => Told::Popped,
+        Reply::Done => Told::Cleared,
+        Reply::Flag(true) => Told::Dropped,
+        Reply::Number(_) => Told::Id,
+        Reply::Subscriber(subscriber) => Told::Subscriber(subscriber.0),
+        Reply::Next(Some(next)) => next_told(next),
+        _ => Told::Other,
+    }
+}
+
+/// What an outcome tells, which is let go.
+pub fn outcome_told(outcome: Outcome) -> Told {
+    let told = match &outcome {
+        Outcome::Decided(reply) => reply_told(reply),
+        Outcome::Refused(Error::CollectionNotFound(_)) => Told::NoSuchTree,
+        Outcome::Moved => Told::Moved,
+        Outcome::Abandoned => Told::Abandoned,
+        Outcome::NoSuchSlot => Told::NoSuchSlot,
+        _ => Told::Other,
+    };
+    drop(outcome);
+    told
+}
+
+// What an entry tells of the call that was made.
+fn noted(made: &Made) -> Told {
+    match made {
+        Made::Point(_, _, reply) => reply_told(reply),
+        Made::Whole(Whole::PopMin(_), Reply::Pair(Some(_))) => Told::Popped,
+        Made::Whole(Whole::Clear(_), Reply::Done) => Told::Cleared,
+        Made::Whole(Whole::DropTree(_), Reply::Flag(true)) => Told::Dropped,
+        _ => Told::Other,
+    }
+}
+
+/// Whether the entry is of this caller, and tells this.
+pub fn is_noted(entry: &Entry, by: u64, told: Told) -> bool {
+    entry.by == by && noted(&entry.made) == told
+}
+
+// The whole call that is asked for.
+fn whole_of<R: Abort>(rt: &R, scene: &Scene, ask: Ask<'_>) -> Whole {
+    if let Ask::Next(number) = ask {
+        return Whole::Next(Subscriber(number));
+    }
+    if let Ask::DropTree = ask {
+        return Whole::DropTree(scene.tree.name.clone().expect(rt, "memory"));
+    }
+    let tree = scene.tree.clone().expect(rt, "memory");
+    match ask {
+        Ask::PopMin => Whole::PopMin(tree),
+        Ask::Clear => Whole::Clear(tree),
+        Ask::Watch => Whole::Watch(tree, IVec::from_slice(scene.alloc, b"").expect(rt, "memory")),
+        _ => {
+            drop(tree);
+            Whole::GenerateId
+        }
+    }
+}
+
+// Makes the call. How it came out.
+fn outcome_of<L: Ledger, R: Wait + Abort>(
+    rt: &R,
+    scene: &Scene,
+    handle: &mut Way<L>,
+    ask: Ask<'_>,
+) -> Outcome {
+    let (alloc, tree) = (scene.alloc, &scene.tree);
+    match ask {
+        Ask::Get(key) => handle.get(rt, alloc, tree, key),
+        Ask::Insert(key, value) => handle.insert(rt, alloc, tree, key, value),
+        Ask::Remove(key) => handle.remove(rt, alloc, tree, key),
+        Ask::Merge(key, bytes) => handle.merge(rt, alloc, tree, key, bytes),
+        Ask::Swap(key, old, new) => {
+            handle.compare_and_swap(rt, alloc, tree, key, Some(old), Some(new))
+        }
+        _ => handle.whole(rt, whole_of(rt, scene, ask)),
+    }
+}
+
+/// Makes the call. What came of it.
+pub fn asked<L: Ledger, R: Wait + Abort>(
+    rt: &R,
+    scene: &Scene,
+    handle: &mut Way<L>,
+    ask: Ask<'_>,
+) -> Told {
+    outcome_told(outcome_of(rt, scene, handle, ask))
+}
+
+/// Makes the calls, of which this has to come, and has made so many then.
+pub fn ask_all<L: Ledger, R: Wait + Abort>(
+    rt: &R,
+    scene: &Scene,
+    handle: &mut Way<L>,
+    calls: &[(Ask<'_>, Told)],
+) {
+    for (ask, wanted) in calls {
+        require(rt, asked(rt, scene, handle, *ask) == *wanted, "what the call is to tell");
+    }
+}
+
+/// A caller has made so many calls, as it can tell itself.
+pub fn require_made<L: Ledger, R: Abort>(rt: &R, handle: &Way<L>, count: usize) {
+    require(rt, handle.made().len() == count, "its own calls");
+}
