@@ -2,7 +2,7 @@
 use crate::beside::Gathered;
 use sled_machine::shared::{Entry, Made};
 use sled_model::{Call, Collection, Reply, Whole};
-use sled_nodes::{Error, IVec, Result};
+use sled_nodes::IVec;
 use std::alloc::Global;
 use std::collections::BTreeMap;
 use std::process::Abort;
@@ -11,27 +11,20 @@ use std::sync::ledger::Ledger;
 type Plain = BTreeMap<IVec, IVec>;
 
 // Puts a value at a key.
-fn put(map: &mut Plain, key: &IVec, value: &IVec) -> Result<()> {
-    match map.insert(key.clone()?, value.clone()?) {
-        Ok(old) => {
-            drop(old);
-            Ok(())
-        }
-        Err(failed) => {
-            drop(failed);
-            Err(Error::NoMemory)
-        }
+fn put<R: Abort>(rt: &R, map: &mut Plain, key: &IVec, value: &IVec) {
+    let key = key.clone().expect(rt, "memory");
+    let value = value.clone().expect(rt, "memory");
+    match map.insert(key, value) {
+        Ok(old) => drop(old),
+        Err(_) => panic!(rt; "memory"),
     }
 }
 
 // Puts a value at a key, or takes the key out.
-fn set(map: &mut Plain, key: &IVec, value: &Option<IVec>) -> Result<()> {
+fn set<R: Abort>(rt: &R, map: &mut Plain, key: &IVec, value: &Option<IVec>) {
     match value {
-        Some(value) => put(map, key, value),
-        None => {
-            drop(map.remove(key));
-            Ok(())
-        }
+        Some(value) => put(rt, map, key, value),
+        None => drop(map.remove(key)),
     }
 }
 
@@ -44,32 +37,48 @@ fn stands(map: &Plain, key: &IVec, value: &Option<IVec>) -> bool {
     }
 }
 
-// Makes the call on the map. Whether it has the reply there; of a merge what its reply tells is written.
-fn makes(map: &mut Plain, call: &Call, reply: &Reply) -> Result<bool> {
-    match (call, reply) {
-        (Call::Get(key), Reply::Value(told)) => Ok(stands(map, key, told)),
-        (Call::Insert(key, value), Reply::Value(told)) => {
+// Makes the call on the map, where this stands at its key and its reply is this value. Of a merge what the reply tells is written.
+fn writes<R: Abort>(rt: &R, map: &mut Plain, call: &Call, told: &Option<IVec>) -> bool {
+    match call {
+        Call::Get(key) => stands(map, key, told),
+        Call::Insert(key, value) => {
             let same = stands(map, key, told);
-            put(map, key, value)?;
-            Ok(same)
+            put(rt, map, key, value);
+            same
         }
-        (Call::Remove(key), Reply::Value(told)) => {
+        Call::Remove(key) => {
             let same = stands(map, key, told);
             drop(map.remove(key));
-            Ok(same)
+            same
         }
-        (Call::Merge(key, _), Reply::Value(told)) => {
-            set(map, key, told)?;
-            Ok(true)
+        Call::Merge(key, _) => {
+            set(rt, map, key, told);
+            true
         }
-        (Call::CompareAndSwap(key, old, new), Reply::Swapped(swapped)) => {
+        _ => false,
+    }
+}
+
+// The same of a swap, which was made or not.
+fn swaps<R: Abort>(rt: &R, map: &mut Plain, call: &Call, swapped: bool) -> bool {
+    match call {
+        Call::CompareAndSwap(key, old, new) => {
             let same = stands(map, key, old);
             if same {
-                set(map, key, new)?;
+                set(rt, map, key, new);
             }
-            Ok(same == swapped.is_ok())
+            same == swapped
         }
-        _ => Ok(false),
+        _ => false,
+    }
+}
+
+// Makes the call on the map. Whether it has the reply there.
+fn makes<R: Abort>(rt: &R, map: &mut Plain, call: &Call, reply: &Reply) -> bool {
+    match reply {
+        Reply::Value(told) => writes(rt, map, call, told),
+        Reply::Swapped(swapped) => swaps(rt, map, call, swapped.is_ok()),
+        _ => false,
     }
 }
 
@@ -96,40 +105,39 @@ fn makes_whole(map: &mut Plain, whole: &Whole, reply: &Reply) -> bool {
     }
 }
 
-fn makes_made(map: &mut Plain, made: &Made) -> Result<bool> {
+fn makes_made<R: Abort>(rt: &R, map: &mut Plain, made: &Made) -> bool {
     match made {
-        Made::Point(_, call, reply) => makes(map, call, reply),
-        Made::Whole(whole, reply) => Ok(makes_whole(map, whole, reply)),
-        Made::Parts(_, _) => Ok(false),
+        Made::Point(_, call, reply) => makes(rt, map, call, reply),
+        Made::Whole(whole, reply) => makes_whole(map, whole, reply),
+        Made::Parts(_, _) => false,
     }
 }
 
 // Puts the pairs of all collections into the map.
-fn fill(map: &mut Plain, opening: &[Collection]) -> Result<()> {
+fn fill<R: Abort>(rt: &R, map: &mut Plain, opening: &[Collection]) {
     for collection in opening {
-        for (key, value) in &collection.2 {
-            put(map, key, value)?;
+        for pair in &collection.2 {
+            put(rt, map, &pair.0, &pair.1);
         }
     }
-    Ok(())
 }
 
 // Whether the map makes each call of the history with the same reply.
-fn replays(map: &mut Plain, opening: &[Collection], history: &[Entry]) -> Result<bool> {
-    fill(map, opening)?;
+fn replays<R: Abort>(rt: &R, map: &mut Plain, history: &[Entry]) -> bool {
     for entry in history {
-        if !makes_made(map, &entry.made)? {
-            return Ok(false);
+        if !makes_made(rt, map, &entry.made) {
+            return false;
         }
     }
-    Ok(true)
+    true
 }
 
 /// Whether a plain map that begins with what the database had when it was shared makes each call of the history with the same reply. All
 /// pairs and calls are of one tree.
 pub fn is_replayed<L: Ledger, R: Abort>(rt: &R, alloc: Global, state: &Gathered<L>) -> bool {
     let mut map = BTreeMap::new(alloc);
-    let same = replays(&mut map, state.opening(), state.history());
+    fill(rt, &mut map, state.opening());
+    let same = replays(rt, &mut map, state.history());
     drop(map);
-    same.expect(rt, "memory")
+    same
 }

@@ -29,8 +29,13 @@ fn fill(db: &mut Owned, tree: &Tree, pairs: &Pairs) -> bool {
 
 /// Puts these pairs into a tree of the database, which it answers.
 pub fn load(db: &mut Owned, pairs: &Pairs) -> Option<Tree> {
-    match db.default_tree() {
-        Ok(tree) if fill(db, &tree, pairs) => Some(tree),
-        _ => None,
+    let Ok(tree) = db.default_tree() else {
+        return None;
+    };
+    if fill(db, &tree, pairs) {
+        Some(tree)
+    } else {
+        drop(tree);
+        None
     }
 }

@@ -35,17 +35,15 @@ use work::{Work, inserts_in};
 // What the words ask for, with no inserts as yet.
 fn read_words(words: &[String; 4]) -> Option<Work> {
     let [pairs, calls, seed, threads] = words;
-    let count = pairs.parse::<u64>().ok()?;
-    if count == 0 {
-        return None;
+    match (pairs.parse(), calls.parse(), seed.parse(), threads.parse()) {
+        (Ok(count), Ok(calls), Ok(seed), Ok(threads)) if count > 0 => Some(Work {
+            pairs: Pairs { seed, count },
+            calls,
+            threads,
+            inserts: 0,
+        }),
+        _ => None,
     }
-    let seed = seed.parse::<u64>().ok()?;
-    Some(Work {
-        pairs: Pairs { seed, count },
-        calls: calls.parse::<u64>().ok()?,
-        threads: threads.parse::<u8>().ok()?,
-        inserts: 0,
-    })
 }
 
 fn tell<R: Print + Eprint>(rt: &R, name: &str, told: &Told) -> Option<()> {
