@@ -9,18 +9,24 @@ pub type Owned = Db<MemPages>;
 // After so many inserts there is a flush.
 const FLUSH: u64 = 1000;
 
+/// Whether this came out well. It is let go.
+pub fn is_done<T: Drop, E: Drop>(came: Result<T, E>) -> bool {
+    let done = came.is_ok();
+    drop(came);
+    done
+}
+
 // Puts the pair at a place into the tree. Whether there was memory for it.
 fn insert(db: &mut Owned, tree: &Tree, pairs: &Pairs, place: u64) -> bool {
-    db.insert(tree, &pairs.key(place), &pairs.value(place, 0)).is_ok()
+    let (key, value) = (pairs.key(place), pairs.value(place, 0));
+    is_done(db.insert(tree, &key, &value))
 }
 
 // Puts these pairs into the tree. Whether there was memory for them.
 fn fill(db: &mut Owned, tree: &Tree, pairs: &Pairs) -> bool {
     for place in 0..pairs.count {
-        if !insert(db, tree, pairs, place) {
-            return false;
-        }
-        if place % FLUSH == FLUSH - 1 && db.flush().is_err() {
+        let done = insert(db, tree, pairs, place);
+        if !done || place % FLUSH == FLUSH - 1 && !is_done(db.flush()) {
             return false;
         }
     }

@@ -17,10 +17,9 @@ mod pairs;
 mod threads;
 mod work;
 
-use loaded::{Owned, load};
+use loaded::{Owned, is_done, load};
 use pairs::Pairs;
 use sled::{Db, empty_pages};
-use sled_model::Tree;
 use std::alloc::Global;
 use std::env;
 use std::marker::Brand;
@@ -46,65 +45,84 @@ fn read_words(words: &[String; 4]) -> Option<Work> {
     }
 }
 
-fn tell<R: Print + Eprint>(rt: &R, name: &str, told: &Told) -> Option<()> {
+// Whether it could be printed.
+fn tell<R: Print + Eprint>(rt: &R, name: &str, told: &Told) -> bool {
     let (calls, sum, time) = (told.calls, told.sum, told.time.as_micros());
-    println!(rt; "{name} {calls} {sum:016x}").ok()?;
-    eprintln!(rt; "{name} {time}").ok()
+    is_done(println!(rt; "{name} {calls} {sum:016x}")) && is_done(eprintln!(rt; "{name} {time}"))
 }
 
-// Shares the database among the threads, has them make their calls, and tells what came of it.
+// Shares a database among the threads, once it has the pairs, and tells what came of their calls.
 fn measure_on<R: Threads + Wait + Clock + Sync>(
     rt: &R,
     alloc: Global,
-    db: Owned,
-    tree: &Tree,
+    mut db: Owned,
     work: &Work,
 ) -> Option<Told> {
-    let blank = Blank::new(u64::from(work.threads) + 1);
-    run::<Brand, _>(rt, alloc, blank, db, tree, work)
-}
-
-// Puts the pairs into a new database, and tells what came of the calls of the threads.
-fn measure<R: Threads + Wait + Clock + Sync>(rt: &R, alloc: Global, work: &Work) -> Option<Told> {
-    let Ok(mut db) = Db::open(alloc, empty_pages(alloc), b"threads") else {
+    let Some(tree) = load(&mut db, &work.pairs) else {
+        drop(db);
         return None;
     };
-    match load(&mut db, &work.pairs) {
-        Some(tree) => {
-            let told = measure_on(rt, alloc, db, &tree, work);
-            drop(tree);
-            told
-        }
-        None => {
-            drop(db);
+    let blank = Blank::new(u64::from(work.threads) + 1);
+    let told = run::<Brand, _>(rt, alloc, blank, db, &tree, work);
+    drop(tree);
+    told
+}
+
+// The same, on a new database.
+fn measure<R: Threads + Wait + Clock + Sync>(rt: &R, alloc: Global, work: &Work) -> Option<Told> {
+    match Db::open(alloc, empty_pages(alloc), b"threads") {
+        Ok(db) => measure_on(rt, alloc, db, work),
+        Err(refused) => {
+            drop(refused);
             None
         }
     }
 }
 
-// Measures the workload of a name, and prints what it came to.
+// Measures the workload of a name, and prints what it came to. Whether all that went well.
 fn measure_named<R: Threads + Wait + Clock + Print + Eprint + Sync>(
     rt: &R,
     alloc: Global,
     work: &Work,
     name: &str,
-) -> Option<()> {
-    let inserts = inserts_in(name)?;
+) -> bool {
+    let Some(inserts) = inserts_in(name) else {
+        return false;
+    };
     let work = Work { inserts, ..*work };
-    tell(rt, name, &measure(rt, alloc, &work)?)
+    match measure(rt, alloc, &work) {
+        Some(told) => tell(rt, name, &told),
+        None => false,
+    }
 }
 
 fn measure_all<R: Threads + Wait + Clock + Print + Eprint + Sync>(
     rt: &R,
     alloc: Global,
-    words: &[String],
-) -> Option<()> {
-    let (first, names) = words.split_first_chunk::<4>()?;
-    let work = read_words(first)?;
+    work: &Work,
+    names: &[String],
+) -> bool {
     for name in names {
-        measure_named(rt, alloc, &work, name.as_str())?;
+        if !measure_named(rt, alloc, work, name.as_str()) {
+            return false;
+        }
     }
-    Some(())
+    true
+}
+
+// Measures what the words ask for.
+fn run_words<R: Threads + Wait + Clock + Print + Eprint + Sync>(
+    rt: &R,
+    alloc: Global,
+    words: &[String],
+) -> bool {
+    let Some((first, names)) = words.split_first_chunk::<4>() else {
+        return false;
+    };
+    match read_words(first) {
+        Some(work) => measure_all(rt, alloc, &work, names),
+        None => false,
+    }
 }
 
 fn words(rt: &HostRuntime) -> Option<Vec<String>> {
@@ -115,8 +133,6 @@ fn main(rt: HostRuntime) -> ExitCode {
     let Some(words) = words(&rt) else {
         return ExitCode::from(1);
     };
-    match measure_all(&rt, rt.alloc(), words.as_slice()) {
-        Some(()) => ExitCode::from(0),
-        None => ExitCode::from(1),
-    }
+    let done = run_words(&rt, rt.alloc(), words.as_slice());
+    ExitCode::from(u8::from(!done))
 }

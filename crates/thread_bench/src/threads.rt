@@ -1,7 +1,7 @@
 //! A database that threads share while they work, and what comes of it.
 ghost use Rattle.std.specs.Prelude.{◌≡◌, ◌+◌};
 
-use crate::loaded::Owned;
+use crate::loaded::{Owned, is_done};
 use crate::pairs::{NO_MARK, mark_of};
 use crate::work::{Way, Work};
 use sled::MemPages;
@@ -23,7 +23,19 @@ pub struct Told {
     pub time: Duration,
 }
 
-// Puts a handle for each of so many callers to the others. Whether there was memory for them.
+// Puts a handle for a new caller to the others. Whether there was memory for it.
+fn add_handle<L: Ledger>(
+    alloc: Global,
+    shared: &mut Shared<L>,
+    handles: &mut Vec<Way<L>>,
+) -> bool {
+    match shared.handle(alloc) {
+        Ok(handle) => is_done(handles.push(handle)),
+        Err(_) => false,
+    }
+}
+
+// The same for each of so many callers.
 fn add_handles<L: Ledger>(
     alloc: Global,
     shared: &mut Shared<L>,
@@ -31,10 +43,7 @@ fn add_handles<L: Ledger>(
     callers: u8,
 ) -> bool {
     for _ in 0..callers {
-        let Ok(handle) = shared.handle(alloc) else {
-            return false;
-        };
-        if handles.push(handle).is_err() {
+        if !add_handle(alloc, shared, handles) {
             return false;
         }
     }
@@ -96,7 +105,10 @@ fn gathered<L: Ledger, R: Wait>(
             drop(state);
             Some(told)
         }
-        Err(_) => None,
+        Err(given_back) => {
+            drop(given_back);
+            None
+        }
     }
 }
 
@@ -150,6 +162,9 @@ where
 {
     match Db::new(rt, alloc, db, blank, u64::from(work.threads)) {
         Ok(shared) => run_shared::<L, R>(rt, alloc, shared, tree, work),
-        Err(_) => None,
+        Err(refused) => {
+            drop(refused);
+            None
+        }
     }
 }
