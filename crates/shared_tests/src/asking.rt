@@ -123,7 +123,10 @@ fn whole_of<R: Abort>(rt: &R, scene: &Scene, ask: Ask<'_>) -> Whole {
     match ask {
         Ask::PopMin => Whole::PopMin(tree),
         Ask::Clear => Whole::Clear(tree),
-        Ask::Watch => Whole::Watch(tree, IVec::from_slice(scene.alloc, b"").expect(rt, "memory")),
+        Ask::Watch => Whole::Watch(
+            tree,
+            IVec::from_slice(scene.alloc, b"").expect(rt, "memory"),
+        ),
         _ => {
             drop(tree);
             Whole::GenerateId
@@ -169,7 +172,11 @@ pub fn ask_all<L: Ledger, R: Wait + Abort>(
     calls: &[(Ask<'_>, Told)],
 ) {
     for (ask, wanted) in calls {
-        require(rt, asked(rt, scene, handle, *ask) == *wanted, "what the call is to tell");
+        require(
+            rt,
+            asked(rt, scene, handle, *ask) == *wanted,
+            "what the call is to tell",
+        );
     }
 }
 

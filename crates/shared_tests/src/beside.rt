@@ -4,8 +4,7 @@ ghost use Rattle.std.specs.Prelude.{◌≡◌, ◌+◌, ◌<◌};
 use crate::replay::is_replayed;
 use examples::Adds;
 use sled::{Db, MemPages, empty_pages};
-use sled_machine::Machine;
-use sled_machine::shared;
+use sled_machine::{Machine, shared};
 use sled_model::{Slot, Tree};
 use std::alloc::Global;
 use std::marker::Brand;
@@ -182,9 +181,12 @@ fn work_beside<L: Ledger + Send + Sync, R: Threads + Wait + Abort + Sync, T: Tri
 ) {
     let threads = handles.len();
     if threads > 0 {
-        for_each_mut(rt, handles, threads, &|_, handle| {
-            trial.work(rt, scene, handle)
-        });
+        for_each_mut(
+            rt,
+            handles,
+            threads,
+            &|_, handle| { trial.work(rt, scene, handle) },
+        );
     }
 }
 

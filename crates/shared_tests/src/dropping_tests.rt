@@ -62,6 +62,9 @@ impl Trial for Dropping {
 
 #[test]
 fn an_insert_finds_its_tree_dropped(rt: HostRuntime) {
-    let start = Start { name: b"t", ..EMPTY };
+    let start = Start {
+        name: b"t",
+        ..EMPTY
+    };
     try_out(&rt, rt.alloc(), start, 2, &Dropping);
 }

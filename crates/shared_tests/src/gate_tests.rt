@@ -1,6 +1,8 @@
 //! Two threads at one key: the second makes its call while the first stands between two steps, with the lock free.
 use crate::asking::{Ask, Told, ask_all, outcome_told, require_made};
-use crate::beside::{EMPTY, Gathered, Scene, Trial, Way, more_seen, require, try_out, wait_for_more};
+use crate::beside::{
+    EMPTY, Gathered, Scene, Trial, Way, more_seen, require, try_out, wait_for_more,
+};
 use sled_machine::shared::Gate;
 use sled_model::Call;
 use std::process::Abort;
@@ -39,7 +41,12 @@ fn make_first<L: Ledger, R: Wait + Abort>(rt: &R, scene: &Scene, handle: &mut Wa
 // The second thread makes two, the last one when all else is done.
 fn make_second<L: Ledger, R: Wait + Abort>(rt: &R, scene: &Scene, handle: &mut Way<L>) {
     wait_for_more(rt, &scene.ready, 0);
-    ask_all(rt, scene, handle, &[(Ask::Insert(b"a", &[2]), Told::NoValue)]);
+    ask_all(
+        rt,
+        scene,
+        handle,
+        &[(Ask::Insert(b"a", &[2]), Told::NoValue)],
+    );
     scene.answered.store(1, Ordering::SeqCst);
     wait_for_more(rt, &scene.ended, 0);
     ask_all(rt, scene, handle, &[(Ask::Get(b"a"), Told::Value(1))]);

@@ -22,7 +22,12 @@ struct Inserting;
 impl Trial for Inserting {
     fn work<L: Ledger, R: Wait + Abort>(&self, rt: &R, scene: &Scene, handle: &mut Way<L>) {
         let key = handle.number().to_be_bytes();
-        ask_all(rt, scene, handle, &[(Ask::Insert(&key, b"1"), Told::NoValue)]);
+        ask_all(
+            rt,
+            scene,
+            handle,
+            &[(Ask::Insert(&key, b"1"), Told::NoValue)],
+        );
         require(rt, is_insert(handle.made(), &key), "its own insert");
     }
 

@@ -24,12 +24,7 @@ pub fn watch<L: Ledger, R: Wait + Abort>(rt: &R, scene: &Scene, handle: &mut Way
 }
 
 // Sets the value at one key to one number after the other.
-fn insert_all<L: Ledger, R: Wait + Abort>(
-    rt: &R,
-    scene: &Scene,
-    handle: &mut Way<L>,
-    key: &[u8],
-) {
+fn insert_all<L: Ledger, R: Wait + Abort>(rt: &R, scene: &Scene, handle: &mut Way<L>, key: &[u8]) {
     for number in 0..TIMES {
         let value = number.to_be_bytes();
         match asked(rt, scene, handle, Ask::Insert(key, &value)) {

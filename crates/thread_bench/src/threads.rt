@@ -24,11 +24,7 @@ pub struct Told {
 }
 
 // Puts a handle for a new caller to the others. Whether there was memory for it.
-fn add_handle<L: Ledger>(
-    alloc: Global,
-    shared: &mut Shared<L>,
-    handles: &mut Vec<Way<L>>,
-) -> bool {
+fn add_handle<L: Ledger>(alloc: Global, shared: &mut Shared<L>, handles: &mut Vec<Way<L>>) -> bool {
     match shared.handle(alloc) {
         Ok(handle) => is_done(handles.push(handle)),
         Err(_) => false,
@@ -60,9 +56,12 @@ fn side_by_side<L: Ledger + Send + Sync, R: Threads + Wait + Sync>(
 ) {
     let threads = handles.len();
     if threads > 0 {
-        for_each_mut(rt, handles, threads, &|_, handle| {
-            work.done(rt, alloc, tree, handle)
-        });
+        for_each_mut(
+            rt,
+            handles,
+            threads,
+            &|_, handle| { work.done(rt, alloc, tree, handle) },
+        );
     }
 }
 
