@@ -56,6 +56,13 @@ pub fn require<R: Abort>(rt: &R, holds: bool, what: &str) {
     assert!(rt; holds, "{what}");
 }
 
+// Whether this came out well. It is let go.
+fn is_done<T: Drop, E: Drop>(came: Result<T, E>) -> bool {
+    let done = came.is_ok();
+    drop(came);
+    done
+}
+
 // So often a number is looked at: for some ten seconds and more, since on a busy machine the other thread may have to wait for its turn.
 const LOOKS: u64 = 10_000_000_000;
 
@@ -151,7 +158,7 @@ fn add_handle<L: Ledger, R: Abort>(
     match shared.handle(alloc) {
         Ok(handle) => {
             require(rt, handle.number() == number, "the next number");
-            require(rt, handles.push(handle).is_ok(), "memory");
+            require(rt, is_done(handles.push(handle)), "memory");
         }
         Err(_) => panic!(rt; "no handle"),
     }
@@ -168,7 +175,7 @@ fn handles_of<L: Ledger, R: Abort>(
     for number in 1..=callers {
         add_handle(rt, alloc, shared, &mut handles, number);
     }
-    require(rt, shared.handle(alloc).is_err(), "no caller more");
+    require(rt, !is_done(shared.handle(alloc)), "no caller more");
     handles
 }
 
@@ -226,7 +233,7 @@ fn gathered_late<L: Ledger, R: Wait + Abort>(
     };
     let (shared, handles) = not_gathered(rt, shared, handles);
     let mut handles = handles;
-    require(rt, handles.insert(0, last).is_ok(), "memory");
+    require(rt, is_done(handles.insert(0, last)), "memory");
     gathered(rt, shared, handles)
 }
 

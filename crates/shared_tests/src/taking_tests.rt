@@ -44,7 +44,7 @@ fn take_all<L: Ledger, R: Wait + Abort>(
                 sum = sum.wrapping_add(1);
             }
             Told::Missed(count) => sum = sum.wrapping_add(count),
-            _ => panic!(rt; "nothing is told of {sum}"),
+            _ => panic!(rt; "nothing is told"),
         }
     }
     sum
