@@ -6,7 +6,7 @@
 //!
 //! A write is linked at the leaf that the read of its key found, where nothing is to be repaired there; else it is made by the steps of a
 //! call in flight, repairs included. Of several writes in one leaf the others read it again, since the first changes it. The keys of a
-//! batch ascend, so the read of each begins where that of the one before it went down last, if its leaf lies there too.
+//! batch ascend, so the read of each begins below the last index of the way of the one before it under which its key lies.
 ghost use Rattle.std.specs.Prelude.{◌≡◌, false, IfOk, IfErr, OnOk, OnErr, [], ◌∷◌, Some, None, ◌++◌};
 ghost use Rattle.std.specs.FinMap.Entries.{find};
 ghost use Rattle.sled_nodes.specs.Order.{key_cmp};
@@ -154,7 +154,8 @@ impl<P: Pages, M: MergeOperator> Db<P, M> {
         Ok(())
     }
 
-    // The leaf of a key, and whether the value that the key is to have stands there. The walk begins below the way of the one before it, and leaves its own.
+    // The leaf of a key, and whether the value that the key is to have stands there. The walk begins below the last index of this way under
+    // which the key lies, and leaves its own.
     fn read_key(
         &self,
         root: Pid,
@@ -208,7 +209,7 @@ impl<P: Pages, M: MergeOperator> Db<P, M> {
         stands
     }
 
-    // Adds the write of a key, where it changes something. The walk to its leaf begins below the way of the one before it.
+    // Adds the write of a key, where it changes something. The walk to its leaf begins on the way of the one before it.
     fn add_change<'a>(
         &self,
         before: &[(Tree, Batch)],

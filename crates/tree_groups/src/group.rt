@@ -88,8 +88,9 @@ fn write_key<P: Pages>(
 }
 
 /// Makes a group of writes: begins it, makes the writes, one after the other, and seals it. Where there is none it does nothing. A group
-/// that is refused after it began stays open, and a crash leaves nothing of it. A write for which its leaf was read is made there, where
-/// no other write of the group changed the leaf before it.
+/// that is refused after it began stays open, and a crash leaves nothing of it. A write that names its leaf is linked there, and where
+/// another write of the group changed the leaf before, it is read again. The leaf is to be the one that the call of the write would have
+/// read; else nothing is said of the contents.
 ///
 /// ```
 /// let mut writes = Vec::new(alloc);

@@ -13,7 +13,8 @@ use sled_tree::lies_under;
 use std::alloc::Global;
 use std::ops::Bound;
 
-/// Whether nothing is to be repaired at a leaf, and it need not merge either.
+/// Whether nothing is to be repaired at a leaf, and it need not merge either. Only of `true` something is promised: a write goes a longer
+/// way where it answers `false`.
 #[inline(always)]
 pub fn is_settled(leaf: &View) -> bool
     ensures { result ≡ true → IsSettled leaf.now.node }
@@ -43,7 +44,7 @@ pub(crate) fn link_write<P: Pages>(
     }
 }
 
-// Whether a write may change a leaf where it is: its key lies there, and it changes what the leaf has.
+// Whether a write may change a leaf where it is: nothing is to be repaired there, its key lies there, and it changes what the leaf has.
 fn may_change(write: &KeyWrite, leaf: &View) -> Result<bool>
     ensures ok { IfOk result (λ may. may ≡ true → MayChange write.now leaf.now) }
     ensures err { IfErr result (λ e. e ≡ NoMemory) }
