@@ -1,13 +1,13 @@
 //! Calls of a caller, and what came of them, boiled down to small values.
-use crate::beside::{Scene, Way, require};
-use sled_machine::shared::{Entry, Made};
-use sled_model::{Next, Outcome, Reply, Subscriber, Whole};
+use crate::beside::{Scene, Way};
+use sled_machine::shared::Made;
+use sled_model::{Call, Next, Outcome, Reply, Slot, Subscriber, Whole};
 use sled_nodes::{Error, IVec};
 use std::process::Abort;
 use std::sync::Wait;
 use std::sync::ledger::Ledger;
 
-/// A call on the tree of a scene.
+/// A call on the tree of a scene, or a part of one.
 #[derive(Clone, Copy)]
 pub enum Ask<'a> {
     Get(&'a [u8]),
@@ -21,6 +21,10 @@ pub enum Ask<'a> {
     GenerateId,
     Watch,
     Next(u64),
+    /// A step of the call in this slot.
+    Step(u64),
+    /// The call in this slot is given up.
+    Abandon(u64),
 }
 
 /// What came of a call.
@@ -95,8 +99,8 @@ pub fn outcome_told(outcome: Outcome) -> Told {
     told
 }
 
-// What an entry tells of the call that was made.
-fn noted(made: &Made) -> Told {
+/// What an entry tells of the call that was made.
+pub fn noted(made: &Made) -> Told {
     match made {
         Made::Point(_, _, reply) => reply_told(reply),
         Made::Whole(Whole::PopMin(_), Reply::Pair(Some(_))) => Told::Popped,
@@ -104,11 +108,6 @@ fn noted(made: &Made) -> Told {
         Made::Whole(Whole::DropTree(_), Reply::Flag(true)) => Told::Dropped,
         _ => Told::Other,
     }
-}
-
-/// Whether the entry is of this caller, and tells this.
-pub fn is_noted(entry: &Entry, by: u64, told: Told) -> bool {
-    entry.by == by && noted(&entry.made) == told
 }
 
 // The whole call that is asked for.
@@ -134,8 +133,18 @@ fn whole_of<R: Abort>(rt: &R, scene: &Scene, ask: Ask<'_>) -> Whole {
     }
 }
 
-// Makes the call. How it came out.
-fn outcome_of<L: Ledger, R: Wait + Abort>(
+/// The call on a key that is asked for.
+pub fn call_of<R: Abort>(rt: &R, scene: &Scene, ask: Ask<'_>) -> Call {
+    let call = match ask {
+        Ask::Get(key) => Call::get(scene.alloc, key),
+        Ask::Remove(key) => Call::remove(scene.alloc, key),
+        _ => panic!(rt; "no call that begins"),
+    };
+    call.expect(rt, "memory")
+}
+
+/// Makes the call, or a part of it. How it came out.
+pub fn outcome_of<L: Ledger, R: Wait + Abort>(
     rt: &R,
     scene: &Scene,
     handle: &mut Way<L>,
@@ -150,37 +159,8 @@ fn outcome_of<L: Ledger, R: Wait + Abort>(
         Ask::Swap(key, old, new) => {
             handle.compare_and_swap(rt, alloc, tree, key, Some(old), Some(new))
         }
+        Ask::Step(slot) => handle.step(rt, Slot(slot)),
+        Ask::Abandon(slot) => handle.abandon(rt, Slot(slot)),
         _ => handle.whole(rt, whole_of(rt, scene, ask)),
     }
-}
-
-/// Makes the call. What came of it.
-pub fn asked<L: Ledger, R: Wait + Abort>(
-    rt: &R,
-    scene: &Scene,
-    handle: &mut Way<L>,
-    ask: Ask<'_>,
-) -> Told {
-    outcome_told(outcome_of(rt, scene, handle, ask))
-}
-
-/// Makes the calls, of which this has to come, and has made so many then.
-pub fn ask_all<L: Ledger, R: Wait + Abort>(
-    rt: &R,
-    scene: &Scene,
-    handle: &mut Way<L>,
-    calls: &[(Ask<'_>, Told)],
-) {
-    for (ask, wanted) in calls {
-        require(
-            rt,
-            asked(rt, scene, handle, *ask) == *wanted,
-            "what the call is to tell",
-        );
-    }
-}
-
-/// A caller has made so many calls, as it can tell itself.
-pub fn require_made<L: Ledger, R: Abort>(rt: &R, handle: &Way<L>, count: usize) {
-    require(rt, handle.made().len() == count, "its own calls");
 }

@@ -1,11 +1,14 @@
 //! Callers of a database that is shared, each in a thread of its own.
 ghost use Rattle.std.specs.Prelude.{◌≡◌, ◌+◌, ◌<◌};
 
+use crate::caller::{Caller, Seat};
 use crate::replay::is_replayed;
+use crate::state_tests::begin_and_abandon;
+use crate::trial::Trial;
 use examples::Adds;
 use sled::{Db, MemPages, empty_pages};
 use sled_machine::{Machine, shared};
-use sled_model::{Slot, Tree};
+use sled_model::{Collection, Slot, Tree};
 use std::alloc::Global;
 use std::marker::Brand;
 use std::process::Abort;
@@ -26,29 +29,19 @@ pub type Way<L> = shared::Handle<MemPages, L, Adds>;
 /// What lies under its lock.
 pub type Gathered<L> = shared::State<MemPages, L, Adds>;
 
-/// What the callers of a trial have in common: the tree, and numbers from 0 up by which they tell each other how far they are.
+/// What the callers of a trial have in common: the tree, the moves of the trial, and numbers, from 0 up, one for each `Signal`.
 #[derive(Drop)]
 pub struct Scene {
     pub alloc: Global,
     pub tree: Tree,
-    /// What another caller waits for before it begins.
+    pub moves: u64,
     pub ready: AtomicU64,
-    /// So often something was done.
     pub count: AtomicU64,
     pub answered: AtomicU64,
     pub ended: AtomicU64,
-    /// Slots of calls that are left unstepped.
+    pub slot: AtomicU64,
     pub before: AtomicU64,
     pub after: AtomicU64,
-}
-
-/// What callers do beside each other, and what has to come of it.
-pub trait Trial {
-    /// What a caller does. Callers are told apart by the numbers of their handles.
-    fn work<L: Ledger, R: Wait + Abort>(&self, rt: &R, scene: &Scene, handle: &mut Way<L>);
-
-    /// Looks at the state, once all callers are done and all handles are back.
-    fn check<L: Ledger, R: Abort>(&self, rt: &R, scene: &Scene, state: &mut Gathered<L>);
 }
 
 /// Ends the test where something does not hold, and says what should.
@@ -63,30 +56,8 @@ fn is_done<T: Drop, E: Drop>(came: Result<T, E>) -> bool {
     done
 }
 
-// So often a number is looked at: for some ten seconds and more, since on a busy machine the other thread may have to wait for its turn.
-const LOOKS: u64 = 10_000_000_000;
-
-/// Looks at a number until another thread has set it to more than this. What it is set to, if that came.
-pub fn more_seen(number: &AtomicU64, than: u64) -> Option<u64> {
-    for _ in 0..LOOKS {
-        let now = number.load(Ordering::SeqCst);
-        if now > than {
-            return Some(now);
-        }
-    }
-    None
-}
-
-/// The same, where it has to come.
-pub fn wait_for_more<R: Abort>(rt: &R, number: &AtomicU64, than: u64) -> u64 {
-    match more_seen(number, than) {
-        Some(now) => now,
-        None => panic!(rt; "the other thread did nothing"),
-    }
-}
-
-/// The name of the tree that is there from the beginning.
-pub const DEFAULT: &[u8] = b"__sled__default";
+// The name of the tree that is there from the beginning.
+const DEFAULT: &[u8] = b"__sled__default";
 
 // A new database.
 fn new_database<R: Abort>(rt: &R, alloc: Global) -> Fresh {
@@ -115,14 +86,16 @@ fn fill<R: Abort>(rt: &R, db: &mut Fresh, tree: &Tree, keys: u8, taken: u8) {
 }
 
 // What callers begin with on this tree.
-fn new_scene(alloc: Global, tree: Tree) -> Scene {
+fn new_scene(alloc: Global, tree: Tree, moves: u64) -> Scene {
     Scene {
         alloc,
         tree,
+        moves,
         ready: AtomicU64::new(0),
         count: AtomicU64::new(0),
         answered: AtomicU64::new(0),
         ended: AtomicU64::new(0),
+        slot: AtomicU64::new(0),
         before: AtomicU64::new(0),
         after: AtomicU64::new(0),
     }
@@ -147,24 +120,7 @@ where
     }
 }
 
-// Puts the handle of a new caller, which has this number, to the others.
-fn add_handle<L: Ledger, R: Abort>(
-    rt: &R,
-    alloc: Global,
-    shared: &mut Shared<L>,
-    handles: &mut Vec<Way<L>>,
-    number: u64,
-) {
-    match shared.handle(alloc) {
-        Ok(handle) => {
-            require(rt, handle.number() == number, "the next number");
-            require(rt, is_done(handles.push(handle)), "memory");
-        }
-        Err(_) => panic!(rt; "no handle"),
-    }
-}
-
-// A handle for each of so many callers. No other comes.
+// A handle for each of so many callers, which has the next number. No other comes.
 fn handles_of<L: Ledger, R: Abort>(
     rt: &R,
     alloc: Global,
@@ -173,17 +129,23 @@ fn handles_of<L: Ledger, R: Abort>(
 ) -> Vec<Way<L>> {
     let mut handles = Vec::new(alloc);
     for number in 1..=callers {
-        add_handle(rt, alloc, shared, &mut handles, number);
+        match shared.handle(alloc) {
+            Ok(handle) => {
+                let is_next = handle.number() == number;
+                require(rt, is_done(handles.push(handle)) && is_next, "the next");
+            }
+            Err(_) => panic!(rt; "no handle"),
+        }
     }
     require(rt, !is_done(shared.handle(alloc)), "no caller more");
     handles
 }
 
 // All callers work, each in a thread.
-fn work_beside<L: Ledger + Send + Sync, R: Threads + Wait + Abort + Sync, T: Trial + Sync>(
+fn work_beside<L: Ledger + Send + Sync, R: Threads + Wait + Abort + Sync>(
     rt: &R,
     scene: &Scene,
-    trial: &T,
+    trial: Trial<'_>,
     handles: &mut [Way<L>],
 ) {
     let threads = handles.len();
@@ -192,36 +154,27 @@ fn work_beside<L: Ledger + Send + Sync, R: Threads + Wait + Abort + Sync, T: Tri
             rt,
             handles,
             threads,
-            &|_, handle| { trial.work(rt, scene, handle) },
+            &|_, handle| { trial.work(scene, handle.number(), &mut Seat { rt, scene, handle }) },
         );
     }
 }
 
-// The database and the handles, which are given back where one is missing.
-fn not_gathered<L: Ledger, R: Wait + Abort>(
+// The state, once the last handle is there too, before the others.
+fn gathered_with<L: Ledger, R: Wait + Abort>(
     rt: &R,
     shared: Shared<L>,
     handles: Vec<Way<L>>,
-) -> (Shared<L>, Vec<Way<L>>) {
-    match shared.gather(rt, handles) {
-        Ok(_) => panic!(rt; "gathered too early"),
-        Err(given_back) => given_back,
-    }
-}
-
-// The state, from which no handle may be missing.
-fn gathered<L: Ledger, R: Wait + Abort>(
-    rt: &R,
-    shared: Shared<L>,
-    handles: Vec<Way<L>>,
+    last: Way<L>,
 ) -> Gathered<L> {
+    let mut handles = handles;
+    require(rt, is_done(handles.insert(0, last)), "memory");
     match shared.gather(rt, handles) {
         Ok(state) => state,
         Err(_) => panic!(rt; "not gathered"),
     }
 }
 
-// The state: first without the last handle, when all is given back, and then with it, before the others.
+// The state: first without the last handle, when all is given back, and then with it.
 fn gathered_late<L: Ledger, R: Wait + Abort>(
     rt: &R,
     shared: Shared<L>,
@@ -231,46 +184,61 @@ fn gathered_late<L: Ledger, R: Wait + Abort>(
     let Some(last) = handles.pop() else {
         panic!(rt; "no handle")
     };
-    let (shared, handles) = not_gathered(rt, shared, handles);
-    let mut handles = handles;
-    require(rt, is_done(handles.insert(0, last)), "memory");
-    gathered(rt, shared, handles)
-}
-
-// The calls that were left unstepped stand so.
-fn check_left<R: Abort>(rt: &R, scene: &Scene, machine: &Machine<MemPages, Adds>) {
-    for left in [&scene.before, &scene.after] {
-        let slot = left.load(Ordering::SeqCst);
-        require(
-            rt,
-            slot == 0 || machine.turns(Slot(slot)) == Some(0),
-            "an unstepped call",
-        );
+    match shared.gather(rt, handles) {
+        Ok(_) => panic!(rt; "gathered too early"),
+        Err((shared, handles)) => gathered_with(rt, shared, handles, last),
     }
 }
 
+// Whether the call of this slot, if there is one, was left unstepped.
+fn is_left(slot: &AtomicU64, machine: &Machine<MemPages, Adds>) -> bool {
+    let slot = slot.load(Ordering::SeqCst);
+    slot == 0 || matches!(machine.turns(Slot(slot)), Some(0))
+}
+
+// Whether there are as many trees as there were at the start, with as many pairs together.
+fn began_so(start: Start, opening: &[Collection]) -> bool {
+    let mut pairs = 0usize;
+    for collection in opening {
+        pairs = pairs.wrapping_add(collection.2.len());
+    }
+    opening.len() == start.trees && pairs == usize::from(start.keys.wrapping_sub(start.taken))
+}
+
 // Looks at what callers made: a plain map makes the same of the calls.
-fn look<L: Ledger, R: Abort, T: Trial>(rt: &R, scene: &Scene, trial: &T, state: Gathered<L>) {
+fn look<L: Ledger, R: Abort>(
+    rt: &R,
+    scene: &Scene,
+    start: Start,
+    trial: Trial<'_>,
+    state: Gathered<L>,
+) {
     let mut state = state;
-    require(
-        rt,
-        is_replayed(rt, scene.alloc, &state),
-        "the same on a plain map",
-    );
-    trial.check(rt, scene, &mut state);
+    // Another tree than that of the beginning may be dropped.
+    if start.trees == 1 {
+        begin_and_abandon(rt, scene, &mut state);
+    }
+    let (opening, history) = (state.opening(), state.history());
+    let well = began_so(start, opening)
+        && is_replayed(rt, scene.alloc, opening, history)
+        && trial.passes(scene, history);
+    require(rt, well, "what was there, and what callers made of it");
+    state.audit();
     let machine = state.into_machine();
-    check_left(rt, scene, &machine);
+    let left = is_left(&scene.before, &machine) && is_left(&scene.after, &machine);
     drop(machine);
+    require(rt, left, "unstepped calls");
 }
 
 // Has so many callers work on a database.
-fn try_among<L: Ledger + Send + Sync, R: Threads + Wait + Abort + Sync, T: Trial + Sync>(
+fn try_among<L: Ledger + Send + Sync, R: Threads + Wait + Abort + Sync>(
     rt: &R,
     scene: &Scene,
     db: Fresh,
     blank: Blank,
     callers: u64,
-    trial: &T,
+    start: Start,
+    trial: Trial<'_>,
 )
 where
     requires name { blank.name ≡ L.name }
@@ -280,13 +248,16 @@ where
     let mut shared = share::<L, R>(rt, scene.alloc, db, blank, callers);
     let mut handles = handles_of(rt, scene.alloc, &mut shared, callers);
     work_beside(rt, scene, trial, handles.as_mut_slice());
-    look(rt, scene, trial, gathered_late(rt, shared, handles));
+    let state = gathered_late(rt, shared, handles);
+    look(rt, scene, start, trial, state);
 }
 
-/// A database with one tree, of this name, into which so many keys were put, from 0 up, and so many of the last taken out again.
+/// A database with one tree, of this name, into which so many keys were put, from 0 up, and so many of the last taken out again. With the
+/// tree that is there from the beginning it has so many.
 #[derive(Clone, Copy)]
 pub struct Start {
     pub name: &'static [u8],
+    pub trees: usize,
     pub keys: u8,
     pub taken: u8,
 }
@@ -294,23 +265,32 @@ pub struct Start {
 /// A database with nothing in it.
 pub const EMPTY: Start = Start {
     name: DEFAULT,
+    trees: 1,
     keys: 0,
     taken: 0,
 };
 
 /// Has so many callers work on a database, each in a thread, and looks at what comes of it.
-pub fn try_out<R: Threads + Wait + Abort + Sync, T: Trial + Sync>(
+pub fn try_out<R: Threads + Wait + Abort + Sync>(
     rt: &R,
     alloc: Global,
     start: Start,
     callers: u8,
-    trial: &T,
+    trial: Trial<'_>,
 ) {
     let mut db = new_database(rt, alloc);
     let tree = tree_of(rt, &mut db, start.name);
     fill(rt, &mut db, &tree, start.keys, start.taken);
-    let scene = new_scene(alloc, tree);
+    let scene = new_scene(alloc, tree, trial.moves);
     let callers = u64::from(callers);
-    try_among::<Brand, _, _>(rt, &scene, db, Blank::new(callers + 1), callers, trial);
+    try_among::<Brand, _>(
+        rt,
+        &scene,
+        db,
+        Blank::new(callers + 1),
+        callers,
+        start,
+        trial,
+    );
     drop(scene);
 }

@@ -1,13 +1,15 @@
 //! Tests of a database that threads share. Each ends by itself, and comes out the same whatever the schedule, as long as a thread that
 //! waits for another one does not look in vain ten billion times; then the test fails. `beside` has callers work in threads of their own,
-//! gathers the state, and looks at what they made; `asking` makes a call and boils down what came of it; a `replay` makes the calls of a
-//! history again, on a plain map.
+//! gathers the state, and looks at what they made; a `trial` says which `turns` each `caller` takes, and what has to come of them; `asking`
+//! makes a call and boils down what came of it; a `replay` makes the calls of a history again, on a plain map.
 #![tactic(auto)]
 
 #[cfg(test)]
 mod asking;
 #[cfg(test)]
 mod beside;
+#[cfg(test)]
+mod caller;
 #[cfg(test)]
 mod counter_tests;
 #[cfg(test)]
@@ -26,5 +28,9 @@ mod replay;
 mod state_tests;
 #[cfg(test)]
 mod taking_tests;
+#[cfg(test)]
+mod trial;
+#[cfg(test)]
+mod turns;
 #[cfg(test)]
 mod whole_tests;

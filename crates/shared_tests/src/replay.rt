@@ -1,12 +1,10 @@
 //! The calls of a history, made again on a plain map.
-use crate::beside::Gathered;
 use sled_machine::shared::{Entry, Made};
 use sled_model::{Call, Collection, Reply, Whole};
 use sled_nodes::IVec;
 use std::alloc::Global;
 use std::collections::BTreeMap;
 use std::process::Abort;
-use std::sync::ledger::Ledger;
 
 type Plain = BTreeMap<IVec, IVec>;
 
@@ -134,10 +132,15 @@ fn replays<R: Abort>(rt: &R, map: &mut Plain, history: &[Entry]) -> bool {
 
 /// Whether a plain map that begins with what the database had when it was shared makes each call of the history with the same reply. All
 /// pairs and calls are of one tree.
-pub fn is_replayed<L: Ledger, R: Abort>(rt: &R, alloc: Global, state: &Gathered<L>) -> bool {
+pub fn is_replayed<R: Abort>(
+    rt: &R,
+    alloc: Global,
+    opening: &[Collection],
+    history: &[Entry],
+) -> bool {
     let mut map = BTreeMap::new(alloc);
-    fill(rt, &mut map, state.opening());
-    let same = replays(rt, &mut map, state.history());
+    fill(rt, &mut map, opening);
+    let same = replays(rt, &mut map, history);
     drop(map);
     same
 }

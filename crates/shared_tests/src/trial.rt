@@ -1,0 +1,94 @@
+//! What callers do beside each other, and what has to come of it.
+use crate::asking::{Told, noted};
+use crate::beside::Scene;
+use crate::caller::Caller;
+use crate::turns::{Turn, take_turns};
+use sled_machine::shared::{Entry, Made};
+use std::sync::atomic::Ordering;
+
+/// What the history has, once all callers are done.
+#[derive(Clone, Copy)]
+pub enum Wanted<'a> {
+    /// So many calls; among them some of these callers, by their numbers, which tell this.
+    Calls(usize, &'a [(u64, Told)]),
+    /// So many calls on a key, whose replies count up from 1.
+    Counted(usize),
+    /// Some inserts, but not so many, and the drop of the tree, by the second caller, at last.
+    Dropped(u64),
+    /// Any calls.
+    Any,
+}
+
+/// What the first of several callers does, what each other one does, and what the history has then.
+#[derive(Clone, Copy)]
+pub struct Trial<'a> {
+    pub first: &'a [Turn<'a>],
+    pub others: &'a [Turn<'a>],
+    /// So many moves of a call are the first caller's, where it hands one over.
+    pub moves: u64,
+    pub wanted: Wanted<'a>,
+}
+
+// Whether the history has an entry of this caller that tells this.
+fn has_entry(history: &[Entry], by: u64, told: Told) -> bool {
+    for entry in history {
+        if entry.by == by && noted(&entry.made) == told {
+            return true;
+        }
+    }
+    false
+}
+
+fn has_entries(history: &[Entry], entries: &[(u64, Told)]) -> bool {
+    for (by, told) in entries {
+        if !has_entry(history, *by, *told) {
+            return false;
+        }
+    }
+    true
+}
+
+// The numbers of the replies, in the order of the history, are those from 1 on, and each is of a call on a key.
+fn count_up(history: &[Entry]) -> bool {
+    let mut last: u64 = 0;
+    for entry in history {
+        last = last.wrapping_add(1);
+        if !matches!(&entry.made, Made::Point(_, _, _)) || noted(&entry.made) != Told::Value(last) {
+            return false;
+        }
+    }
+    true
+}
+
+// Whether the tree was dropped, and nothing was inserted after that.
+fn ends_with_drop(history: &[Entry]) -> bool {
+    match history.last() {
+        Some(entry) => entry.by == 2 && noted(&entry.made) == Told::Dropped,
+        None => false,
+    }
+}
+
+impl Trial<'_> {
+    /// What the caller of this number does.
+    pub fn work<C: Caller>(&self, scene: &Scene, number: u64, caller: &mut C) {
+        let turns = if number == 1 { self.first } else { self.others };
+        take_turns(scene, caller, turns);
+    }
+
+    /// Whether the history is as it should be.
+    pub fn passes(&self, scene: &Scene, history: &[Entry]) -> bool {
+        let calls = history.len();
+        match self.wanted {
+            Wanted::Calls(count, entries) => calls == count && has_entries(history, entries),
+            Wanted::Counted(count) => calls == count && count_up(history),
+            Wanted::Dropped(most) => {
+                let inserted = scene.count.load(Ordering::SeqCst);
+                inserted > 0
+                    && inserted < most
+                    && calls as u64 == inserted.wrapping_add(1)
+                    && ends_with_drop(history)
+            }
+            Wanted::Any => true,
+        }
+    }
+}

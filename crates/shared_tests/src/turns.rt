@@ -1,0 +1,254 @@
+//! What a caller does in a trial, turn by turn.
+use crate::asking::{Ask, Told};
+use crate::beside::Scene;
+use crate::caller::Caller;
+use sled_machine::shared::{Gate, Made};
+use sled_model::{Call, Reply};
+use std::sync::atomic::{AtomicU64, Ordering};
+
+/// What callers tell each other by a number that is 0 at first.
+#[derive(Clone, Copy)]
+pub enum Signal {
+    /// Another caller may begin. Where there is a subscriber, it is its number.
+    Ready,
+    /// So often something was done.
+    Count,
+    Answered,
+    Ended,
+    /// The slot of a call that others step.
+    Slot,
+    /// Slots of calls that are left unstepped.
+    Before,
+    After,
+}
+
+/// What a caller does.
+#[derive(Clone, Copy)]
+pub enum Turn<'a> {
+    /// Makes a call, of which this has to come.
+    Ask(Ask<'a>, Told),
+    /// Inserts this value at this key, of which that has to come, after it went on so often. After its first step the others make their call.
+    Meet(&'a [u8], &'a [u8], Told, u64),
+    /// Inserts so often, or until the tree is not there any more: at this key, or at the numbers from 1 on.
+    Insert(Option<&'a [u8]>, u64),
+    /// Adds one so often to the counter.
+    Add(usize),
+    /// Begins a call.
+    Begin(Ask<'a>, Signal),
+    /// Steps the call that was begun for others as often as the trial says. It goes on each time.
+    GoOn,
+    /// The same from there on, until it has so many moves.
+    GoOnTo(u64),
+    /// One step of that call, which tells this.
+    Step(Told),
+    /// Gives that call up.
+    Abandon,
+    /// Subscribes to all keys.
+    Watch,
+    /// Takes events until so many inserts are told or missed.
+    Take(u64),
+    /// The one of two callers that comes here last is told so many events, and that it missed so many.
+    Lag(u64, u64),
+    /// It has made so many calls, as it can tell itself.
+    Made(usize),
+    /// It has made one insert of this key, which had no value, and nothing else.
+    MadeInsert(&'a [u8]),
+    /// Waits for another caller.
+    Wait(Signal),
+    Set(Signal),
+}
+
+// So often a number is looked at: for some ten seconds and more, since on a busy machine the other thread may have to wait for its turn.
+const LOOKS: u64 = 10_000_000_000;
+
+// Looks at a number until another thread has set it to more than this. Whether that came.
+fn is_more(number: &AtomicU64, than: u64) -> bool {
+    for _ in 0..LOOKS {
+        if number.load(Ordering::SeqCst) > than {
+            return true;
+        }
+    }
+    false
+}
+
+// So many events are asked for at most.
+const EVENTS: u64 = 10_000;
+
+// Waits until another caller has set the number to more than this.
+fn wait_for_more<C: Caller>(caller: &C, number: &AtomicU64, than: u64) {
+    caller.require(is_more(number, than), "the other thread did something");
+}
+
+// A gate at which the others make their calls, when it is passed for the first time: the leaf is read then.
+#[derive(Clone, Copy)]
+struct Meets<'a> {
+    scene: &'a Scene,
+}
+
+impl Gate for Meets<'_> {
+    fn between(&self) {
+        if self.scene.count.fetch_add(1, Ordering::SeqCst) == 0 {
+            self.scene.ready.store(1, Ordering::SeqCst);
+            is_more(&self.scene.answered, 0);
+        }
+    }
+}
+
+// What came of the insert, and how often it passed the gate.
+fn meet<C: Caller>(scene: &Scene, caller: &mut C, key: &[u8], value: &[u8]) -> (Told, u64) {
+    let told = caller.insert_past(key, value, &Meets { scene });
+    (told, scene.count.load(Ordering::SeqCst))
+}
+
+// The number at this key, or at itself, and how many came in.
+fn insert_on<C: Caller>(scene: &Scene, caller: &mut C, key: Option<&[u8]>, times: u64) {
+    for number in 1..=times {
+        let bytes = number.to_be_bytes();
+        match caller.ask(Ask::Insert(key.unwrap_or(&bytes), &bytes)) {
+            Told::NoValue | Told::Value(_) => scene.count.store(number, Ordering::SeqCst),
+            told => {
+                caller.require(told == Told::NoSuchTree, "decided, or no tree");
+                return;
+            }
+        }
+    }
+}
+
+// Each reply must be greater than the one before.
+fn add<C: Caller>(caller: &mut C, times: usize) {
+    let mut last = 0;
+    for _ in 0..times {
+        match caller.ask(Ask::Merge(b"counter", &[0, 0, 0, 0, 0, 0, 0, 1])) {
+            Told::Value(number) if last < number => last = number,
+            _ => caller.require(false, "each reply is above the one before"),
+        }
+    }
+}
+
+// Steps from so many moves to so many, each of which goes on.
+fn go_on<C: Caller>(scene: &Scene, caller: &mut C, from: u64, to: u64) {
+    let slot = scene.slot.load(Ordering::SeqCst);
+    for _ in from..to {
+        let told = caller.ask(Ask::Step(slot));
+        caller.require(told == Told::Moved, "the call goes on");
+    }
+}
+
+fn watch<C: Caller>(scene: &Scene, caller: &mut C) {
+    match caller.ask(Ask::Watch) {
+        Told::Subscriber(number) => scene.ready.store(number, Ordering::SeqCst),
+        _ => caller.require(false, "a subscriber"),
+    }
+}
+
+// Each event must be of a later key than the one before.
+fn take<C: Caller>(scene: &Scene, caller: &mut C, keys: u64) {
+    let next = Ask::Next(scene.ready.load(Ordering::SeqCst));
+    let (mut sum, mut last) = (0u64, 0u64);
+    for _ in 0..EVENTS {
+        if sum >= keys {
+            break;
+        }
+        wait_for_more(caller, &scene.count, sum);
+        match caller.ask(next) {
+            Told::Event(key) if last < key => {
+                last = key;
+                sum = sum.wrapping_add(1);
+            }
+            Told::Missed(count) => sum = sum.wrapping_add(count),
+            _ => caller.require(false, "a key above the one before, or what was missed"),
+        }
+    }
+    caller.require(sum == keys, "all inserts are told or missed");
+}
+
+fn lag<C: Caller>(scene: &Scene, caller: &mut C, events: u64, missed: u64) {
+    if scene.ended.fetch_add(1, Ordering::SeqCst) == 0 {
+        return;
+    }
+    let next = Ask::Next(scene.ready.load(Ordering::SeqCst));
+    let (mut told, mut lost) = (0u64, 0u64);
+    for _ in 0..EVENTS {
+        match caller.ask(next) {
+            Told::Event(_) => told = told.wrapping_add(1),
+            Told::Missed(count) => lost = lost.wrapping_add(count),
+            _ => break,
+        }
+    }
+    caller.require(told == events && lost == missed, "the latest are told");
+}
+
+fn is_insert(made: &[Made], key: &[u8]) -> bool {
+    match made {
+        [Made::Point(_, Call::Insert(new, _), Reply::Value(None))] => new.as_ref() == key,
+        _ => false,
+    }
+}
+
+// The number that stands for it.
+fn number_of(scene: &Scene, signal: Signal) -> &AtomicU64 {
+    match signal {
+        Signal::Ready => &scene.ready,
+        Signal::Count => &scene.count,
+        Signal::Answered => &scene.answered,
+        Signal::Ended => &scene.ended,
+        Signal::Slot => &scene.slot,
+        Signal::Before => &scene.before,
+        Signal::After => &scene.after,
+    }
+}
+
+// One turn of a call that stays in its slot, or one that is none.
+fn begin_or_wait<C: Caller>(scene: &Scene, caller: &mut C, turn: Turn<'_>) {
+    match turn {
+        Turn::Begin(ask, signal) => {
+            let slot = caller.begin(ask);
+            caller.require(slot > 0, "a slot");
+            number_of(scene, signal).store(slot, Ordering::SeqCst);
+        }
+        Turn::Step(wanted) => {
+            let told = caller.ask(Ask::Step(scene.slot.load(Ordering::SeqCst)));
+            caller.require(told == wanted, "what the step is to tell");
+        }
+        Turn::Abandon => {
+            let told = caller.ask(Ask::Abandon(scene.slot.load(Ordering::SeqCst)));
+            caller.require(told == Told::Abandoned, "the call is given up");
+        }
+        Turn::Made(count) => caller.require(caller.made().len() == count, "its own calls"),
+        Turn::MadeInsert(key) => caller.require(is_insert(caller.made(), key), "its own insert"),
+        Turn::Wait(signal) => wait_for_more(caller, number_of(scene, signal), 0),
+        Turn::Set(signal) => number_of(scene, signal).store(1, Ordering::SeqCst),
+        _ => (),
+    }
+}
+
+fn take_turn<C: Caller>(scene: &Scene, caller: &mut C, turn: Turn<'_>) {
+    match turn {
+        Turn::Ask(ask, wanted) => {
+            let told = caller.ask(ask);
+            caller.require(told == wanted, "what the call is to tell");
+        }
+        Turn::Meet(key, value, wanted, times) => {
+            let (told, passed) = meet(scene, caller, key, value);
+            caller.require(
+                told == wanted && passed == times,
+                "the others' call between",
+            );
+        }
+        Turn::Insert(key, times) => insert_on(scene, caller, key, times),
+        Turn::Add(times) => add(caller, times),
+        Turn::GoOn => go_on(scene, caller, 0, scene.moves),
+        Turn::GoOnTo(moves) => go_on(scene, caller, scene.moves, moves),
+        Turn::Watch => watch(scene, caller),
+        Turn::Take(keys) => take(scene, caller, keys),
+        Turn::Lag(events, missed) => lag(scene, caller, events, missed),
+        other => begin_or_wait(scene, caller, other),
+    }
+}
+
+/// Takes one turn after the other.
+pub fn take_turns<C: Caller>(scene: &Scene, caller: &mut C, turns: &[Turn<'_>]) {
+    for turn in turns {
+        take_turn(scene, caller, *turn);
+    }
+}
