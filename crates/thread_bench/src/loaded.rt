@@ -16,16 +16,11 @@ pub fn is_done<T: Drop, E: Drop>(came: Result<T, E>) -> bool {
     done
 }
 
-// Puts the pair at a place into the tree. Whether there was memory for it.
-fn insert(db: &mut Owned, tree: &Tree, pairs: &Pairs, place: u64) -> bool {
-    let (key, value) = (pairs.key(place), pairs.value(place, 0));
-    is_done(db.insert(tree, &key, &value))
-}
-
 // Puts these pairs into the tree. Whether there was memory for them.
 fn fill(db: &mut Owned, tree: &Tree, pairs: &Pairs) -> bool {
     for place in 0..pairs.count {
-        let done = insert(db, tree, pairs, place);
+        let (key, value) = (pairs.key(place), pairs.value(place, 0));
+        let done = is_done(db.insert(tree, &key, &value));
         if !done || place % FLUSH == FLUSH - 1 && !is_done(db.flush()) {
             return false;
         }

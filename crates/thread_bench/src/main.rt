@@ -32,10 +32,11 @@ use threads::{Told, run};
 use work::{Work, inserts_in};
 
 // What the words ask for, with no inserts as yet.
-fn read_words(words: &[String; 4]) -> Option<Work> {
+fn read_words(alloc: Global, words: &[String; 4]) -> Option<Work> {
     let [pairs, calls, seed, threads] = words;
     match (pairs.parse(), calls.parse(), seed.parse(), threads.parse()) {
         (Ok(count), Ok(calls), Ok(seed), Ok(threads)) if count > 0 => Some(Work {
+            alloc,
             pairs: Pairs { seed, count },
             calls,
             threads,
@@ -54,7 +55,6 @@ fn tell<R: Print + Eprint>(rt: &R, name: &str, told: &Told) -> bool {
 // Shares a database among the threads, once it has the pairs, and tells what came of their calls.
 fn measure_on<R: Threads + Wait + Clock + Sync>(
     rt: &R,
-    alloc: Global,
     mut db: Owned,
     work: &Work,
 ) -> Option<Told> {
@@ -63,15 +63,15 @@ fn measure_on<R: Threads + Wait + Clock + Sync>(
         return None;
     };
     let blank = Blank::new(u64::from(work.threads) + 1);
-    let told = run::<Brand, _>(rt, alloc, blank, db, &tree, work);
+    let told = run::<Brand, _>(rt, blank, db, &tree, work);
     drop(tree);
     told
 }
 
 // The same, on a new database.
-fn measure<R: Threads + Wait + Clock + Sync>(rt: &R, alloc: Global, work: &Work) -> Option<Told> {
-    match Db::open(alloc, empty_pages(alloc), b"threads") {
-        Ok(db) => measure_on(rt, alloc, db, work),
+fn measure<R: Threads + Wait + Clock + Sync>(rt: &R, work: &Work) -> Option<Told> {
+    match Db::open(work.alloc, empty_pages(work.alloc), b"threads") {
+        Ok(db) => measure_on(rt, db, work),
         Err(refused) => {
             drop(refused);
             None
@@ -79,31 +79,21 @@ fn measure<R: Threads + Wait + Clock + Sync>(rt: &R, alloc: Global, work: &Work)
     }
 }
 
-// Measures the workload of a name, and prints what it came to. Whether all that went well.
-fn measure_named<R: Threads + Wait + Clock + Print + Eprint + Sync>(
-    rt: &R,
-    alloc: Global,
-    work: &Work,
-    name: &str,
-) -> bool {
-    let Some(inserts) = inserts_in(name) else {
-        return false;
-    };
-    let work = Work { inserts, ..*work };
-    match measure(rt, alloc, &work) {
-        Some(told) => tell(rt, name, &told),
-        None => false,
-    }
-}
-
+// Measures the workload of each name, and prints what it came to. Whether all that went well.
 fn measure_all<R: Threads + Wait + Clock + Print + Eprint + Sync>(
     rt: &R,
-    alloc: Global,
-    work: &Work,
+    work: Work,
     names: &[String],
 ) -> bool {
     for name in names {
-        if !measure_named(rt, alloc, work, name.as_str()) {
+        let Some(inserts) = inserts_in(name.as_str()) else {
+            return false;
+        };
+        let done = match measure(rt, &Work { inserts, ..work }) {
+            Some(told) => tell(rt, name.as_str(), &told),
+            None => false,
+        };
+        if !done {
             return false;
         }
     }
@@ -119,8 +109,8 @@ fn run_words<R: Threads + Wait + Clock + Print + Eprint + Sync>(
     let Some((first, names)) = words.split_first_chunk::<4>() else {
         return false;
     };
-    match read_words(first) {
-        Some(work) => measure_all(rt, alloc, &work, names),
+    match read_words(alloc, first) {
+        Some(work) => measure_all(rt, work, names),
         None => false,
     }
 }

@@ -23,15 +23,7 @@ pub struct Told {
     pub time: Duration,
 }
 
-// Puts a handle for a new caller to the others. Whether there was memory for it.
-fn add_handle<L: Ledger>(alloc: Global, shared: &mut Shared<L>, handles: &mut Vec<Way<L>>) -> bool {
-    match shared.handle(alloc) {
-        Ok(handle) => is_done(handles.push(handle)),
-        Err(_) => false,
-    }
-}
-
-// The same for each of so many callers.
+// A handle for each of so many callers, as far as there is memory for them.
 fn add_handles<L: Ledger>(
     alloc: Global,
     shared: &mut Shared<L>,
@@ -39,30 +31,35 @@ fn add_handles<L: Ledger>(
     callers: u8,
 ) -> bool {
     for _ in 0..callers {
-        if !add_handle(alloc, shared, handles) {
+        let added = match shared.handle(alloc) {
+            Ok(handle) => is_done(handles.push(handle)),
+            Err(_) => false,
+        };
+        if !added {
             return false;
         }
     }
     true
 }
 
-// Each handle goes to a thread, which makes its calls.
-fn side_by_side<L: Ledger + Send + Sync, R: Threads + Wait + Sync>(
+// Each handle goes to a thread, which makes its calls. How long that takes, where the clock tells it.
+fn timed<L: Ledger + Send + Sync, R: Threads + Wait + Clock + Sync>(
     rt: &R,
-    alloc: Global,
     tree: &Tree,
     work: &Work,
     handles: &mut [Way<L>],
-) {
+) -> Option<Duration> {
+    let start = Instant::now(rt).ok();
     let threads = handles.len();
     if threads > 0 {
         for_each_mut(
             rt,
             handles,
             threads,
-            &|_, handle| { work.done(rt, alloc, tree, handle) },
+            &|_, handle| { work.done(rt, tree, handle) },
         );
     }
+    start?.elapsed(rt).ok()
 }
 
 // The mark of the value in a reply.
@@ -82,13 +79,18 @@ fn digest(made: &Made) -> u64 {
     }
 }
 
-// A checksum of a history. It is a sum, so that the order of calls is all one.
-fn sum_of(history: &[Entry]) -> u64 {
+// What a history tells, where it is known how long the threads took. The checksum is a sum, so that the order of calls is all one.
+fn told_of(history: &[Entry], time: Option<Duration>) -> Option<Told> {
+    let time = time?;
     let mut sum = 0u64;
     for entry in history {
         sum = sum.wrapping_add(digest(&entry.made));
     }
-    sum
+    Some(Told {
+        calls: history.len() as u64,
+        sum,
+        time,
+    })
 }
 
 // What the history tells, if all handles are back.
@@ -96,13 +98,13 @@ fn gathered<L: Ledger, R: Wait>(
     rt: &R,
     shared: Shared<L>,
     handles: Vec<Way<L>>,
-) -> Option<(u64, u64)> {
+    time: Option<Duration>,
+) -> Option<Told> {
     match shared.gather(rt, handles) {
         Ok(state) => {
-            let history = state.history();
-            let told = (history.len() as u64, sum_of(history));
+            let told = told_of(state.history(), time);
             drop(state);
-            Some(told)
+            told
         }
         Err(given_back) => {
             drop(given_back);
@@ -111,44 +113,25 @@ fn gathered<L: Ledger, R: Wait>(
     }
 }
 
-// How long all callers take to work, each by a handle of its own, where the clock tells it.
-fn timed<L: Ledger + Send + Sync, R: Threads + Wait + Clock + Sync>(
-    rt: &R,
-    alloc: Global,
-    tree: &Tree,
-    work: &Work,
-    handles: &mut [Way<L>],
-) -> Option<Duration> {
-    let start = Instant::now(rt).ok();
-    side_by_side(rt, alloc, tree, work, handles);
-    start?.elapsed(rt).ok()
-}
-
 // Has each caller work by a handle of its own, and tells what came of it.
 fn run_shared<L: Ledger + Send + Sync, R: Threads + Wait + Clock + Sync>(
     rt: &R,
-    alloc: Global,
     mut shared: Shared<L>,
     tree: &Tree,
     work: &Work,
 ) -> Option<Told> {
-    let mut handles = Vec::new(alloc);
-    let time = if add_handles(alloc, &mut shared, &mut handles, work.threads) {
-        timed(rt, alloc, tree, work, handles.as_mut_slice())
+    let mut handles = Vec::new(work.alloc);
+    let time = if add_handles(work.alloc, &mut shared, &mut handles, work.threads) {
+        timed(rt, tree, work, handles.as_mut_slice())
     } else {
         None
     };
-    let told = gathered(rt, shared, handles);
-    match (told, time) {
-        (Some((calls, sum)), Some(time)) => Some(Told { calls, sum, time }),
-        _ => None,
-    }
+    gathered(rt, shared, handles, time)
 }
 
 /// Shares a database among threads that work on it, and tells what came of it.
 pub fn run<L: Ledger + Send + Sync, R: Threads + Wait + Clock + Sync>(
     rt: &R,
-    alloc: Global,
     blank: Blank,
     db: Owned,
     tree: &Tree,
@@ -159,8 +142,8 @@ where
     requires parts { blank.parts ≡ L.parts }
     requires each { blank.parts ≡ work.now.threads + 1 }
 {
-    match Db::new(rt, alloc, db, blank, u64::from(work.threads)) {
-        Ok(shared) => run_shared::<L, R>(rt, alloc, shared, tree, work),
+    match Db::new(rt, work.alloc, db, blank, u64::from(work.threads)) {
+        Ok(shared) => run_shared::<L, R>(rt, shared, tree, work),
         Err(refused) => {
             drop(refused);
             None

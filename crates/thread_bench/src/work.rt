@@ -2,7 +2,7 @@
 use crate::pairs::Pairs;
 use sled::MemPages;
 use sled_machine::shared::Handle;
-use sled_model::{Outcome, Tree};
+use sled_model::Tree;
 use std::alloc::Global;
 use std::sync::Wait;
 use std::sync::ledger::Ledger;
@@ -10,9 +10,11 @@ use std::sync::ledger::Ledger;
 /// A caller's way to the database.
 pub type Way<L> = Handle<MemPages, L>;
 
-/// So many calls by each of so many threads, on keys of these pairs. Of a hundred so many are inserts, and the others gets.
+/// So many calls by each of so many threads, on keys of these pairs. Of a hundred so many are inserts, and the others gets. Memory comes from
+/// this allocator.
 #[derive(Clone, Copy)]
 pub struct Work {
+    pub alloc: Global,
     pub pairs: Pairs,
     pub calls: u64,
     pub threads: u8,
@@ -29,36 +31,18 @@ pub fn inserts_in(name: &str) -> Option<u64> {
 }
 
 impl Work {
-    // Makes the call by this number.
-    fn call<L: Ledger, R: Wait>(
-        &self,
-        rt: &R,
-        alloc: Global,
-        tree: &Tree,
-        handle: &mut Way<L>,
-        choice: u64,
-    ) -> Outcome {
-        let place = self.pairs.place(choice);
-        let key = self.pairs.key(place);
-        if (choice >> 32) % 100 < self.inserts {
-            let value = self.pairs.value(place, choice);
-            handle.insert(rt, alloc, tree, &key, &value)
-        } else {
-            handle.get(rt, alloc, tree, &key)
-        }
-    }
-
     /// Makes all calls of a caller, in a thread.
-    pub fn done<L: Ledger, R: Wait>(
-        &self,
-        rt: &R,
-        alloc: Global,
-        tree: &Tree,
-        handle: &mut Way<L>,
-    ) {
+    pub fn done<L: Ledger, R: Wait>(&self, rt: &R, tree: &Tree, handle: &mut Way<L>) {
         for turn in 0..self.calls {
             let choice = self.pairs.choice(handle.number(), turn);
-            drop(self.call(rt, alloc, tree, handle, choice));
+            let place = self.pairs.place(choice);
+            let key = self.pairs.key(place);
+            drop(if (choice >> 32) % 100 < self.inserts {
+                let value = self.pairs.value(place, choice);
+                handle.insert(rt, self.alloc, tree, &key, &value)
+            } else {
+                handle.get(rt, self.alloc, tree, &key)
+            });
         }
     }
 }
