@@ -2,7 +2,6 @@
 use Rattle.std.proofs.Common.{◌≡◌, ◌∙◌, ℕ, List, [], ◌∷◌, ◌++◌, append-nil, append_assoc, Option, refl, ap, inl, inr}
 use Rattle.std.specs.Int.{w64, to_be_bytes}
 use Rattle.sled_nodes.specs.Order.{Key}
-use Rattle.sled_model.specs.declared.call.Call.{Call}
 use Rattle.sled_model.specs.declared.call.Call.TheVariants.{Insert, Merge}
 use Rattle.sled_model.specs.declared.call.Whole.TheVariants as whole
 use Rattle.sled_model.specs.declared.outcome.Outcome.{Outcome}
@@ -12,7 +11,6 @@ use Rattle.sled_model.specs.declared.reply.Reply.TheVariants.{Number, Value}
 use Rattle.sled_model.specs.declared.tree.Tree.{Tree}
 use Rattle.sled.specs.Kept.{kept_of}
 use Rattle.sled_shared.specs.Made.{MadeValue, PointMade, WholeMade}
-use Rattle.sled_shared.specs.Notes.{noted_of}
 use Rattle.sled_shared.specs.WholeNotes.{noted_with, AddsWhole}
 use Rattle.sled_shared.specs.Wholes.{WholeValue, PopMin, GenerateId}
 use Rattle.examples.specs.Counters.{number_in}
@@ -54,10 +52,6 @@ pub puts : (queue : Tree) (job bytes : Key) (id : ℕ) (reply : Reply) (made mor
     → Puts queue job id made more
 puts queue job bytes id reply made more same adds = (reply, adds ∙ ap (λ b. made ++ PointMade queue (Insert b job) reply ∷ []) same)
 
-pub puts_none : (o : Outcome) (tree : Tree) (call : Call) (made more : List MadeValue) → ((reply : Reply) → o ≡ outcome.Decided reply → ⊥) → more ≡ made ++ noted_of o tree call → more ≡ made
-puts_none (outcome.Decided reply) tree call made more off adds = absurd (off reply refl)
-puts_none o tree call made more off adds = adds ∙ append-nil made
-
 pub pushes : (queue : Tree) (job : Key) (id : ℕ) (made mid more : List MadeValue) → mid ≡ made ++ WholeMade GenerateId (Number id) ∷ [] → Puts queue job id mid more → Pushes queue job id made more
 pushes queue job id made mid more given put = record {
   reply = put.0;
@@ -66,6 +60,3 @@ pushes queue job id made mid more given put = record {
       ∙ ap (λ l. l ++ PointMade queue (Insert (to_be_bytes w64 id) job) put.0 ∷ []) given
       ∙ append_assoc made (WholeMade GenerateId (Number id) ∷ []) (PointMade queue (Insert (to_be_bytes w64 id) job) put.0 ∷ []);
 }
-
-pub pushes_none : (id : ℕ) (made mid more : List MadeValue) → mid ≡ made ++ WholeMade GenerateId (Number id) ∷ [] → more ≡ mid → PushesNone made more
-pushes_none id made mid more given same = inr (Number id, same ∙ given)

@@ -25,7 +25,6 @@ use std::sync::ledger::Ledger;
 ///     Err(outcome) => drop(outcome), // As `Refused`, where the tree has no operator.
 /// }
 /// ```
-#[tactic(auto, using(crate::proofs::Noting::adds_one))]
 pub fn add_one<P: Pages, L: Ledger, M: MergeOperator>(
     rt: &impl Wait,
     alloc: Global,

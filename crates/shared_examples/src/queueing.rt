@@ -58,7 +58,6 @@ fn next_id<P: Pages, L: Ledger, M: MergeOperator>(
 }
 
 // Inserts a job at an id.
-#[tactic(auto, using(crate::proofs::Noting::puts, crate::proofs::Noting::puts_none))]
 fn put<P: Pages, L: Ledger, M: MergeOperator>(
     rt: &impl Wait,
     alloc: Global,
@@ -104,7 +103,6 @@ fn pop<P: Pages, L: Ledger, M: MergeOperator>(
 ///     Err(outcome) => drop(outcome),
 /// }
 /// ```
-#[tactic(auto, using(crate::proofs::Noting::pushes, crate::proofs::Noting::pushes_none))]
 pub fn push<P: Pages, L: Ledger, M: MergeOperator>(
     rt: &impl Wait,
     alloc: Global,
