@@ -19,11 +19,18 @@ use std::marker::Model;
 use std::ops::Bound;
 
 /// Pairs of a key and something else. Contracts see them as the list.
-#[derive(Drop)]
 pub struct Entries<V> {
     list: Vec<(IVec, V)>,
     // Where this is set the keys ascend. Where it is not they may yet.
     ascends: bool,
+}
+
+// By hand, so that whoever lets go of entries cites this, and need not prove again how each of its parts goes.
+impl<V: Drop> Drop for Entries<V> {
+    fn drop(self) {
+        let Entries { list, ascends: _ } = self;
+        drop(list);
+    }
 }
 
 impl<V> Model for Entries<V> {

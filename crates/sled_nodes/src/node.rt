@@ -31,9 +31,16 @@ const MOST: usize = 16;
 const FEW: usize = 3;
 
 /// A leaf's pairs of a key and a value. Contracts see it as the list of them.
-#[derive(Drop)]
 pub struct Leaf {
     pairs: Entries<IVec>,
+}
+
+// By hand, so that whoever lets go of a leaf cites this, and need not prove again how each of its parts goes.
+impl Drop for Leaf {
+    fn drop(self) {
+        let Leaf { pairs } = self;
+        drop(pairs);
+    }
 }
 
 impl Model for Leaf {
@@ -45,9 +52,16 @@ impl Model for Leaf {
 }
 
 /// An index's pairs of a key and a page number. Contracts see it as the list of them.
-#[derive(Drop)]
 pub struct Index {
     pointers: Entries<Pid>,
+}
+
+// By hand, as that of a leaf.
+impl Drop for Index {
+    fn drop(self) {
+        let Index { pointers } = self;
+        drop(pointers);
+    }
 }
 
 impl Model for Index {

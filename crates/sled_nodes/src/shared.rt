@@ -13,9 +13,17 @@ use std::ops::Deref;
 use std::sync::Arc;
 
 /// A node that several hold. None of them changes it.
-#[derive(Drop)]
 pub struct Shared {
     node: Arc<Node>,
+}
+
+// By hand, so that whoever lets go of a node cites this, and need not prove again how each of its parts goes.
+impl Drop for Shared {
+    #[inline(always)]
+    fn drop(self) {
+        let Shared { node } = self;
+        drop(node);
+    }
 }
 
 impl Model for Shared {
