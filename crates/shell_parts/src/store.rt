@@ -13,12 +13,19 @@ use std::alloc::Global;
 use std::marker::Model;
 
 /// Well-formed pages. They can be opened where no group is open.
-#[derive(Drop)]
 pub struct Kept {
     pages: MemPages,
     // Whether a crash may keep some of the actions since the last flush. No contract says so where an opening was refused that
     // had to make the default tree; but then there was no database yet.
     crashes: bool,
+}
+
+// By hand, so that whoever lets go of kept pages cites this, and need not prove again how each of its parts goes.
+impl Drop for Kept {
+    fn drop(self) {
+        let Kept { pages, crashes: _ } = self;
+        drop(pages);
+    }
 }
 
 impl Model for Kept {

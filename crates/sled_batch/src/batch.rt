@@ -15,10 +15,18 @@ use std::collections::BTreeMap;
 use std::marker::Model;
 
 /// Writes of several keys that are to be made together: of each key the last one alone, in the order of the keys.
-#[derive(Debug, Drop)]
+#[derive(Debug)]
 pub struct Batch {
     // What each key is to have: a value, or none.
     writes: BTreeMap<IVec, Option<IVec>>,
+}
+
+// By hand, so that whoever lets go of a batch cites this, and need not prove again how each of its parts goes.
+impl Drop for Batch {
+    fn drop(self) {
+        let Batch { writes } = self;
+        drop(writes);
+    }
 }
 
 impl Model for Batch {

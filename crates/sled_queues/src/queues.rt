@@ -17,7 +17,6 @@ use std::marker::Model;
 
 /// The queues of the subscribers of a database. At most 1024 events wait in each: where one more comes, the oldest goes and is
 /// counted. An event costs the subscribers that watch a beginning of its key alone.
-#[derive(Drop)]
 pub struct Queues {
     // the queues by subscriber
     queues: BTreeMap<u64, Waiting>,
@@ -27,6 +26,21 @@ pub struct Queues {
     pending: Vec<u64>,
     // how many numbers were given
     given: u64,
+}
+
+// By hand, so that whoever lets go of the queues cites this, and need not prove again how each of its parts goes.
+impl Drop for Queues {
+    fn drop(self) {
+        let Queues {
+            queues,
+            lists,
+            pending,
+            given: _,
+        } = self;
+        drop(queues);
+        drop(lists);
+        drop(pending);
+    }
 }
 
 impl Model for Queues {

@@ -53,11 +53,15 @@ pub fn write<P: Pages>(pages: &mut P, alloc: Global, flight: InFlight) -> Result
 }
 
 // Makes a write by the steps of its call, from the root of its tree.
-pub(crate) fn write_from_root<P: Pages>(pages: &mut P, alloc: Global, of: &KeyWrite) -> Result<()>
-    ensures ok { OnOk result (MakesWrite (job_of of.now) (P.store pages.old) (P.store pages.new)) }
-    ensures err { IfErr result (StopsWriting (job_of of.now) (P.store pages.old) (P.store pages.new)) }
+pub(crate) fn write_from_root<P: Pages>(
+    pages: &mut P,
+    alloc: Global,
+    key_write: &KeyWrite,
+) -> Result<()>
+    ensures ok { OnOk result (MakesWrite (job_of key_write.now) (P.store pages.old) (P.store pages.new)) }
+    ensures err { IfErr result (StopsWriting (job_of key_write.now) (P.store pages.old) (P.store pages.new)) }
 {
-    match call_of(of) {
+    match call_of(key_write) {
         Ok(flight) => write(pages, alloc, flight),
         Err(e) => Err(e),
     }

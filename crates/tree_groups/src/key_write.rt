@@ -38,21 +38,40 @@ pub(crate) fn call_of(write: &KeyWrite) -> Result<InFlight>
     }
 }
 
+// The same key and value, as clones.
+#[inline(always)]
+fn copies_of(key: &IVec, value: &Option<IVec>) -> Result<(IVec, Option<IVec>)>
+    ensures ok { IfOk result (λ copies. copies ≡ (key.now, value.now)) }
+    ensures err { IfErr result (λ e. e ≡ NoMemory) }
+{
+    let key = match key.clone() {
+        Ok(key) => key,
+        Err(e) => return Err(e),
+    };
+    let Some(value) = value else {
+        return Ok((key, None));
+    };
+    match value.clone() {
+        Ok(value) => Ok((key, Some(value))),
+        Err(e) => {
+            drop(key);
+            Err(e)
+        }
+    }
+}
+
 // The call that sets the value at a key, or takes the key out.
 fn write_call(key: &IVec, value: &Option<IVec>) -> Result<Call>
     ensures ok { IfOk result (λ call. call ≡ call_with key.now value.now) }
     ensures err { IfErr result (λ e. e ≡ NoMemory) }
 {
-    let key = key.clone()?;
-    let Some(value) = value else {
-        return Ok(Call::Remove(key));
+    let (key, value) = match copies_of(key, value) {
+        Ok(copies) => copies,
+        Err(e) => return Err(e),
     };
-    match value.clone() {
-        Ok(value) => Ok(Call::Insert(key, value)),
-        Err(e) => {
-            drop(key);
-            Err(e)
-        }
+    match value {
+        Some(value) => Ok(Call::Insert(key, value)),
+        None => Ok(Call::Remove(key)),
     }
 }
 
@@ -62,15 +81,12 @@ pub(crate) fn link_of(key: &IVec, value: &Option<IVec>) -> Result<Link>
     ensures ok { IfOk result (λ link. link ≡ link_with key.now value.now) }
     ensures err { IfErr result (λ e. e ≡ NoMemory) }
 {
-    let key = key.clone()?;
-    let Some(value) = value else {
-        return Ok(Link::Del(key));
+    let (key, value) = match copies_of(key, value) {
+        Ok(copies) => copies,
+        Err(e) => return Err(e),
     };
-    match value.clone() {
-        Ok(value) => Ok(Link::Set(key, value)),
-        Err(e) => {
-            drop(key);
-            Err(e)
-        }
+    match value {
+        Some(value) => Ok(Link::Set(key, value)),
+        None => Ok(Link::Del(key)),
     }
 }

@@ -14,9 +14,16 @@ use std::alloc::Global;
 use std::marker::Model;
 
 /// What a transaction writes of each tree of its list: a batch for each position.
-#[derive(Drop)]
 pub struct Overlays {
     batches: Vec<Batch>,
+}
+
+// By hand, so that whoever lets go of these cites this, and need not prove again how each of its parts goes.
+impl Drop for Overlays {
+    fn drop(self) {
+        let Overlays { batches } = self;
+        drop(batches);
+    }
 }
 
 impl Model for Overlays {
@@ -93,6 +100,7 @@ impl Overlays {
     pub fn into_batches(self) -> Vec<Batch>
         ensures { result.items ≡ self }
     {
-        self.batches
+        let Overlays { batches } = self;
+        batches
     }
 }
