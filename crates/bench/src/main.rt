@@ -17,9 +17,9 @@ mod bench;
 mod pairs;
 
 use bench::{Bench, named};
+use line_words::input::Stopped;
 use pairs::Pairs;
 use sled::{Db, empty_pages};
-use sled_lines::input::Stopped;
 use std::env;
 use std::process::ExitCode;
 use std::time::{CpuClock, Duration};

@@ -1,5 +1,5 @@
 //! Keys and values that look random, the same for the same words of the command line.
-use sled_lines::input::Stopped;
+use line_words::input::Stopped;
 use sled_nodes::{IVec, Result};
 use std::alloc::Global;
 

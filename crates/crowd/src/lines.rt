@@ -3,6 +3,11 @@
 use crate::counting::{Counting, kept_of};
 use crate::many::{find, load, overtake, run_steps};
 use line_files::Program;
+use line_words::command::{Command, parse};
+use line_words::input::{Stopped, read_line, without_end};
+use line_words::print::Piece::Text;
+use line_words::print::push_bad_line;
+use line_words::words::{first_word, read_number, read_word};
 use shell_parts::known::tell_known;
 use shell_parts::look::{Look, is_read, look_of, tell_look};
 use shell_parts::store::Kept;
@@ -11,13 +16,8 @@ use shell_parts::tell::{
 };
 use sled::Db;
 use sled_draw::levels::count_levels;
-use sled_lines::command::{Command, parse};
-use sled_lines::input::{Stopped, read_line, without_end};
 use sled_lines::operator::NoOperator;
-use sled_lines::print::Piece::Text;
-use sled_lines::print::push_bad_line;
 use sled_lines::session::{Session, write};
-use sled_lines::words::{first_word, read_number, read_word};
 use sled_model::{Call, Whole};
 use sled_store::Pages;
 use std::alloc::Global;

@@ -7,8 +7,8 @@ mod lines;
 mod many;
 
 use line_files::check;
+use line_words::input::Stopped;
 use lines::{Sessions, run};
-use sled_lines::input::Stopped;
 use std::env;
 use std::io::{BufReader, BufWriter, Write};
 use std::process::ExitCode;

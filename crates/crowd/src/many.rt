@@ -3,12 +3,12 @@ ghost use Rattle.std.specs.Prelude.{IfOk};
 ghost use Rattle.sled_model.specs.State.{IsOnKey};
 
 use crate::counting::Counting;
+use line_words::command::{Command, parse};
+use line_words::input::Stopped;
+use line_words::print::Piece::{Number, Text, Word};
+use line_words::print::{Piece, push_pieces};
 use shell_parts::tell::{Result, Told, answered, tell, tell_outcome, tell_turns, tell_whether};
-use sled_lines::command::{Command, parse};
-use sled_lines::input::Stopped;
 use sled_lines::operator::NoOperator;
-use sled_lines::print::Piece::{Number, Text, Word};
-use sled_lines::print::{Piece, push_pieces};
 use sled_lines::session::Session;
 use sled_model::{Call, Outcome, Reply, Slot, Step, Tree, Whole};
 use std::alloc::Global;

@@ -1,7 +1,7 @@
 //! Pages between two openings: those of a database, or those that somebody else made.
 
+use line_words::input::Stopped;
 use shell_parts::store::Kept;
-use sled_lines::input::Stopped;
 use sled_nodes::{Error, Pid};
 use sled_pages::MemPages;
 use sled_store::Pages;

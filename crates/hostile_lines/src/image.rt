@@ -1,12 +1,12 @@
 //! Images of pages, which lines note page by page.
 
 use crate::held::pages_after;
+use line_words::input::Stopped;
+use line_words::print::Piece::Text;
+use line_words::print::push_text;
+use line_words::words::{first_word, read_number, read_word};
 use shell_parts::tell::{Result, Told, bytes_of, tell};
 use shell_parts::words::{NO_BYTES, NO_NUMBER, quote, words_of};
-use sled_lines::input::Stopped;
-use sled_lines::print::Piece::Text;
-use sled_lines::print::push_text;
-use sled_lines::words::{first_word, read_number, read_word};
 use sled_nodes::{Data, IVec, Index, Leaf, Node, Pid};
 use sled_pages::MemPages;
 use sled_store::Pages;

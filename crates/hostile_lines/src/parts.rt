@@ -1,8 +1,8 @@
 //! Lines that change pairs one after the other and are no group, made in parts: so there is a moment after each part.
 
-use sled_lines::print::Piece::Text;
-use sled_lines::print::{push_pieces, push_text};
-use sled_lines::words::first_word;
+use line_words::print::Piece::Text;
+use line_words::print::{push_pieces, push_text};
+use line_words::words::first_word;
 use sled_nodes::Result;
 
 /// A part of a line: a pair that is taken out, a tree that an import opens, or a pair that it puts in.

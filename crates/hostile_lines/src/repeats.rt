@@ -2,9 +2,9 @@
 
 use crate::parts::Part;
 use crate::source::Source;
-use sled_lines::input::Stopped;
-use sled_lines::print::{push_numbered, push_text};
-use sled_lines::words::first_word;
+use line_words::input::Stopped;
+use line_words::print::{push_numbered, push_text};
+use line_words::words::first_word;
 
 /// What lines are run for.
 #[derive(Clone, Copy)]

@@ -1,6 +1,6 @@
 //! Where sessions have their lines from.
 
-use sled_lines::input::Stopped;
+use line_words::input::Stopped;
 use std::io::Write;
 
 /// Where a session has its lines from, and what becomes of what they print.

@@ -1,10 +1,10 @@
 //! Lines that are run with each call of the store refused in turn, and with a crash after each of their actions.
 
 use crate::repeats::{Aim, Repeats, Seen, is_end};
+use line_words::print::Piece::Text;
+use line_words::print::push_text;
+use line_words::words::read_number;
 use shell_parts::tell::{Result, Told, answered, tell, tell_numbered};
-use sled_lines::print::Piece::Text;
-use sled_lines::print::push_text;
-use sled_lines::words::read_number;
 use std::alloc::Global;
 
 /// What lines are run again for.

@@ -1,10 +1,10 @@
 //! Reads that take no slot, and what they print.
 
 use crate::tell::{Result, Told, tell, tell_numbered, tell_refused, tell_whether};
+use line_words::input::Stopped;
+use line_words::print::Piece::{Text, Word};
+use line_words::words::{first_word, read_word};
 use sled::{Db, Iter};
-use sled_lines::input::Stopped;
-use sled_lines::print::Piece::{Text, Word};
-use sled_lines::words::{first_word, read_word};
 use sled_model::{MergeOperator, Tree};
 use sled_nodes::{Error, IVec};
 use sled_store::Pages;

@@ -3,8 +3,8 @@ ghost use Rattle.std.specs.Prelude.{◌≡◌, true, IfOk};
 ghost use Rattle.sled_pages.specs.Memory.{store_of};
 ghost use Rattle.tree_laws.specs.Crashes.{IsCrashConsistent};
 
+use line_words::input::Stopped;
 use sled::{DEFAULT_TREE, Db, crash_pages, empty_pages};
-use sled_lines::input::Stopped;
 use sled_model::MergeOperator;
 use sled_nodes::{Error, Pid};
 use sled_pages::MemPages;

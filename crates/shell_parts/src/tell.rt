@@ -1,9 +1,9 @@
 //! What is told of an answer, why a call was refused, and words that are read.
 
-use sled_lines::input::Stopped;
-use sled_lines::print::Piece::{Number, Text};
-use sled_lines::print::{Piece, Shown, push_outcome, push_pieces, push_refused, push_text};
-use sled_lines::words::read_word;
+use line_words::input::Stopped;
+use line_words::print::Piece::{Number, Text};
+use line_words::print::{Piece, Shown, push_outcome, push_pieces, push_refused, push_text};
+use line_words::words::read_word;
 use sled_model::Outcome;
 use sled_nodes::{Error, IVec};
 use std::alloc::Global;

@@ -1,7 +1,7 @@
 //! The words of a line, and what is said of one that cannot be read.
 
-use sled_lines::print::push_text;
-use sled_lines::words::{first_word, push_escape};
+use line_words::print::push_text;
+use line_words::words::{first_word, push_escape};
 use sled_nodes::Result;
 use std::alloc::Global;
 

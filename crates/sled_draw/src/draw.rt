@@ -1,7 +1,7 @@
 //! A tree drawn level by level, from its pages: as text, or as DOT.
 
-use sled_lines::print::{push_number, push_text};
-use sled_lines::words::push_word;
+use line_words::print::{push_number, push_text};
+use line_words::words::push_word;
 use sled_nodes::{Data, Error, IVec, Node, Pid, Result};
 use sled_store::Pages;
 use std::alloc::Global;

@@ -1,7 +1,7 @@
 //! The levels of a tree, from its pages.
 
-use sled_lines::print::Piece::{Number, Text};
-use sled_lines::print::push_pieces;
+use line_words::print::Piece::{Number, Text};
+use line_words::print::push_pieces;
 use sled_nodes::{Data, Pid, Result};
 use sled_store::Pages;
 use std::alloc::Global;

@@ -5,13 +5,13 @@ use Rattle.std.specs.Io.KnownBytes.{Keeps}
 use Rattle.std.specs.Io.BufRead.{DropsConsumable}
 use Rattle.std.specs.List.{slice_split}
 use Rattle.std.proofs.lemmas.List.Splits.{length-slice_split}
-use Rattle.sled_lines.specs.declared.command.Command.{Command}
-use Rattle.sled_lines.specs.Command.{command_of}
+use Rattle.line_words.specs.declared.command.Command.{Command}
+use Rattle.line_words.specs.Command.{command_of}
 use Rattle.sled_lines.specs.Serve.{without_last, lines_of}
-use Rattle.sled_lines.specs.theory.Search.{IsFirst}
+use Rattle.line_words.specs.Search.{IsFirst}
 use Rattle.sled_lines.specs.theory.Serve.{BeginsSo}
-use Rattle.sled_lines.proofs.Lines.{first_part}
-use Rattle.sled_lines.proofs.Searching.{lacking}
+use Rattle.line_words.proofs.Lines.{first_part}
+use Rattle.line_words.proofs.Searching.{lacking}
 
 more_parts : (part : List ℕ) (parts : List (List ℕ)) → 0 < length parts → without_last (part ∷ parts) ≡ part ∷ without_last parts
 more_parts part [] some = absurd (omega arith)

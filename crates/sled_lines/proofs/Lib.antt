@@ -1,13 +1,6 @@
-mod Spelling
-mod Plain
-mod Numbers
-mod Searching
-mod Lines
-mod Shortest
 mod Holding
 mod Reading
 mod Printing
 mod Obeying
 mod Living
 mod Serving
-mod Batching

@@ -2,12 +2,12 @@
 use Rattle.std.proofs.Common.{◌≡◌, ℕ, ◌+◌, List, [], ◌++◌, Option, Some, None, IfSome, Result, Ok, Err, IfOk, OnOk, sym, subst}
 use Rattle.sled_store.specs.Store.{Store}
 use Rattle.sled_model.specs.Maps.{Merge}
-use Rattle.sled_lines.specs.Print.{Prints, bad_line}
+use Rattle.line_words.specs.Print.{Prints, bad_line}
 use Rattle.sled_lines.specs.Session.{Obeys}
 use Rattle.sled_lines.specs.Serve.{lines_of, crash_of, Lives, AtEnd, AtBadLine, AtCrash, Obeying}
 use Rattle.sled_lines.specs.theory.Serve.{BeginsSo, Took, Place, LivesOn, LivesFrom}
-use Rattle.sled_lines.specs.declared.command.Command.{Command}
-use Rattle.sled_lines.specs.declared.command.Command.TheVariants as command
+use Rattle.line_words.specs.declared.command.Command.{Command}
+use Rattle.line_words.specs.declared.command.Command.TheVariants as command
 use Rattle.sled_lines.specs.declared.serve.End.{End}
 use Rattle.sled_lines.specs.declared.serve.End.TheVariants as end
 use Rattle.sled_lines.specs.declared.session.Session.{Session}

@@ -7,14 +7,14 @@ use Rattle.sled_model.specs.Maps.{Merge}
 use Rattle.sled_model.specs.declared.outcome.Outcome.{Outcome}
 use Rattle.tree_laws.specs.Contents.{trees_of}
 use Rattle.sled.specs.Export.{collections, RefusesExport}
-use Rattle.sled_lines.specs.Print.{Prints, outcome_line, refused_line, dump_text}
+use Rattle.line_words.specs.Print.{Prints, outcome_line, refused_line, dump_text}
 use Rattle.sled_lines.specs.Session.{slot_at, acts_at, performs, current_after, opened_or, obeys, Obeys}
 use Rattle.sled_lines.specs.theory.Session.{ActsAndShows, Shows}
 use Rattle.sled_lines.specs.declared.session.Act.{Act}
 use Rattle.sled_lines.specs.declared.session.Act.TheVariants as act
-use Rattle.sled_lines.specs.declared.command.Command.{Command}
-use Rattle.sled_lines.specs.declared.command.Command.TheVariants as command
-use Rattle.sled_lines.specs.declared.print.Shown.{Shown}
+use Rattle.line_words.specs.declared.command.Command.{Command}
+use Rattle.line_words.specs.declared.command.Command.TheVariants as command
+use Rattle.line_words.specs.declared.print.Shown.{Shown}
 use Rattle.sled_lines.specs.declared.session.Session.{Session}
 use Rattle.sled_lines.proofs.Printing.{prints_then, prints_onto}
 

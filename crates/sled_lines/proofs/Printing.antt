@@ -8,7 +8,7 @@ use Rattle.std.proofs.lemmas.Simd.{map-map}
 use Rattle.sled_nodes.specs.Order.{Key}
 use Rattle.sled_model.specs.Maps.{Map}
 use Rattle.std.proofs.KnownBytes.{Appends-nil, Appends-trans}
-use Rattle.sled_lines.specs.Print.{Prints, collection_lines, end_line, dump_text}
+use Rattle.line_words.specs.Print.{Prints, collection_lines, end_line, dump_text}
 
 -- nothing
 pub prints_none : (held : Option (List ℕ)) (gathered : List ℕ) → Prints held gathered held gathered []

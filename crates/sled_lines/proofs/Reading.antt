@@ -5,11 +5,11 @@ use Rattle.std.specs.Io.BufRead.{take_through, drop_through, ends_with_byte, str
 use Rattle.std.specs.List.{slice_split, onto_first}
 use Rattle.std.proofs.lemmas.List.Splits.{slice_split-cons_yes, slice_split-cons_no, length-slice_split}
 use Rattle.std.specs.Str.{bytes_eq}
-use Rattle.sled_lines.specs.declared.command.Command.{Command}
-use Rattle.sled_lines.specs.Command.{command_of}
+use Rattle.line_words.specs.declared.command.Command.{Command}
+use Rattle.line_words.specs.Command.{command_of}
 use Rattle.sled_lines.specs.Serve.{without_last, lines_of, crash_of}
 use Rattle.sled_lines.specs.theory.Serve.{BeginsSo}
-use Rattle.sled_lines.specs.declared.command.Command.TheVariants as command
+use Rattle.line_words.specs.declared.command.Command.TheVariants as command
 
 nil_not_cons : {X : Type 0} {x : X} {xs : List X} → [] ≡ x ∷ xs → ⊥
 nil_not_cons e = cc

@@ -11,7 +11,7 @@ use Rattle.sled.specs.Calls.{IsHandle}
 use Rattle.sled.specs.Opens.{Opens}
 use Rattle.sled.specs.Operators.{without_operators}
 use Rattle.sled.specs.Values.{DbValue}
-use Rattle.sled_lines.specs.Print.{Prints}
+use Rattle.line_words.specs.Print.{Prints}
 use Rattle.sled_lines.specs.Serve.{lines_of, no_meaning, recovered_text, OpensSession, ToTheEnd, ToABadLine, ToACrash, Served}
 use Rattle.sled_lines.specs.theory.Serve.{Place, LivesOn, LivedOn, LivedFrom, ServesOn, ServesFrom}
 use Rattle.sled_lines.specs.declared.operator.NoOperator.{NoOperator}

@@ -10,11 +10,11 @@ use Rattle.sled_model.specs.Maps.{Merge}
 use Rattle.sled_model.specs.State.{default_name}
 use Rattle.sled.specs.Calls.{IsHandle}
 use Rattle.sled.specs.Opens.{Opens}
-use Rattle.sled_lines.specs.Command.{command_of}
-use Rattle.sled_lines.specs.Print.{Prints, recovered_line, bad_line}
+use Rattle.line_words.specs.Command.{command_of}
+use Rattle.line_words.specs.Print.{Prints, recovered_line, bad_line}
 use Rattle.sled_lines.specs.Session.{obeys}
-use Rattle.sled_lines.specs.declared.command.Command.{Command}
-use Rattle.sled_lines.specs.declared.command.Command.TheVariants as command
+use Rattle.line_words.specs.declared.command.Command.{Command}
+use Rattle.line_words.specs.declared.command.Command.TheVariants as command
 use Rattle.sled_lines.specs.declared.operator.NoOperator.{NoOperator}
 use Rattle.sled_lines.specs.declared.serve.End.{End}
 use Rattle.sled_lines.specs.declared.serve.End.TheVariants.{NoLine, BadLine, Crash}

@@ -19,11 +19,11 @@ use Rattle.sled.specs.Export.{collections, RefusesExport}
 use Rattle.sled_calls.specs.Step.{MachineStepContract}
 use Rattle.sled_calls.specs.Finish.{RunsToEnd, Completes}
 use Rattle.sled_calls.specs.Values.{MachineValue, slots_of}
-use Rattle.sled_lines.specs.Print.{Prints, shown_of, shown_of_whole, outcome_line, refused_line, dump_text}
-use Rattle.sled_lines.specs.declared.command.Command.{Command}
-use Rattle.sled_lines.specs.declared.command.Command.TheVariants as command
-use Rattle.sled_lines.specs.declared.print.Shown.{Shown}
-use Rattle.sled_lines.specs.declared.print.Shown.TheVariants as shown
+use Rattle.line_words.specs.Print.{Prints, shown_of, shown_of_whole, outcome_line, refused_line, dump_text}
+use Rattle.line_words.specs.declared.command.Command.{Command}
+use Rattle.line_words.specs.declared.command.Command.TheVariants as command
+use Rattle.line_words.specs.declared.print.Shown.{Shown}
+use Rattle.line_words.specs.declared.print.Shown.TheVariants as shown
 use Rattle.sled_lines.specs.declared.session.Act.{Act}
 use Rattle.sled_lines.specs.declared.session.Act.TheVariants as act
 use Rattle.sled_lines.specs.declared.session.Session.{Session}

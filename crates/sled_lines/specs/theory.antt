@@ -1,4 +1,2 @@
-pub mod Search
-pub mod Words
 pub mod Serve
 pub mod Session

@@ -3,11 +3,11 @@
 use crate::fetch::takes_bytes;
 use crate::operators::operator_of;
 use hostile_lines::image::check_page;
+use line_words::print::Piece::Text;
+use line_words::print::{push_pieces, push_text};
+use line_words::words::{read_number, read_value, read_word};
 use shell_parts::look::read_bound;
 use shell_parts::words::{NO_BYTES, NO_NUMBER, is_semicolon, quote, words_of};
-use sled_lines::print::Piece::Text;
-use sled_lines::print::{push_pieces, push_text};
-use sled_lines::words::{read_number, read_value, read_word};
 use sled_nodes::{IVec, Result};
 use std::alloc::Global;
 use std::ops::Bound;

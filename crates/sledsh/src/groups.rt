@@ -1,11 +1,11 @@
 //! Groups of writes: batches on several trees, made together.
 
 use crate::names::Names;
+use line_words::batch::read_batch;
+use line_words::input::Stopped;
+use line_words::words::first_word;
 use shell_parts::tell::{Result, answered};
 use sled_batch::Batch;
-use sled_lines::batch::read_batch;
-use sled_lines::input::Stopped;
-use sled_lines::words::first_word;
 use sled_model::Tree;
 use std::alloc::Global;
 use transaction_lines::names::{named, tell_unnamed};

@@ -16,8 +16,8 @@ mod subscribers;
 mod table;
 
 use line_files::check;
+use line_words::input::Stopped;
 use shell::{Texts, run};
-use sled_lines::input::Stopped;
 use std::io::{BufReader, BufWriter, IsTerminal, Write};
 use std::process::ExitCode;
 use std::{env, fs};

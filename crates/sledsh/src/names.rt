@@ -1,7 +1,7 @@
 //! Trees by name.
 
+use line_words::input::Stopped;
 use shell_parts::tell::Result;
-use sled_lines::input::Stopped;
 use sled_model::Tree;
 use std::alloc::Global;
 use transaction_lines::names::TreeNames;

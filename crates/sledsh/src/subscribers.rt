@@ -1,8 +1,8 @@
 //! How calls came out, and the subscribers that they got.
 
+use line_words::print::Piece::Text;
+use line_words::print::{Shown, push_subscriber};
 use shell_parts::tell::{Result, Told, answered, tell, tell_shown};
-use sled_lines::print::Piece::Text;
-use sled_lines::print::{Shown, push_subscriber};
 use sled_model::{Outcome, Reply, Subscriber};
 use std::alloc::Global;
 

@@ -2,11 +2,11 @@
 
 use hostile_lines::image::Image;
 use hostile_lines::sweeps::Sweep;
+use line_words::print::Piece::Text;
+use line_words::words::first_word;
 use shell_parts::look::{Look, Side};
 use shell_parts::tell::{Result, Told, tell};
 use sled_draw::draw::Drawing;
-use sled_lines::print::Piece::Text;
-use sled_lines::words::first_word;
 
 /// What a line asks for. Some can begin in a slot too, or be made by a call of the database itself.
 #[derive(Clone, Copy)]

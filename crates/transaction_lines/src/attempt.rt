@@ -2,12 +2,12 @@
 
 use crate::inside::{Answer, Inside};
 use crate::script::{Act, End, Part, Script};
+use line_words::print::Piece::{self, Number, Text, Word};
+use line_words::print::{push_pieces, push_refused, push_text};
 use sled::{
     ConflictableTransactionError, ConflictableTransactionResult, UnabortableTransactionError,
     UnabortableTransactionResult, abort,
 };
-use sled_lines::print::Piece::{self, Number, Text, Word};
-use sled_lines::print::{push_pieces, push_refused, push_text};
 use sled_nodes::Result;
 use std::alloc::Global;
 

@@ -1,10 +1,10 @@
 //! Trees, by the words that name them.
 
+use line_words::print::Piece::Text;
+use line_words::print::push_pieces;
+use line_words::words::read_value;
 use shell_parts::tell::{Result, answered, bytes_of};
 use shell_parts::words::{NO_BYTES, quote};
-use sled_lines::print::Piece::Text;
-use sled_lines::print::push_pieces;
-use sled_lines::words::read_value;
 use sled_model::Tree;
 use std::alloc::Global;
 

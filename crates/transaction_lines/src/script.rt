@@ -1,10 +1,10 @@
 //! What a transaction does, as the words of a line spell it: parts, a `;` behind each of them, and then how it ends.
 
 use crate::names::check_names;
+use line_words::print::push_text;
+use line_words::words::{read_number, read_word};
 use shell_parts::words::{NO_BYTES, NO_NUMBER, is_semicolon, quote};
 use sled_batch::Batch;
-use sled_lines::print::push_text;
-use sled_lines::words::{read_number, read_word};
 use sled_nodes::{Error, IVec, Result};
 use std::alloc::{AllocFailed, Global};
 

@@ -3,12 +3,12 @@ use Rattle.std.specs.Prelude.{◌≡◌, ℕ, ◌+◌, Bool, true, false, List, 
 use Rattle.std.specs.Io.KnownBytes.{Keeps}
 use Rattle.sled_store.specs.Store.{Store}
 use Rattle.sled_model.specs.Maps.{Merge}
-use Rattle.sled_lines.specs.Command.{command_of}
-use Rattle.sled_lines.specs.Print.{Prints}
+use Rattle.line_words.specs.Command.{command_of}
+use Rattle.line_words.specs.Print.{Prints}
 use Rattle.sled_lines.specs.Serve.{lines_of, crash_of, Lives, LivesOver, Serves}
 use Rattle.sled_lines.specs.Session.{CanRun}
-use Rattle.sled_lines.specs.declared.command.Command.{Command}
-use Rattle.sled_lines.specs.declared.command.Command.TheVariants as command
+use Rattle.line_words.specs.declared.command.Command.{Command}
+use Rattle.line_words.specs.declared.command.Command.TheVariants as command
 use Rattle.sled_lines.specs.declared.serve.Buffers.{Buffers}
 use Rattle.sled_lines.specs.declared.session.Session.{Session}
 use Rattle.sled_lines.specs.declared.serve.Line.{Line}

@@ -1,5 +1,5 @@
 use Rattle.std.proofs.Common.{◌≡◌, None, sym, subst, ap}
-use Rattle.sled_lines.specs.Print.{Prints, bad_line}
+use Rattle.line_words.specs.Print.{Prints, bad_line}
 use Rattle.sled_lines.specs.theory.Serve.{Took, Place, place}
 use Rattle.sled_lines.specs.declared.serve.Buffers.{Buffers}
 use Rattle.sled_lines.specs.declared.serve.End.TheVariants as end

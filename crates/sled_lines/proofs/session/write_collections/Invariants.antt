@@ -1,6 +1,6 @@
 use Rattle.std.proofs.Common.{ℕ, List, Option, drop}
 use Rattle.std.specs.List.{flat_map}
-use Rattle.sled_lines.specs.Print.{collection_lines, Prints}
+use Rattle.line_words.specs.Print.{collection_lines, Prints}
 use Rattle.sled_lines.proofs.session.write_collections.Given as goal
 
 -- whoever prints the lines of the collections to come has printed those of all

@@ -1,6 +1,6 @@
 use Rattle.std.proofs.Common.{ℕ, List, Option, drop}
 use Rattle.std.specs.List.{flat_map}
-use Rattle.sled_lines.specs.Print.{pair_line, Prints}
+use Rattle.line_words.specs.Print.{pair_line, Prints}
 use Rattle.sled_lines.proofs.session.write_pairs.Given as goal
 
 -- whoever prints the lines of the pairs to come has printed those of all

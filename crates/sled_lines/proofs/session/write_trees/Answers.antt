@@ -1,5 +1,5 @@
 use Rattle.std.proofs.Common.{subst}
-use Rattle.sled_lines.specs.Print.{Prints}
+use Rattle.line_words.specs.Print.{Prints}
 use Rattle.sled_lines.proofs.Printing.{prints_then, prints_onto, dumped}
 use Rattle.sled_lines.proofs.session.write_trees.Goals as goal
 

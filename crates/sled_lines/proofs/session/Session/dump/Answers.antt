@@ -1,5 +1,5 @@
 use Rattle.std.proofs.Common.{ap}
-use Rattle.sled_lines.specs.Print.{dump_text}
+use Rattle.line_words.specs.Print.{dump_text}
 use Rattle.sled_lines.proofs.Obeying.{all_shown, refusal_shown}
 use Rattle.sled_lines.proofs.session.Session.dump.Goals as goal
 

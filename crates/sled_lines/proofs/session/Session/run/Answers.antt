@@ -1,4 +1,4 @@
-use Rattle.sled_lines.specs.declared.command.Command.TheVariants as command
+use Rattle.line_words.specs.declared.command.Command.TheVariants as command
 use Rattle.sled_lines.proofs.Obeying.{obeyed_as, obeyed_shown, obeyed_step, obeyed_finish, obeyed_abandon}
 use Rattle.sled_lines.proofs.session.Session.run.Goals as goal
 

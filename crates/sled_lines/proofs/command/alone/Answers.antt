@@ -1,6 +1,0 @@
-use Rattle.std.proofs.Common.{sym}
-use Rattle.sled_lines.proofs.Lines.{alone-words_of}
-use Rattle.sled_lines.proofs.command.alone.Goals as goal
-
-pub returns-in-Some : goal.returns-in-Some
-returns-in-Some c = rw c.in-Some.is (sym (alone-words_of c.args.command c.in-Some.field-0.now))

@@ -1,7 +1,0 @@
-use Rattle.std.proofs.Common.{◌≡◌, ◌++◌, drop}
-use Rattle.std.specs.List.{flat_map}
-use Rattle.sled_lines.specs.Print.{piece_text}
-use Rattle.sled_lines.proofs.print.push_pieces.Given as goal
-
-abbrev pub invariant-loop-piece : goal.invariant-loop-piece
-invariant-loop-piece l = l.out.items ++ flat_map piece_text (drop l.piece-index l.pieces) ≡ l.fn.out.items ++ flat_map piece_text l.fn.pieces

@@ -1,9 +1,0 @@
-use Rattle.std.proofs.Common.{◌-◌}
-use Rattle.sled_lines.specs.theory.Search.{Lacks}
-use Rattle.sled_lines.proofs.search.find.Given as goal
-
-abbrev pub invariant-loop-at : goal.invariant-loop-at
-invariant-loop-at l = Lacks l.byte l.bytes l.at
-
-abbrev pub decreases-loop-at : goal.decreases-loop-at
-decreases-loop-at l = l.last - l.at

@@ -1,7 +1,0 @@
-use Rattle.std.proofs.Common.{◌≡◌, true, take}
-use Rattle.std.specs.List.{list_all}
-use Rattle.sled_lines.specs.Words.{is_plain}
-use Rattle.sled_lines.proofs.words.count_plain.Given as goal
-
-abbrev pub invariant-loop-at : goal.invariant-loop-at
-invariant-loop-at l = list_all is_plain (take l.at l.bytes) ≡ true
