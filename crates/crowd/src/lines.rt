@@ -9,9 +9,10 @@ use line_words::print::Piece::Text;
 use line_words::print::push_bad_line;
 use line_words::words::{first_word, read_number, read_word};
 use shell_parts::known::tell_known;
-use shell_parts::look::{Look, is_read, look_of, tell_look};
+use shell_parts::look::tell_look;
 use shell_parts::store::Kept;
-use shell_parts::tell::{
+use shell_words::look::{Look, is_read, look_of};
+use shell_words::tell::{
     Result, Told, answered, tell, tell_numbered, tell_outcome, tell_refused, tell_turns, tell_why,
 };
 use sled::Db;

@@ -7,7 +7,7 @@ use line_words::command::{Command, parse};
 use line_words::input::Stopped;
 use line_words::print::Piece::{Number, Text, Word};
 use line_words::print::{Piece, push_pieces};
-use shell_parts::tell::{Result, Told, answered, tell, tell_outcome, tell_turns, tell_whether};
+use shell_words::tell::{Result, Told, answered, tell, tell_outcome, tell_turns, tell_whether};
 use sled_lines::operator::NoOperator;
 use sled_lines::session::Session;
 use sled_model::{Call, Outcome, Reply, Slot, Step, Tree, Whole};

@@ -4,17 +4,9 @@ use crate::repeats::{Aim, Repeats, Seen, is_end};
 use line_words::print::Piece::Text;
 use line_words::print::push_text;
 use line_words::words::read_number;
-use shell_parts::tell::{Result, Told, answered, tell, tell_numbered};
+use shell_words::choices::Sweep;
+use shell_words::tell::{Result, Told, answered, tell, tell_numbered};
 use std::alloc::Global;
-
-/// What lines are run again for.
-#[derive(Clone, Copy)]
-pub enum Sweep {
-    /// Each call of the store is refused in turn.
-    Refusals,
-    /// A crash keeps each number of their actions in turn.
-    Crashes,
-}
 
 /// A program whose sessions can be run again and again.
 pub trait Sessions {

@@ -1,7 +1,7 @@
 //! What is told of pages that were checked.
 
 use line_words::input::Stopped;
-use shell_parts::tell::{Result, Told, tell_numbered, tell_refused};
+use shell_words::tell::{Result, Told, tell_numbered, tell_refused};
 use sled_nodes::Error;
 use std::io::Write;
 

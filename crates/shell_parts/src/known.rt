@@ -1,9 +1,9 @@
 //! Lines that `sledrun` knows too, with the texts of their refusals.
 
-use crate::tell::{Result, Told, tell_refused, tell_shown};
 use line_words::command::Command;
 use line_words::input::Stopped;
 use line_words::print::Shown;
+use shell_words::tell::{Result, Told, tell_refused, tell_shown};
 use sled_lines::session::{Act, Session, write_trees};
 use sled_model::{Call, MergeOperator, Outcome};
 use sled_store::Pages;

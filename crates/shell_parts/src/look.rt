@@ -1,9 +1,10 @@
 //! Reads that take no slot, and what they print.
 
-use crate::tell::{Result, Told, tell, tell_numbered, tell_refused, tell_whether};
 use line_words::input::Stopped;
 use line_words::print::Piece::{Text, Word};
-use line_words::words::{first_word, read_word};
+use line_words::words::read_word;
+use shell_words::look::{Look, Side, read_bound};
+use shell_words::tell::{Result, Told, tell, tell_numbered, tell_refused, tell_whether};
 use sled::{Db, Iter};
 use sled_model::{MergeOperator, Tree};
 use sled_nodes::{Error, IVec};
@@ -15,65 +16,6 @@ use std::ops::Bound;
 // What a call of a database answers.
 type Answer<T> = sled_nodes::Result<T>;
 
-/// From which end pairs are taken.
-#[derive(Clone, Copy)]
-pub enum Side {
-    Front,
-    Back,
-    /// From both in turn.
-    Ends,
-}
-
-/// Which read it is.
-#[derive(Clone, Copy)]
-pub enum Look {
-    Has,
-    Read,
-    Below,
-    Above,
-    First,
-    Last,
-    Len,
-    Empty,
-    Names,
-    Pairs(Side),
-    Keys(Side),
-    Values(Side),
-    Prefix(Side),
-}
-
-// The reads, by the words that ask for them.
-const LOOKS: [(&str, Look); 18] = [
-    ("has", Look::Has),
-    ("read", Look::Read),
-    ("lt", Look::Below),
-    ("gt", Look::Above),
-    ("first", Look::First),
-    ("last", Look::Last),
-    ("len", Look::Len),
-    ("empty", Look::Empty),
-    ("names", Look::Names),
-    ("range", Look::Pairs(Side::Front)),
-    ("range-back", Look::Pairs(Side::Back)),
-    ("range-ends", Look::Pairs(Side::Ends)),
-    ("prefix", Look::Prefix(Side::Front)),
-    ("prefix-back", Look::Prefix(Side::Back)),
-    ("keys", Look::Keys(Side::Front)),
-    ("keys-back", Look::Keys(Side::Back)),
-    ("values", Look::Values(Side::Front)),
-    ("values-back", Look::Values(Side::Back)),
-];
-
-/// The read of a word, if it is one.
-pub fn look_of(name: &[u8]) -> Option<Look> {
-    for (own, look) in &LOOKS {
-        if own.as_bytes() == name {
-            return Some(*look);
-        }
-    }
-    None
-}
-
 // A key, if the word is one.
 fn key_of(alloc: Global, word: &[u8]) -> Result<IVec> {
     match read_word(alloc, word) {
@@ -83,16 +25,6 @@ fn key_of(alloc: Global, word: &[u8]) -> Result<IVec> {
             drop(e);
             Err(Stopped)
         }
-    }
-}
-
-/// The bound that a word is, if it is one.
-pub fn read_bound(alloc: Global, word: &[u8]) -> Answer<Option<Bound<IVec>>> {
-    match word {
-        b".." => Ok(Some(Bound::Unbounded)),
-        [b'[', key @ ..] => Ok(read_word(alloc, key)?.map(Bound::Included)),
-        [b'(', key @ ..] => Ok(read_word(alloc, key)?.map(Bound::Excluded)),
-        _ => Ok(None),
     }
 }
 
@@ -341,37 +273,6 @@ fn look_between<P: Pages, M: MergeOperator>(
     drop(lo);
     drop(hi);
     told
-}
-
-// Whether a word is a bound.
-fn is_bound(alloc: Global, word: &[u8]) -> Answer<bool> {
-    let bound = read_bound(alloc, word)?;
-    let is = bound.is_some();
-    drop(bound);
-    Ok(is)
-}
-
-// Whether a word is a byte string.
-fn is_key(alloc: Global, word: &[u8]) -> Answer<bool> {
-    let key = read_word(alloc, word)?;
-    let is = key.is_some();
-    drop(key);
-    Ok(is)
-}
-
-/// Whether a read takes these words, which stand behind its own.
-pub fn is_read(alloc: Global, look: Look, words: Option<&[u8]>) -> Answer<bool> {
-    match (look, words) {
-        (Look::First | Look::Last | Look::Len | Look::Empty | Look::Names, words) => {
-            Ok(words.is_none())
-        }
-        (_, None) => Ok(false),
-        (Look::Pairs(_) | Look::Keys(_) | Look::Values(_), Some(words)) => match first_word(words) {
-            (lo, Some(hi)) => Ok(is_bound(alloc, lo)? && is_bound(alloc, hi)?),
-            (_, None) => Ok(false),
-        },
-        (_, Some(word)) => is_key(alloc, word),
-    }
 }
 
 /// Adds what a read answers, with the words that its line has.

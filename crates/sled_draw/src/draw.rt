@@ -2,17 +2,10 @@
 
 use line_words::print::{push_number, push_text};
 use line_words::words::push_word;
+use shell_words::choices::Drawing;
 use sled_nodes::{Data, Error, IVec, Node, Pid, Result};
 use sled_store::Pages;
 use std::alloc::Global;
-
-/// As what a tree is drawn.
-#[derive(Clone, Copy)]
-pub enum Drawing {
-    Text,
-    /// For the program `dot`.
-    Dot,
-}
 
 // How a page is reached from above.
 #[derive(Clone, Copy)]

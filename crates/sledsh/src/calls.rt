@@ -1,11 +1,11 @@
 //! Calls of a machine, by the arguments of a line.
 
-use crate::arguments::Arguments;
 use crate::groups::batch_of;
 use crate::imports::collections_of;
-use crate::table::{Verb, Way};
 use line_words::command::Command;
-use shell_parts::tell::Result;
+use shell_words::arguments::Arguments;
+use shell_words::table::{Verb, Way};
+use shell_words::tell::Result;
 use sled_model::{Call, Tree, Whole};
 use sled_nodes::{IVec, Result as Answer};
 use std::alloc::Global;

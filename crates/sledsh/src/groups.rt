@@ -4,11 +4,11 @@ use crate::names::Names;
 use line_words::batch::read_batch;
 use line_words::input::Stopped;
 use line_words::words::first_word;
-use shell_parts::tell::{Result, answered};
+use shell_words::names::{named, tell_unnamed};
+use shell_words::tell::{Result, answered};
 use sled_batch::Batch;
 use sled_model::Tree;
 use std::alloc::Global;
-use transaction_lines::names::{named, tell_unnamed};
 
 /// The batch that words spell, if there are any.
 pub fn batch_of(alloc: Global, words: Option<&[u8]>) -> Result<Batch> {

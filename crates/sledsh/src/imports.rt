@@ -1,7 +1,7 @@
 //! Imports of pairs into trees by name.
 
-use crate::arguments::value_at;
-use crate::table::Verb;
+use shell_words::arguments::value_at;
+use shell_words::table::Verb;
 use sled_model::Collection;
 use sled_nodes::{IVec, Result};
 use std::alloc::Global;

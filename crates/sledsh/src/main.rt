@@ -2,18 +2,14 @@
 //! print with what was expected. What it prints is not proved: it is safe, and it ends.
 #![tactic(auto)]
 
-mod arguments;
 mod calls;
 mod fetch;
 mod groups;
 mod imports;
 mod names;
-mod operators;
 mod owned;
-mod read;
 mod shell;
 mod subscribers;
-mod table;
 
 use line_files::check;
 use line_words::input::Stopped;

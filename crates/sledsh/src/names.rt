@@ -1,10 +1,10 @@
 //! Trees by name.
 
 use line_words::input::Stopped;
-use shell_parts::tell::Result;
+use shell_words::names::TreeNames;
+use shell_words::tell::Result;
 use sled_model::Tree;
 use std::alloc::Global;
-use transaction_lines::names::TreeNames;
 
 /// What the lines `tree` got since the opening, one after the other. The default tree comes first and second, as if two lines had
 /// named it.

@@ -1,14 +1,14 @@
 //! Calls of the database itself, with no machine round it.
 
-use crate::arguments::Arguments;
 use crate::fetch::fetch_owned;
 use crate::groups::batch_of;
-use crate::operators::Operator;
 use crate::shell::{Shell, rest_behind, words_behind};
 use crate::subscribers::tell_no_subscriber;
-use crate::table::Verb;
 use line_words::print::Shown;
-use shell_parts::tell::Result;
+use shell_words::arguments::Arguments;
+use shell_words::operators::Operator;
+use shell_words::table::Verb;
+use shell_words::tell::Result;
 use sled::Db;
 use sled_model::{Reply, Subscriber, Tree};
 use sled_nodes::{IVec, Result as Answer};

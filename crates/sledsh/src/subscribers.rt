@@ -2,7 +2,7 @@
 
 use line_words::print::Piece::Text;
 use line_words::print::{Shown, push_subscriber};
-use shell_parts::tell::{Result, Told, answered, tell, tell_shown};
+use shell_words::tell::{Result, Told, answered, tell, tell_shown};
 use sled_model::{Outcome, Reply, Subscriber};
 use std::alloc::Global;
 

@@ -1,9 +1,9 @@
 //! One attempt of a transaction: its parts are done one after the other, and what each of them answers is taken down.
 
 use crate::inside::{Answer, Inside};
-use crate::script::{Act, End, Part, Script};
 use line_words::print::Piece::{self, Number, Text, Word};
 use line_words::print::{push_pieces, push_refused, push_text};
+use shell_words::script::{Act, End, Part, Script};
 use sled::{
     ConflictableTransactionError, ConflictableTransactionResult, UnabortableTransactionError,
     UnabortableTransactionResult, abort,

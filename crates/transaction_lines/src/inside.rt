@@ -1,6 +1,6 @@
 //! What parts do inside a transaction, of one tree or of several.
 
-use crate::script::{Act, Part};
+use shell_words::script::{Act, Part};
 use sled::{
     TransactionalTree, TransactionalTrees, UnabortableTransactionError,
     UnabortableTransactionResult,

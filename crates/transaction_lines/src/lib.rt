@@ -1,8 +1,6 @@
-//! Transactions that lines spell: how their parts are read, run, and told. Programs over lines stand on this.
+//! Transactions that lines spell: how they are run and told. Programs over lines stand on this.
 #![tactic(auto)]
 
 mod attempt;
 mod inside;
-pub mod names;
 pub mod run;
-pub mod script;

@@ -2,13 +2,13 @@
 
 use crate::attempt::{Answers, Attempted, GivenUp};
 use crate::inside::Inside;
-use crate::names::{TreeNames, trees_of};
-use crate::script::{Reach, Script, cut_first, read_script};
 use line_words::input::{Stopped, without_end};
 use line_words::print::Piece::Text;
 use line_words::words::first_word;
-use shell_parts::tell::{Result, Told, tell, tell_refused};
-use shell_parts::words::words_of;
+use shell_words::names::{TreeNames, trees_of};
+use shell_words::script::{Reach, Script, cut_first, read_script};
+use shell_words::tell::{Result, Told, tell, tell_refused};
+use shell_words::words::words_of;
 use sled::{Db, TransactionError, TransactionResult};
 use sled_lines::session::Session;
 use sled_model::{MergeOperator, Tree};

@@ -2,9 +2,9 @@
 
 use crate::arguments::Arguments;
 use crate::table::{Misfit, Verb, find};
+use crate::words::{push_typed, quote};
 use line_words::print::push_text;
 use line_words::words::first_word;
-use shell_parts::words::{push_typed, quote};
 use sled_nodes::Result;
 
 const SPACED: &str =

@@ -3,8 +3,8 @@ use Rattle.std.specs.Prelude.{ℕ, ◌+◌, ◌%◌, ◌^◌, List, [], ◌++◌
 use Rattle.std.specs.Int.{w64, to_be_bytes, from_be_bytes}
 use Rattle.std.specs.Cmp.Lexicographic.{slice_cmp}
 use Rattle.std.specs.Ordering.{nat_cmp, is_lt}
-use Rattle.sledsh.specs.declared.operators.Operator.{Operator}
-use Rattle.sledsh.specs.declared.operators.Operator.TheVariants.{Concat, Add, Max, Before, Keep, Gone, Short}
+use Rattle.shell_words.specs.declared.operators.Operator.{Operator}
+use Rattle.shell_words.specs.declared.operators.Operator.TheVariants.{Concat, Add, Max, Before, Keep, Gone, Short}
 
 abbrev pub bytes_or_none : Option (List ℕ) → List ℕ
 bytes_or_none None = []

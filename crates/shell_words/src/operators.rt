@@ -2,7 +2,7 @@
 ghost use Rattle.std.specs.Prelude.{◌≡◌, ◌+◌, ◌%◌, ◌^◌, ◌++◌, IfOk};
 ghost use Rattle.std.specs.Int.{w64, to_be_bytes};
 ghost use Rattle.std.specs.Option.{option_copied};
-ghost use Rattle.sledsh.specs.Operators.{number_of, bytes_or_none, greater, kept};
+ghost use Rattle.shell_words.specs.Operators.{number_of, bytes_or_none, greater, kept};
 
 use sled_model::MergeOperator;
 use std::alloc::{AllocError, Global};
@@ -114,7 +114,7 @@ fn kept_of(alloc: Global, old: Option<&[u8]>, new: &[u8]) -> Result<Vec<u8>, All
 }
 
 impl MergeOperator for Operator {
-    ghost use Rattle.sledsh.specs.Operators.{meaning};
+    ghost use Rattle.shell_words.specs.Operators.{meaning};
 
     ghost meant = { meaning };
 

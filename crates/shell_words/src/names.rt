@@ -1,10 +1,10 @@
 //! Trees, by the words that name them.
 
+use crate::tell::{Result, answered, bytes_of};
+use crate::words::{NO_BYTES, quote};
 use line_words::print::Piece::Text;
 use line_words::print::push_pieces;
 use line_words::words::read_value;
-use shell_parts::tell::{Result, answered, bytes_of};
-use shell_parts::words::{NO_BYTES, quote};
 use sled_model::Tree;
 use std::alloc::Global;
 

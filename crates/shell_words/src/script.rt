@@ -1,9 +1,9 @@
 //! What a transaction does, as the words of a line spell it: parts, a `;` behind each of them, and then how it ends.
 
 use crate::names::check_names;
+use crate::words::{NO_BYTES, NO_NUMBER, is_semicolon, quote};
 use line_words::print::push_text;
 use line_words::words::{read_number, read_word};
-use shell_parts::words::{NO_BYTES, NO_NUMBER, is_semicolon, quote};
 use sled_batch::Batch;
 use sled_nodes::{Error, IVec, Result};
 use std::alloc::{AllocFailed, Global};
@@ -65,31 +65,31 @@ impl Verb {
 
 /// What a part does.
 #[derive(Drop)]
-pub(crate) enum Act {
+pub enum Act {
     Get(IVec),
     Insert(IVec, IVec),
     Remove(IVec),
     Batch(Batch),
-    // It asks for a flush.
+    /// It asks for a flush.
     Flush,
-    // It takes an id.
+    /// It takes an id.
     Id,
 }
 
 /// A part: what it does, and the position of the tree on which it does that. Where there is no position it is 0.
 #[derive(Drop)]
-pub(crate) struct Part {
-    pub(crate) position: usize,
-    pub(crate) act: Act,
+pub struct Part {
+    pub position: usize,
+    pub act: Act,
 }
 
 /// How an attempt ends that did all parts.
 #[derive(Clone, Copy)]
-pub(crate) enum End {
+pub enum End {
     Commit,
     Abort,
     Conflict,
-    // A conflict where the id that was taken last, or 0 where none was, is below this.
+    /// A conflict where the id that was taken last, or 0 where none was, is below this.
     ConflictBelow(u64),
 }
 
@@ -103,23 +103,23 @@ const ENDS: [(&[u8], End); 4] = [
 
 /// What a transaction does.
 #[derive(Drop)]
-pub(crate) struct Script {
-    pub(crate) parts: Vec<Part>,
-    pub(crate) end: End,
+pub struct Script {
+    pub parts: Vec<Part>,
+    pub end: End,
 }
 
 /// Why words spell no transaction.
 #[derive(Clone, Copy)]
-pub(crate) enum Misfit<'a> {
+pub enum Misfit<'a> {
     NoMemory,
-    // What is said of a word.
+    /// What is said of a word.
     Word(&'a [u8], &'static str),
-    // What is said where words are missing.
+    /// What is said where words are missing.
     Missing(&'static [u8]),
 }
 
 /// What words spell.
-type Spelled<'a, T> = std::result::Result<T, Misfit<'a>>;
+pub type Spelled<'a, T> = std::result::Result<T, Misfit<'a>>;
 
 impl From<Error> for Misfit<'_> {
     fn from(error: Error) -> Self {
@@ -293,7 +293,7 @@ fn end_of<'a>(words: &'a [&'a [u8]]) -> Spelled<'a, End> {
 }
 
 /// Words up to the first `;`, and those behind it.
-pub(crate) fn cut_first<'a, 'b>(words: &'a [&'b [u8]]) -> (&'a [&'b [u8]], &'a [&'b [u8]]) {
+pub fn cut_first<'a, 'b>(words: &'a [&'b [u8]]) -> (&'a [&'b [u8]], &'a [&'b [u8]]) {
     for (place, word) in words.iter().enumerate() {
         if is_semicolon(word) {
             return (&words[..place], &words[place + 1..]);
@@ -318,11 +318,7 @@ fn add_parts<'a>(
 }
 
 /// What words say that a transaction does.
-pub(crate) fn read_script<'a>(
-    alloc: Global,
-    words: &'a [&'a [u8]],
-    reach: Reach,
-) -> Spelled<'a, Script> {
+pub fn read_script<'a>(alloc: Global, words: &'a [&'a [u8]], reach: Reach) -> Spelled<'a, Script> {
     let mut parts = Vec::new(alloc);
     match add_parts(alloc, &mut parts, words, reach) {
         Ok(end) => Ok(Script { parts, end }),

@@ -1,12 +1,11 @@
 //! The table of commands: a row says what a line begins with, what it takes, who answers it, and what it does.
 
-use hostile_lines::image::Image;
-use hostile_lines::sweeps::Sweep;
+use crate::choices::{Drawing, Sweep};
+use crate::image::Image;
+use crate::look::{Look, Side};
+use crate::tell::{Result, Told, tell};
 use line_words::print::Piece::Text;
 use line_words::words::first_word;
-use shell_parts::look::{Look, Side};
-use shell_parts::tell::{Result, Told, tell};
-use sled_draw::draw::Drawing;
 
 /// What a line asks for. Some can begin in a slot too, or be made by a call of the database itself.
 #[derive(Clone, Copy)]

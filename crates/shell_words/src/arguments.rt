@@ -1,17 +1,17 @@
 //! What a line has behind the words of its command: how many words that takes, and what each of them stands for.
 
-use crate::fetch::takes_bytes;
+use crate::how::takes_bytes;
+use crate::image::check_page;
+use crate::look::read_bound;
 use crate::operators::operator_of;
-use hostile_lines::image::check_page;
+use crate::script::{Reach, check_script};
+use crate::words::{NO_BYTES, NO_NUMBER, is_semicolon, quote, words_of};
 use line_words::print::Piece::Text;
 use line_words::print::{push_pieces, push_text};
 use line_words::words::{read_number, read_value, read_word};
-use shell_parts::look::read_bound;
-use shell_parts::words::{NO_BYTES, NO_NUMBER, is_semicolon, quote, words_of};
 use sled_nodes::{IVec, Result};
 use std::alloc::Global;
 use std::ops::Bound;
-use transaction_lines::script::{Reach, check_script};
 
 const NO_BOUND: &str = "is no bound: [ or ( and a byte string, or ..";
 
@@ -32,6 +32,7 @@ pub struct Arguments {
 }
 
 impl Arguments {
+    /// No arguments so far.
     pub fn none(alloc: Global) -> Arguments {
         Arguments {
             alloc,
@@ -48,10 +49,12 @@ impl Arguments {
         self.numbers.clear();
     }
 
+    /// The byte strings, and the words that stand for themselves, in their order; none for a `-`, and for a `;` between two parts.
     pub fn values(&self) -> &[Option<IVec>] {
         self.values.as_slice()
     }
 
+    /// The numbers, in their order.
     pub fn numbers(&self) -> &[u64] {
         self.numbers.as_slice()
     }
