@@ -68,6 +68,7 @@ fn crash_of(command: &Command) -> Option<u64>
 
 // What is to be done with a line, by the command that it reads as.
 #[tactic(auto, using(crate::proofs::Reading::is_crash))]
+#[inline(always)]
 fn to_do(command: Option<Command>) -> Line
     ensures { IsToDo command result }
 {
@@ -148,6 +149,7 @@ fn next_command<R: BufRead, W: Write>(
 }
 
 // Reads the next line.
+#[inline(always)]
 fn next_line<R: BufRead, W: Write>(
     alloc: Global,
     input: &mut R,
@@ -191,6 +193,7 @@ fn end_at_bad<W: Write>(buffers: &mut Buffers, output: &mut W) -> Result<End, St
 }
 
 // Runs a command, and prints how it came out.
+#[inline(always)]
 fn answer<P: Pages, M: MergeOperator, W: Write>(
     session: &mut Session<P, M>,
     command: Command,
