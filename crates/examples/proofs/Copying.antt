@@ -21,7 +21,7 @@ use Rattle.sled_model.specs.declared.call.Call.TheVariants.{Insert}
 use Rattle.tree_laws.specs.Contents.{trees_of}
 use Rattle.sled.specs.Values.{DbValue, db_state, numbers_of, named}
 use Rattle.sled.specs.Sound.{IsDb, MapsAscend}
-use Rattle.sled.specs.Export.{collections}
+use Rattle.tree_pages.specs.Export.{collections}
 use Rattle.sled.specs.Imports.{ImportDecided}
 use Rattle.examples.specs.Copies.{HoldsNothing, HasAllOf}
 use Rattle.examples.proofs.Queueing.{inserted}

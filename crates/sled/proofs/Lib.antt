@@ -1,4 +1,3 @@
-pub mod Walks
 pub mod Resting
 pub mod Testing
 pub mod Trees

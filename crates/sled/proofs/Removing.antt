@@ -49,8 +49,9 @@ use Rattle.tree_groups.specs.Writes.{PagesLast, ActsOften, NoAction, OneAction}
 use Rattle.tree_groups.proofs.Writing.{number_given}
 use Rattle.sled.specs.Flights.{StaysInChain, KeepsTreePages, IsStepRefused}
 use Rattle.sled.specs.Direct.{ActsAndCounts, WholeDecided, WholeRefused}
-use Rattle.sled.specs.Drops.{IsBeginning, RemovesTree, DropsNamed, DropsTree, MightDrop, refuses_drop_as, RefusesDrop}
-use Rattle.sled.specs.theory.Drops.{FreesPages, FreesNone, FreesOne, Counts, FreesLevels, DropsRoot}
+use Rattle.tree_pages.specs.Drops.{IsBeginning}
+use Rattle.sled.specs.Drops.{RemovesTree, DropsNamed, DropsTree, MightDrop, refuses_drop_as, RefusesDrop}
+use Rattle.tree_pages.specs.theory.Drops.{FreesPages, FreesNone, FreesOne, Counts, FreesLevels, DropsRoot}
 use Rattle.sled.proofs.Dropping.{known_on, off_chains, lasts_goes, lasts_then, Leaves, leaves_all}
 use Rattle.sled.proofs.Conducting.{loses_once, leaves_none}
 use Rattle.sled.proofs.Flushing.{same_state}

@@ -18,14 +18,11 @@ use Rattle.tree_laws.specs.Crashes.{AddsCrashStates}
 use Rattle.tree_laws.specs.Snapshot.{Snapshot, HasForest}
 use Rattle.sled_tree.specs.Known.{IsKnown}
 use Rattle.sled_tree.specs.declared.flight.InFlight.{InFlight}
+use Rattle.tree_pages.specs.Drops.{IsBeginning}
 use Rattle.sled.specs.Values.{DbValue, db_state, state_of, snapshot_of_db}
 use Rattle.sled.specs.Sound.{IsDb}
 use Rattle.sled.specs.Flights.{IsStepRefused, KeepsTreePages}
 use Rattle.sled.specs.Direct.{LeavesAll}
-
--- these pages are the first ones of the chain, in its order
-abbrev pub IsBeginning : List ℕ → List ℕ → Type 0
-IsBeginning pages chain = (rest : List ℕ) × (chain ≡ pages ++ rest)
 
 -- The root of the name goes, which decides, and then pages do that stood in the chains of the tree, each once: level by level from the
 -- leaves up, and of each level a beginning of its chain. Faults may be counted, and nothing else of the store changes. Where a

@@ -1,18 +1,8 @@
--- What an export gives.
-use Rattle.std.specs.Prelude.{◌≡◌, ℕ, true, false, List, map, unwrap_or, [], codes}
-use Rattle.sled_nodes.specs.Order.{Key}
+-- What an export is refused with.
+use Rattle.std.specs.Prelude.{◌≡◌, true, false}
 use Rattle.sled_store.specs.Store.{Store, now, refuses_read_as}
 use Rattle.sled_nodes.specs.declared.error.Error.{Error}
 use Rattle.sled_nodes.specs.declared.error.Error.TheVariants.{Closed}
-use Rattle.sled_model.specs.Maps.{Map, Maps}
-
--- a tree's collection: its type, its name, and its pairs
-abbrev pub collection : Maps → Key → Key × Key × Map
-collection maps name = (codes "tree", name, unwrap_or (maps name) [])
-
--- the collections of these trees, in their order
-abbrev pub collections : Maps → List (Key × ℕ) → List (Key × Key × Map)
-collections maps trees = map (λ t. collection maps t.0) trees
 
 abbrev pub refuses_export_as : Store → Error → Type 0
 refuses_export_as s Closed = (now s).in_group ≡ true

@@ -1,9 +1,6 @@
 pub mod Opens
-pub mod Export
 pub mod Direct
 pub mod Imports
-pub mod Operators
-pub mod Drops
 pub mod Watched
 pub mod Groups
 pub mod Transactions

@@ -25,7 +25,6 @@ ghost use Rattle.sled.specs.Calls.{MustBeRefused};
 ghost use Rattle.sled.specs.theory.Groups.{jobs_of_write, jobs_of_writes, Finds, FindsMore, Stands, stands_over, ReadsKey, BeginsAt, unread, events_of_call, Prepares, StopsPreparing, MakesAll, StopsAll};
 
 use crate::db::Db;
-use crate::tree_list::number_of;
 use sled_batch::Batch;
 use sled_model::{Event, MergeOperator, Tree};
 use sled_nodes::texts::HANDLE_OF_ANOTHER_DATABASE;
@@ -34,6 +33,7 @@ use sled_queues::Queues;
 use sled_store::{Pages, View};
 use std::alloc::Global;
 use tree_groups::{KeyWrite, is_settled, write_group};
+use tree_pages::number_of;
 use tree_reads::leaf_near;
 
 // The leaf with its version, where a write of it can be linked at once.

@@ -24,7 +24,6 @@ mod read;
 mod step;
 mod step_kept;
 mod transaction;
-mod tree_list;
 mod watch;
 mod whole;
 mod whole_kept;

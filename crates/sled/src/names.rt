@@ -1,24 +1,11 @@
 //! The trees by their names.
-ghost use Rattle.std.specs.Prelude.{◌≡◌, IfOk, IfErr, map};
-ghost use Rattle.sled_nodes.specs.declared.error.Error.TheVariants.{NoMemory};
+ghost use Rattle.std.specs.Prelude.{IfOk, IfErr};
 
 use crate::db::Db;
 use sled_model::MergeOperator;
 use sled_nodes::{Error, IVec, Result};
 use sled_store::Pages;
-use std::alloc::Global;
-
-// The names of these trees, in their order.
-fn names_of(alloc: Global, trees: &[(IVec, u64)]) -> Result<Vec<IVec>>
-    ensures ok { IfOk result (λ names. names.items ≡ map (λ t. t.0) trees.now) }
-    ensures err { IfErr result (λ e. e ≡ NoMemory) }
-{
-    let mut names = Vec::with_capacity(alloc, trees.len())?;
-    for tree in trees {
-        names.push(tree.0.clone()?)?;
-    }
-    Ok(names)
-}
+use tree_pages::names_of;
 
 impl<P: Pages, M: MergeOperator> Db<P, M> {
     ghost use Rattle.sled.specs.Calls.{RefusesHandle};

@@ -12,7 +12,6 @@ ghost use Rattle.sled_model.specs.declared.reply.Reply.TheVariants as told;
 
 use crate::DEFAULT_TREE;
 use crate::db::Db;
-use crate::tree_list::{number_of, put_tree, reserve_one};
 use sled_model::{MergeOperator, Tree};
 use sled_nodes::texts::NUMBERS_USED_UP;
 use sled_nodes::{Data, Error, Fault, IVec, Leaf, Node, Pid, Result};
@@ -20,6 +19,7 @@ use sled_queues::Queues;
 use sled_store::{Pages, law_given};
 use std::alloc::Global;
 use tree_check::verify_integrity;
+use tree_pages::{number_of, put_tree, reserve_one};
 
 // A leaf without pairs that covers every key.
 fn empty_leaf(alloc: Global) -> Result<Node>

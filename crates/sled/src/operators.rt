@@ -1,55 +1,11 @@
-//! The merge operators of the trees, in a list with the number of the tree beside each. It is as long as there are trees that have one.
-ghost use Rattle.std.specs.Prelude.{◌≡◌, IfErr, OnOk, OnErr};
-ghost use Rattle.std.specs.FinMap.Entries.{find};
-ghost use Rattle.std.specs.Ordering.{nat_cmp};
-ghost use Rattle.std.specs.Option.{option_copied};
-ghost use Rattle.sled_nodes.specs.declared.error.Error.TheVariants.{NoMemory};
-ghost use Rattle.sled.specs.theory.Operators.{with_operator, place};
+//! The merge operators of the trees.
+ghost use Rattle.std.specs.Prelude.{IfErr, OnOk};
 
 use crate::db::Db;
 use sled_model::{MergeOperator, Tree};
 use sled_nodes::Result;
 use sled_store::Pages;
-
-// The operator of the tree of this number.
-pub(crate) fn operator_of<M>(operators: &[(u64, M)], number: u64) -> Option<&M>
-    ensures { option_copied result ≡ find nat_cmp number operators.now }
-{
-    for operator in operators {
-        if number.cmp(&operator.0).is_eq() {
-            return Some(&operator.1);
-        }
-    }
-    None
-}
-
-// The place of the tree of this number in the list; where it has none, the list's end.
-fn place_of<M>(operators: &[(u64, M)], number: u64) -> usize
-    ensures { result ≡ place number operators.now }
-{
-    for i in 0..operators.len() {
-        if number.cmp(&operators[i].0).is_eq() {
-            return i;
-        }
-    }
-    operators.len()
-}
-
-// Gives the tree of this number an operator in place of the one that it has.
-fn set_operator<M: Drop>(operators: &mut Vec<(u64, M)>, number: u64, operator: M) -> Result<()>
-    ensures ok { OnOk result (operators.new.items ≡ with_operator number operator operators.old.items) }
-    ensures same { OnErr result (operators.new.items ≡ operators.old.items) }
-    ensures err { IfErr result (λ e. e ≡ NoMemory) }
-{
-    let i = place_of(operators.as_slice(), number);
-    if i < operators.len() {
-        let old = std::mem::replace(&mut operators[i], (number, operator));
-        drop(old);
-        return Ok(());
-    }
-    operators.push((number, operator))?;
-    Ok(())
-}
+use tree_pages::set_operator;
 
 impl<P: Pages, M: MergeOperator> Db<P, M> {
     ghost use Rattle.sled.specs.Operators.{OperatorSet, OperatorNotSet};

@@ -21,7 +21,6 @@ ghost use Rattle.sled.specs.theory.Kept.{ComesOut};
 ghost use Rattle.sled.specs.theory.Watched.{AdvancesOver, StepsOver, TellsPrepared};
 
 use crate::db::Db;
-use crate::operators::operator_of;
 use crate::step::{link_told, links_watched};
 use sled_model::{MAX_LOOPS, MergeOperator, Reply};
 use sled_nodes::texts::WALK_PASSED_TURNS;
@@ -30,6 +29,7 @@ use sled_queues::Queues;
 use sled_store::Pages;
 use sled_tree::{Change, InFlight, Stage, Went, advance, begin_again, link_change, prepare_change};
 use std::alloc::Global;
+use tree_pages::operator_of;
 
 // How a step came out, and the copies.
 type Kept = (Went, Option<(Reply, Reply)>);

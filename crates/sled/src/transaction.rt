@@ -13,13 +13,13 @@ ghost use Rattle.tree_transactions.specs.Transactions.{Begins, BeginsAll, Transa
 ghost use Rattle.sled.specs.Transactions.{RefusesList, trees_of_list, has_trees, ShowsLaw, ShowsAtLaw, RefusesToShowLaw, RefusesToShowAtLaw};
 
 use crate::db::Db;
-use crate::tree_list::number_of;
 use sled_batch::Batch;
 use sled_model::{MergeOperator, Tree};
 use sled_nodes::texts::TREES_OF_SEVERAL_DATABASES;
 use sled_nodes::{Error, Pid, Result};
 use sled_store::Pages;
 use std::alloc::Global;
+use tree_pages::number_of;
 use tree_transactions::{
     Commit, Overlays, TransactionAnswer, TransactionError, TransactionResult, TransactionalTree,
     TransactionalTrees, transact, transact_all,

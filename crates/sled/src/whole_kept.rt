@@ -12,11 +12,11 @@ ghost use Rattle.tree_reads.specs.Walk.{once, for_each};
 ghost use Rattle.sled.specs.Opens.{OpensBySteps, OpenRefusedBySteps};
 
 use crate::db::Db;
-use crate::tree_list::number_of;
 use sled_model::{MergeOperator, Reply, Tree};
 use sled_nodes::texts::NUMBERS_USED_UP;
 use sled_nodes::{Error, IVec, Result};
 use sled_store::Pages;
+use tree_pages::number_of;
 
 // A pop's reply with a copy of this pair. Refused with `NoMemory` alone.
 fn pair_told(pair: &(IVec, IVec)) -> Result<Reply>

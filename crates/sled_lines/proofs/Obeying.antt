@@ -6,7 +6,8 @@ use Rattle.sled_nodes.specs.declared.error.Error.{Error}
 use Rattle.sled_model.specs.Maps.{Merge}
 use Rattle.sled_model.specs.declared.outcome.Outcome.{Outcome}
 use Rattle.tree_laws.specs.Contents.{trees_of}
-use Rattle.sled.specs.Export.{collections, RefusesExport}
+use Rattle.tree_pages.specs.Export.{collections}
+use Rattle.sled.specs.Export.{RefusesExport}
 use Rattle.line_words.specs.Print.{Prints, outcome_line, refused_line, dump_text}
 use Rattle.sled_lines.specs.Session.{slot_at, acts_at, performs, current_after, opened_or, obeys, Obeys}
 use Rattle.sled_lines.specs.theory.Session.{ActsAndShows, Shows}

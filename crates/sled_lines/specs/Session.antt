@@ -15,7 +15,8 @@ use Rattle.sled_model.specs.declared.reply.Reply.TheVariants as reply
 use Rattle.sled_model.specs.declared.tree.Tree.{Tree}
 use Rattle.tree_laws.specs.Contents.{trees_of}
 use Rattle.sled.specs.Values.{DbValue}
-use Rattle.sled.specs.Export.{collections, RefusesExport}
+use Rattle.tree_pages.specs.Export.{collections}
+use Rattle.sled.specs.Export.{RefusesExport}
 use Rattle.sled_calls.specs.Step.{MachineStepContract}
 use Rattle.sled_calls.specs.Finish.{RunsToEnd, Completes}
 use Rattle.sled_calls.specs.Values.{MachineValue, slots_of}

@@ -13,7 +13,7 @@ use Rattle.sled_model.specs.Maps.{Map, Maps, Merge}
 use Rattle.sled_model.specs.State.{NamedTree}
 use Rattle.sled_store.specs.State.{nodes_of}
 use Rattle.tree_laws.specs.Contents.{trees_of, pairs_under}
-use Rattle.sled.specs.Export.{collections}
+use Rattle.tree_pages.specs.Export.{collections}
 use Rattle.sled.specs.Sound.{IsDb}
 use Rattle.sled.specs.Values.{DbValue, named, numbers_of}
 use Rattle.sled.proofs.Planting.{same_test}

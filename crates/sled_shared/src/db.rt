@@ -2,7 +2,8 @@
 ghost use Rattle.std.specs.Prelude.{◌≡◌, ◌+◌, ◌<◌, false, [], IfOk, IfErr, OnOk, OnErr};
 ghost use Rattle.sled_store.specs.Store.{now};
 ghost use Rattle.tree_laws.specs.Contents.{trees_of};
-ghost use Rattle.sled.specs.Export.{RefusesExport, collections};
+ghost use Rattle.tree_pages.specs.Export.{collections};
+ghost use Rattle.sled.specs.Export.{RefusesExport};
 ghost use Rattle.sled_model.specs.Collections.{contents_of};
 ghost use Rattle.sled_shared.specs.History.{maps_from};
 ghost use Rattle.sled_shared.specs.Gathered.{RefusesHandle};

@@ -1,7 +1,0 @@
-use Rattle.sled_store.specs.State.{nodes_of}
-use Rattle.sled_store.specs.Store.{now}
-use Rattle.sled.proofs.Walks.{HasNoted}
-use Rattle.sled.proofs.drop.first_pages.Given as goal
-
-abbrev pub invariant-loop-level : goal.invariant-loop-level
-invariant-loop-level g l = HasNoted (nodes_of (now (g.P.Pages.store l.pages))) l.fn.root l.firsts.items l.cursor l.level

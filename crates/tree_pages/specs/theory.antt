@@ -1,0 +1,3 @@
+pub mod Export
+pub mod Operators
+pub mod Drops
