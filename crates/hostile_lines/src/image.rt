@@ -1,6 +1,5 @@
 //! Images of pages, which lines note page by page.
 
-use crate::held::pages_after;
 use line_words::input::Stopped;
 use line_words::print::Piece::Text;
 use line_words::words::first_word;
@@ -59,5 +58,17 @@ impl Noted {
             return pages_after(made, done);
         }
         Ok(made)
+    }
+}
+
+/// The pages to which this was done, unless it was refused.
+pub fn pages_after(pages: MemPages, done: sled_nodes::Result<()>) -> Result<MemPages> {
+    match done {
+        Ok(()) => Ok(pages),
+        Err(error) => {
+            drop(error);
+            drop(pages);
+            Err(Stopped)
+        }
     }
 }

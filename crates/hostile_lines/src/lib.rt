@@ -1,8 +1,7 @@
-//! Lines that are hard on a store: pages that somebody else made, opened after a check; and lines that are run again and again, each
-//! time with another call of the store refused, or with a crash after another action. Programs over lines stand on this.
+//! Lines that are hard on a store: images of pages that somebody else made, what is told of a check of them, and lines that are run again
+//! and again, each time with another call of the store refused, or with a crash after another action. No database is needed.
 #![tactic(auto)]
 
-pub mod held;
 pub mod image;
 mod parts;
 pub mod repeats;

@@ -2,6 +2,7 @@
 //! two openings.
 #![tactic(auto)]
 
+pub mod held;
 pub mod known;
 pub mod look;
 pub mod store;

@@ -1,7 +1,8 @@
 //! Pages between two openings: those of a database, or those that somebody else made.
 
+use crate::store::Kept;
+use hostile_lines::image::pages_after;
 use line_words::input::Stopped;
-use shell_parts::store::Kept;
 use sled_nodes::{Error, Pid};
 use sled_pages::MemPages;
 use sled_store::Pages;
@@ -66,18 +67,6 @@ impl Held {
                 };
                 (Held::Foreign(pages), done)
             }
-        }
-    }
-}
-
-/// The pages to which this was done, unless it was refused.
-pub fn pages_after(pages: MemPages, done: Result<(), Error>) -> Result<MemPages, Stopped> {
-    match done {
-        Ok(()) => Ok(pages),
-        Err(error) => {
-            drop(error);
-            drop(pages);
-            Err(Stopped)
         }
     }
 }
