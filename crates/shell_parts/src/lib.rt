@@ -1,8 +1,7 @@
-//! What the programs over lines for people and for tests share: lines that `sledrun` knows too, reads that take no slot, and pages between
-//! two openings.
+//! What the programs over lines for people and for tests share above a database without a machine: pages between two openings, and reads
+//! that take no slot.
 #![tactic(auto)]
 
 pub mod held;
-pub mod known;
 pub mod look;
 pub mod store;
