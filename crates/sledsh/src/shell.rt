@@ -16,6 +16,7 @@ use line_words::input::{Stopped, read_line, without_end};
 use line_words::print::Piece::{Number, Text, Word};
 use line_words::print::{Shown, push_pieces, push_text};
 use line_words::words::first_word;
+use session_lines::transactions::{tell_transaction, tell_transaction_all};
 use shell_parts::held::Held;
 use shell_parts::look::tell_look;
 use shell_parts::store::Kept;
@@ -39,7 +40,6 @@ use sled_store::Pages;
 use std::alloc::Global;
 use std::fs;
 use std::io::{BufRead, Write};
-use transaction_lines::run::{tell_transaction, tell_transaction_all};
 
 // The name that databases are opened under.
 const DATABASE: &[u8] = b"sledsh";

@@ -13,7 +13,7 @@ use std::alloc::Global;
 
 /// Why a transaction is given up.
 #[derive(Clone, Copy)]
-pub(crate) enum GivenUp {
+pub enum GivenUp {
     /// It says so.
     Asked,
     /// There is no memory for what it prints.
@@ -21,7 +21,7 @@ pub(crate) enum GivenUp {
 }
 
 /// What an attempt comes to.
-pub(crate) type Attempted = ConflictableTransactionResult<(), GivenUp>;
+pub type Attempted = ConflictableTransactionResult<(), GivenUp>;
 
 /// What the parts of an attempt answered.
 #[derive(Drop)]

@@ -1,6 +1,6 @@
-//! Transactions that lines spell: how they are run and told. Programs over lines stand on this.
+//! Transactions that lines spell: how they are run and told, with no machine round the database. Programs over lines stand on this.
 #![tactic(auto)]
 
-mod attempt;
+pub mod attempt;
 mod inside;
 pub mod run;

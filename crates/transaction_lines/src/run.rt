@@ -2,25 +2,22 @@
 
 use crate::attempt::{Answers, Attempted, GivenUp};
 use crate::inside::Inside;
-use line_words::input::{Stopped, without_end};
+use line_words::input::Stopped;
 use line_words::print::Piece::Text;
-use line_words::words::first_word;
-use shell_words::names::{TreeNames, trees_of};
-use shell_words::script::{Reach, Script, cut_first, read_script};
+use shell_words::script::{Reach, Script, read_script};
 use shell_words::tell::{Result, Told, tell, tell_refused};
 use shell_words::words::words_of;
-use sled::{Db, TransactionError, TransactionResult};
-use sled_lines::session::Session;
+use sled::{Db, TransactionError, TransactionResult, TransactionalTree, TransactionalTrees};
 use sled_model::{MergeOperator, Tree};
 use sled_pages::MemPages;
 use std::alloc::Global;
 use std::cell::Cell;
 
-// What a transaction came to.
-type Ended = TransactionResult<(), GivenUp>;
+/// What a transaction came to.
+pub type Ended = TransactionResult<(), GivenUp>;
 
-// A transaction while it is run: what it does, and what the parts of its last attempt answered.
-struct Run {
+/// A transaction while it is run: what it does, and what the parts of its last attempt answered.
+pub struct Run {
     alloc: Global,
     script: Script,
     answers: Cell<Answers>,
@@ -39,12 +36,17 @@ impl Run {
         }
     }
 
-    // What a text spells on one tree, not yet run.
-    fn on_one_tree(alloc: Global, text: Option<&[u8]>) -> Result<Run> {
+    /// What a text spells on one tree, not yet run.
+    pub fn on_one_tree(alloc: Global, text: Option<&[u8]>) -> Result<Run> {
         let words = words_of(alloc, text)?;
         let run = Run::new(alloc, words.as_slice(), Reach::One);
         drop(words);
         run
+    }
+
+    /// What words spell on a list of trees, not yet run.
+    pub fn on_list(alloc: Global, words: &[&[u8]]) -> Result<Run> {
+        Run::new(alloc, words, Reach::List)
     }
 
     // One attempt. What the parts answered in an attempt before is forgotten.
@@ -55,8 +57,18 @@ impl Run {
         attempted
     }
 
-    // Adds what the parts answered, and what the transaction came to.
-    fn tell(self, out: &mut Told, ended: Ended) -> Result<()> {
+    /// One attempt in a transaction of one tree.
+    pub fn attempt_on_tree(&self, tree: &mut TransactionalTree<'_, MemPages>) -> Attempted {
+        self.attempt(tree)
+    }
+
+    /// One attempt in a transaction of several trees.
+    pub fn attempt_on_trees(&self, trees: &mut TransactionalTrees<'_, MemPages>) -> Attempted {
+        self.attempt(trees)
+    }
+
+    /// Adds what the parts answered, and what the transaction came to.
+    pub fn tell(self, out: &mut Told, ended: Ended) -> Result<()> {
         let Run {
             alloc: _,
             script,
@@ -88,38 +100,12 @@ fn tell_ending(out: &mut Told, ended: Ended) -> Result<()> {
     }
 }
 
-// Runs it on the current tree. Nothing is said of what that does, so that nobody who tells it has more to prove; nor below.
-fn run_on_current<M: MergeOperator>(session: &mut Session<MemPages, M>, run: &Run) -> Ended {
-    session.transaction(|tree| run.attempt(tree))
-}
-
-// Runs it on a tree of a database.
+// Runs it on a tree. Nothing is said of what that does, so that nobody who tells it has more to prove.
 fn run_on_tree<M: MergeOperator>(db: &mut Db<MemPages, M>, tree: &Tree, run: &Run) -> Ended {
-    db.transaction(tree, |tree| run.attempt(tree))
+    db.transaction(tree, |tree| run.attempt_on_tree(tree))
 }
 
-// Runs it on trees.
-fn run_on_trees<M: MergeOperator>(
-    session: &mut Session<MemPages, M>,
-    trees: &[&Tree],
-    run: &Run,
-) -> Ended {
-    session.transaction_all(trees, |trees| run.attempt(trees))
-}
-
-/// Runs the transaction that a line spells on the current tree, and adds what each part answers and how that came out.
-pub fn tell_transaction<M: MergeOperator>(
-    alloc: Global,
-    session: &mut Session<MemPages, M>,
-    line: &[u8],
-    out: &mut Told,
-) -> Result<()> {
-    let run = Run::on_one_tree(alloc, first_word(without_end(line)).1)?;
-    let ended = run_on_current(session, &run);
-    run.tell(out, ended)
-}
-
-/// The same by a call of a database, for the words of a line behind its command's own.
+/// Runs the transaction that words spell on a tree of a database, and adds what each part answers and how that came out.
 pub fn tell_owned_transaction<M: MergeOperator>(
     alloc: Global,
     db: &mut Db<MemPages, M>,
@@ -130,53 +116,4 @@ pub fn tell_owned_transaction<M: MergeOperator>(
     let run = Run::on_one_tree(alloc, Some(words))?;
     let ended = run_on_tree(db, tree, &run);
     run.tell(out, ended)
-}
-
-// Runs the transaction that words spell on trees.
-fn tell_on_trees<M: MergeOperator>(
-    alloc: Global,
-    session: &mut Session<MemPages, M>,
-    trees: &[Tree],
-    words: &[&[u8]],
-    out: &mut Told,
-) -> Result<()> {
-    let lent: Vec<&Tree> = trees.iter().collect(alloc)?;
-    let run = Run::new(alloc, words, Reach::List)?;
-    let ended = run_on_trees(session, lent.as_slice(), &run);
-    run.tell(out, ended)
-}
-
-// Runs the transaction that words spell on the trees that those before the first `;` name; or adds why they name none.
-fn tell_listed<M: MergeOperator, N: TreeNames>(
-    alloc: Global,
-    session: &mut Session<MemPages, M>,
-    names: &N,
-    words: &[&[u8]],
-    out: &mut Told,
-    why: &mut Vec<u8>,
-) -> Result<()> {
-    let (listed, words) = cut_first(words);
-    let trees = trees_of(alloc, session.tree(), names, listed, why)?;
-    let told = if why.is_empty() {
-        tell_on_trees(alloc, session, trees.as_slice(), words, out)
-    } else {
-        Ok(())
-    };
-    drop(trees);
-    told
-}
-
-/// Runs the transaction that a line spells on the trees that it names; or adds why it names none.
-pub fn tell_transaction_all<M: MergeOperator, N: TreeNames>(
-    alloc: Global,
-    session: &mut Session<MemPages, M>,
-    names: &N,
-    line: &[u8],
-    out: &mut Told,
-    why: &mut Vec<u8>,
-) -> Result<()> {
-    let words = words_of(alloc, first_word(without_end(line)).1)?;
-    let told = tell_listed(alloc, session, names, words.as_slice(), out, why);
-    drop(words);
-    told
 }

@@ -1,0 +1,4 @@
+//! Lines for which a session runs closures: transactions.
+#![tactic(auto)]
+
+pub mod transactions;
