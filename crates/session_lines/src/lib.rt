@@ -1,4 +1,5 @@
-//! Lines for which a session runs closures: transactions.
+//! Lines for which a session runs closures: transactions, and values that are read and written anew.
 #![tactic(auto)]
 
+pub mod fetch;
 pub mod transactions;

@@ -3,6 +3,8 @@
 use crate::store::Kept;
 use hostile_lines::image::pages_after;
 use line_words::input::Stopped;
+use sled::Db;
+use sled_model::MergeOperator;
 use sled_nodes::{Error, Pid};
 use sled_pages::MemPages;
 use sled_store::Pages;
@@ -18,6 +20,32 @@ pub enum Held {
 }
 
 impl Held {
+    /// Opens the pages under a name, those of which nothing is known after a check. Where that is refused it gives them back.
+    pub fn open<M: MergeOperator>(
+        self,
+        alloc: Global,
+        name: &[u8],
+    ) -> Result<Db<MemPages, M>, (Held, Error)> {
+        match self {
+            Held::Kept(kept) => match kept.open(alloc, name) {
+                Ok(db) => Ok(db),
+                Err((kept, error)) => Err((Held::Kept(kept), error)),
+            },
+            Held::Foreign(pages) => match Db::open_checked(alloc, pages, name) {
+                Ok(db) => Ok(db.with_operators()),
+                Err((pages, error)) => Err((Held::Foreign(pages), error)),
+            },
+        }
+    }
+
+    /// The pages, to be looked at.
+    pub fn pages(&self) -> &MemPages {
+        match self {
+            Held::Kept(kept) => kept.pages(),
+            Held::Foreign(pages) => pages,
+        }
+    }
+
     /// What a crash leaves that keeps so many actions.
     pub fn crash(self, alloc: Global, keep: u64) -> Result<Held, Stopped> {
         match self {

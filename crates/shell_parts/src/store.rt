@@ -85,6 +85,22 @@ impl Kept {
         (pages, crashes && has_default)
     }
 
+    /// Opens the pages under a name, unless a group is open in them. Where that is refused it gives them back.
+    pub fn open<M: MergeOperator>(
+        self,
+        alloc: Global,
+        name: &[u8],
+    ) -> Result<Db<MemPages, M>, (Kept, Error)> {
+        let (pages, crashes) = self.into_pages();
+        if pages.in_group() {
+            return Err((Kept::closed(pages, crashes), Error::Closed));
+        }
+        match Db::open(alloc, pages, name) {
+            Ok(db) => Ok(db.with_operators()),
+            Err((pages, error)) => Err((Kept::refused(pages, crashes), error)),
+        }
+    }
+
     /// What a crash leaves that keeps so many actions. Where nothing is known of that it is an empty store.
     pub fn crash(self, alloc: Global, keep: u64) -> Result<Kept, Stopped> {
         let keep = usize::try_from(keep).unwrap_or(usize::MAX);

@@ -2,14 +2,10 @@
 //! print with what was expected. What it prints is not proved: it is safe, and it ends.
 #![tactic(auto)]
 
-mod calls;
-mod fetch;
-mod groups;
-mod imports;
-mod names;
-mod owned;
+mod asks;
+mod input;
 mod shell;
-mod subscribers;
+mod state;
 
 use line_files::check;
 use line_words::input::Stopped;

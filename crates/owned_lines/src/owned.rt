@@ -1,10 +1,10 @@
-//! Calls of the database itself, with no machine round it.
+//! Calls of a database itself, as lines say them.
 
-use crate::fetch::fetch_owned;
-use crate::groups::batch_of;
-use crate::shell::{Shell, rest_behind, words_behind};
-use crate::subscribers::tell_no_subscriber;
+use crate::fetch::fetch;
 use line_words::print::Shown;
+use shell_calls::groups::batch_of;
+use shell_calls::lines::{Lines, rest_behind, words_behind};
+use shell_calls::subscribers::{Subscribers, tell_no_subscriber};
 use shell_words::arguments::Arguments;
 use shell_words::operators::Operator;
 use shell_words::table::Verb;
@@ -13,6 +13,7 @@ use sled::Db;
 use sled_model::{Reply, Subscriber, Tree};
 use sled_nodes::{IVec, Result as Answer};
 use sled_pages::MemPages;
+use std::alloc::Global;
 use transaction_lines::run::tell_owned_transaction;
 
 // What the value or the number in the reply is.
@@ -79,41 +80,42 @@ fn hear(db: &mut Db<MemPages, Operator>, verb: Verb, subscriber: &Subscriber) ->
     }
 }
 
-impl Shell {
-    // Makes the writes of a batch.
-    fn apply(&self, db: &mut Db<MemPages, Operator>, tree: &Tree) -> Result<Answer<Reply>> {
-        let batch = batch_of(self.alloc, words_behind(self.line.as_slice(), 2))?;
-        Ok(db.apply_batch(tree, batch).map(|()| Reply::Done))
-    }
+// Makes the writes of the batch that a line spells.
+fn apply(
+    alloc: Global,
+    db: &mut Db<MemPages, Operator>,
+    tree: &Tree,
+    line: &[u8],
+) -> Result<Answer<Reply>> {
+    let batch = batch_of(alloc, words_behind(line, 2))?;
+    Ok(db.apply_batch(tree, batch).map(|()| Reply::Done))
+}
 
-    /// Makes the call of a database that the line says, and adds what it answers.
-    pub fn make_owned(
-        &mut self,
-        db: &mut Db<MemPages, Operator>,
-        tree: &Tree,
-        verb: Verb,
-    ) -> Result<()> {
-        let arguments = &self.arguments;
-        let answer = match verb {
-            Verb::Insert | Verb::Set | Verb::Remove | Verb::Del | Verb::Merge => {
-                write(db, tree, verb, arguments).map(Reply::Value)
-            }
-            Verb::Cas => swap(db, tree, arguments),
-            Verb::Update | Verb::Fetch => {
-                fetch_owned(self.alloc, db, tree, verb, arguments).map(Reply::Value)
-            }
-            Verb::Batch => self.apply(db, tree)?,
-            Verb::Next | Verb::Unwatch => match self.subscribers.named(arguments.number()) {
-                Some(subscriber) => Ok(hear(db, verb, &subscriber)),
-                None => return tell_no_subscriber(&mut self.out),
-            },
-            Verb::Transaction => {
-                let words = rest_behind(self.line.as_slice(), 2);
-                return tell_owned_transaction(self.alloc, db, tree, words, &mut self.out);
-            }
-            _ => whole(db, tree, verb, arguments),
-        };
-        let shown = shown_of(verb);
-        self.subscribers.tell_answer(&mut self.out, shown, answer)
-    }
+/// Makes the call of a database that the line says, and adds what it answers.
+pub fn make_owned(
+    lines: &mut Lines,
+    subscribers: &mut Subscribers,
+    db: &mut Db<MemPages, Operator>,
+    tree: &Tree,
+    verb: Verb,
+) -> Result<()> {
+    let (alloc, arguments) = (lines.alloc, &lines.arguments);
+    let answer = match verb {
+        Verb::Insert | Verb::Set | Verb::Remove | Verb::Del | Verb::Merge => {
+            write(db, tree, verb, arguments).map(Reply::Value)
+        }
+        Verb::Cas => swap(db, tree, arguments),
+        Verb::Update | Verb::Fetch => fetch(alloc, db, tree, verb, arguments).map(Reply::Value),
+        Verb::Batch => apply(alloc, db, tree, lines.line.as_slice())?,
+        Verb::Next | Verb::Unwatch => match subscribers.named(arguments.number()) {
+            Some(subscriber) => Ok(hear(db, verb, &subscriber)),
+            None => return tell_no_subscriber(&mut lines.out),
+        },
+        Verb::Transaction => {
+            let words = rest_behind(lines.line.as_slice(), 2);
+            return tell_owned_transaction(alloc, db, tree, words, &mut lines.out);
+        }
+        _ => whole(db, tree, verb, arguments),
+    };
+    subscribers.tell_answer(&mut lines.out, shown_of(verb), answer)
 }

@@ -2,12 +2,14 @@
 
 use crate::groups::batch_of;
 use crate::imports::collections_of;
+use crate::subscribers::tell_no_subscriber;
 use line_words::command::Command;
 use shell_words::arguments::Arguments;
+use shell_words::how::{How, how_of};
 use shell_words::table::{Verb, Way};
-use shell_words::tell::Result;
-use sled_model::{Call, Tree, Whole};
-use sled_nodes::{IVec, Result as Answer};
+use shell_words::tell::{Result, Told, tell_refused, tell_turns};
+use sled_model::{Call, Subscriber, Tree, Whole};
+use sled_nodes::{Error, IVec, Result as Answer};
 use std::alloc::Global;
 
 // The call that is asked for.
@@ -99,5 +101,27 @@ pub fn handle_of(alloc: Global, arguments: &Arguments) -> Answer<Tree> {
             drop(database);
             Err(error)
         }
+    }
+}
+
+/// What is asked for a subscriber: its next event, or its end.
+pub fn hearing(verb: Verb, subscriber: Subscriber) -> Whole {
+    match verb {
+        Verb::Next => Whole::Next(subscriber),
+        _ => Whole::Unsubscribe(subscriber),
+    }
+}
+
+/// What a line says that is made of a value. It was read, so there is something of its name.
+pub fn how_in(arguments: &Arguments) -> How {
+    how_of(arguments.bytes(1)).unwrap_or(How::Short)
+}
+
+/// Adds what a line prints that asks a database, where there is none.
+pub fn tell_unasked(out: &mut Told, verb: Verb) -> Result<()> {
+    match verb {
+        Verb::Step | Verb::Finish | Verb::Abandon | Verb::Turns => tell_turns(out, None),
+        Verb::Next | Verb::Unwatch => tell_no_subscriber(out),
+        _ => tell_refused(out, Error::Closed),
     }
 }

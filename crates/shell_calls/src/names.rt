@@ -14,6 +14,7 @@ pub struct Names {
 }
 
 impl Names {
+    /// None so far.
     pub fn empty(alloc: Global) -> Names {
         Names {
             trees: Vec::new(alloc),

@@ -13,6 +13,7 @@ pub struct Subscribers {
 }
 
 impl Subscribers {
+    /// None so far.
     pub fn empty(alloc: Global) -> Subscribers {
         Subscribers {
             got: Vec::new(alloc),

@@ -1,20 +1,15 @@
 //! Calls that read a value and write what is made of it.
 
+use shell_calls::calls::how_in;
 use shell_words::arguments::Arguments;
-use shell_words::how::{How, how_of, made_of};
+use shell_words::how::made_of;
 use shell_words::operators::Operator;
 use shell_words::table::Verb;
-use sled::Db;
 use sled_lines::session::Session;
 use sled_model::Tree;
 use sled_nodes::{IVec, Result as Answer};
 use sled_pages::MemPages;
 use std::alloc::Global;
-
-// What a line says that is made of a value. It was read, so there is something of its name.
-fn how_in(arguments: &Arguments) -> How {
-    how_of(arguments.bytes(1)).unwrap_or(How::Short)
-}
 
 /// Reads a value of the current tree, and writes what is made of it.
 pub fn fetch(
@@ -29,22 +24,5 @@ pub fn fetch(
     match verb {
         Verb::Update => session.update_and_fetch(key, move |old| made_of(alloc, how, bytes, old)),
         _ => session.fetch_and_update(key, move |old| made_of(alloc, how, bytes, old)),
-    }
-}
-
-/// The same by a call of a database.
-pub fn fetch_owned(
-    alloc: Global,
-    db: &mut Db<MemPages, Operator>,
-    tree: &Tree,
-    verb: Verb,
-    arguments: &Arguments,
-) -> Answer<Option<IVec>> {
-    let key = arguments.bytes(0);
-    let bytes = arguments.bytes(2);
-    let how = how_in(arguments);
-    match verb {
-        Verb::Update => db.update_and_fetch(tree, key, move |old| made_of(alloc, how, bytes, old)),
-        _ => db.fetch_and_update(tree, key, move |old| made_of(alloc, how, bytes, old)),
     }
 }

@@ -1,0 +1,283 @@
+//! Lines that ask a database.
+
+use crate::shell::Shell;
+use crate::state::State;
+use known_lines::known::tell_known;
+use line_words::input::Stopped;
+use line_words::print::Piece::{Text, Word};
+use line_words::print::Shown;
+use line_words::words::first_word;
+use owned_lines::owned::make_owned;
+use session_lines::fetch::fetch;
+use session_lines::transactions::{tell_transaction, tell_transaction_all};
+use shell_calls::calls::{handle_of, hearing, known_of, tell_unasked, whole_of};
+use shell_calls::groups::group_of;
+use shell_calls::lines::{rest_behind, words_behind};
+use shell_calls::subscribers::tell_no_subscriber;
+use shell_parts::drawn::tell_drawn;
+use shell_parts::held::Held;
+use shell_parts::look::tell_look;
+use shell_parts::store::Kept;
+use shell_words::choices::Drawing;
+use shell_words::look::Look;
+use shell_words::operators::{Operator, operator_of};
+use shell_words::table::{Verb, Way};
+use shell_words::tell::{answered, tell, tell_refused, tell_turns, tell_whether};
+use sled_lines::session::Session;
+use sled_model::{Outcome, Reply, Tree, Whole};
+use sled_pages::MemPages;
+use std::io::Write;
+
+impl Shell {
+    /// Makes a tree current.
+    pub fn take_tree(
+        &mut self,
+        session: &mut Session<MemPages, Operator>,
+        tree: sled_nodes::Result<Tree>,
+    ) -> Result<(), Stopped> {
+        let tree = answered(tree)?;
+        let name = tree.name.as_ref();
+        let told = tell(
+            &mut self.lines.out,
+            &[Text(b"tree "), Word(name), Text(b"\n")],
+        );
+        session.set_tree(tree);
+        told
+    }
+
+    // Makes a whole call, and adds how it came out.
+    fn whole(
+        &mut self,
+        session: &mut Session<MemPages, Operator>,
+        whole: Whole,
+    ) -> Result<(), Stopped> {
+        let shown = Shown::of_whole(&whole);
+        let outcome = session.whole(whole);
+        let told = match &outcome {
+            Outcome::Decided(Reply::Tree(tree)) => {
+                let told = self.take_tree(session, tree.clone());
+                told.and(self.names.push(tree))
+            }
+            outcome => self
+                .subscribers
+                .tell_outcome(&mut self.lines.out, shown, outcome),
+        };
+        drop(outcome);
+        told
+    }
+
+    // Takes what a subscriber is told next, or ends it.
+    fn hear(
+        &mut self,
+        session: &mut Session<MemPages, Operator>,
+        verb: Verb,
+    ) -> Result<(), Stopped> {
+        match self.subscribers.named(self.lines.arguments.number()) {
+            Some(subscriber) => self.whole(session, hearing(verb, subscriber)),
+            None => tell_no_subscriber(&mut self.lines.out),
+        }
+    }
+
+    // Makes the group of writes that the line says, if its trees can be read.
+    fn group(&mut self, session: &mut Session<MemPages, Operator>) -> Result<(), Stopped> {
+        let words = rest_behind(self.lines.line.as_slice(), 1);
+        let tree = session.tree();
+        let group = group_of(
+            self.lines.alloc,
+            tree,
+            &self.names,
+            words,
+            &mut self.lines.why,
+        )?;
+        if self.lines.why.is_empty() {
+            return self.whole(session, Whole::Group(group));
+        }
+        drop(group);
+        self.lines.tell_bad()
+    }
+
+    // Runs the transaction that the line says, if its trees can be read.
+    fn transaction_all(
+        &mut self,
+        session: &mut Session<MemPages, Operator>,
+    ) -> Result<(), Stopped> {
+        tell_transaction_all(
+            self.lines.alloc,
+            session,
+            &self.names,
+            self.lines.line.as_slice(),
+            &mut self.lines.out,
+            &mut self.lines.why,
+        )?;
+        self.lines.tell_bad()
+    }
+
+    // Answers a read, with the words behind its own.
+    fn look(&mut self, session: &Session<MemPages, Operator>, which: Look) -> Result<(), Stopped> {
+        let (first, more) = first_word(rest_behind(self.lines.line.as_slice(), 1));
+        let words = (first, more.unwrap_or(b""));
+        tell_look(
+            self.lines.alloc,
+            session.db(),
+            session.tree(),
+            which,
+            words,
+            &mut self.lines.out,
+        )
+    }
+
+    // Makes current what the line names.
+    fn take_handle(&mut self, session: &mut Session<MemPages, Operator>) -> Result<(), Stopped> {
+        session.set_tree(handle_of(self.lines.alloc, &self.lines.arguments)?);
+        tell(&mut self.lines.out, &[Text(b"done\n")])
+    }
+
+    // Gives the current tree the operator that the line names.
+    fn set_operator(&mut self, session: &mut Session<MemPages, Operator>) -> Result<(), Stopped> {
+        let operator = operator_of(self.lines.arguments.bytes(0)).ok_or(Stopped)?;
+        let answer = session.set_merge_operator(operator);
+        let answer = answer.map(|()| Reply::Done);
+        self.subscribers
+            .tell_answer(&mut self.lines.out, Shown::Value, answer)
+    }
+
+    // Draws the current tree, or counts its pages.
+    fn show(
+        &mut self,
+        session: &Session<MemPages, Operator>,
+        drawing: Option<Drawing>,
+    ) -> Result<(), Stopped> {
+        let out = &mut self.lines.out;
+        tell_drawn(self.lines.alloc, session.db(), session.tree(), drawing, out)
+    }
+
+    // Takes a session apart, makes the call of its database that the line says, and makes a session again, where the same tree is current.
+    // The calls in flight are given up.
+    fn on_parts(
+        &mut self,
+        session: Session<MemPages, Operator>,
+        verb: Verb,
+    ) -> (State, Result<(), Stopped>) {
+        let (mut db, tree) = session.into_parts();
+        let told = make_owned(&mut self.lines, &mut self.subscribers, &mut db, &tree, verb);
+        (
+            State::Open(Session::with_tree(self.lines.alloc, db, tree)),
+            told,
+        )
+    }
+
+    // Answers a line that is a call of the database itself.
+    fn owned(&mut self, state: &mut State, verb: Verb) -> Result<(), Stopped> {
+        let shut = State::Shut(Held::Kept(Kept::empty(self.lines.alloc)));
+        let (next, told) = match std::mem::replace(state, shut) {
+            State::Open(session) => self.on_parts(session, verb),
+            State::Shut(held) => (State::Shut(held), tell_unasked(&mut self.lines.out, verb)),
+        };
+        let shut = std::mem::replace(state, next);
+        drop(shut.into_held());
+        told
+    }
+
+    // Runs a line that `sledrun` knows too, or that takes a slot.
+    fn known<W: Write>(
+        &mut self,
+        session: &mut Session<MemPages, Operator>,
+        verb: Verb,
+        output: &mut W,
+    ) -> Result<(), Stopped> {
+        let way = self.lines.way();
+        let words = words_behind(self.lines.line.as_slice(), 1);
+        let line = known_of(self.lines.alloc, verb, way, words, &self.lines.arguments)?;
+        tell_known(session, line, output, &mut self.lines.out)
+    }
+
+    // Makes the whole call that the line says.
+    fn call(
+        &mut self,
+        session: &mut Session<MemPages, Operator>,
+        verb: Verb,
+    ) -> Result<(), Stopped> {
+        match whole_of(
+            self.lines.alloc,
+            session.tree(),
+            verb,
+            &self.lines.arguments,
+        ) {
+            Ok(whole) => self.whole(session, whole),
+            Err(error) => tell_refused(&mut self.lines.out, error),
+        }
+    }
+
+    // Reads a value and writes what is made of it, which the line says.
+    fn fetch(
+        &mut self,
+        session: &mut Session<MemPages, Operator>,
+        verb: Verb,
+    ) -> Result<(), Stopped> {
+        let answer = fetch(self.lines.alloc, session, verb, &self.lines.arguments).map(
+            Reply::Value,
+        );
+        self.subscribers
+            .tell_answer(&mut self.lines.out, Shown::Value, answer)
+    }
+
+    // Answers a line that asks a session.
+    fn ask_session<W: Write>(
+        &mut self,
+        session: &mut Session<MemPages, Operator>,
+        verb: Verb,
+        output: &mut W,
+    ) -> Result<(), Stopped> {
+        match verb {
+            Verb::Look(which) => self.look(session, which),
+            Verb::Update | Verb::Fetch => self.fetch(session, verb),
+            Verb::Next | Verb::Unwatch => self.hear(session, verb),
+            Verb::PopMin
+            | Verb::PopMax
+            | Verb::Clear
+            | Verb::OpenTree
+            | Verb::DropTree
+            | Verb::Id
+            | Verb::Import
+            | Verb::ImportTyped
+            | Verb::ImportAll
+            | Verb::Watch => self.call(session, verb),
+            Verb::Group => self.group(session),
+            Verb::Transaction => {
+                tell_transaction(
+                    self.lines.alloc,
+                    session,
+                    self.lines.line.as_slice(),
+                    &mut self.lines.out,
+                )
+            }
+            Verb::TransactionAll => self.transaction_all(session),
+            Verb::Handle => self.take_handle(session),
+            Verb::Operator => self.set_operator(session),
+            Verb::Pages => self.show(session, None),
+            Verb::Draw(drawing) => self.show(session, Some(drawing)),
+            Verb::Turns => tell_turns(
+                &mut self.lines.out,
+                session.turns(self.lines.arguments.number()),
+            ),
+            Verb::Recovered => tell_whether(&mut self.lines.out, session.db().was_recovered()),
+            verb => self.known(session, verb, output),
+        }
+    }
+
+    /// Answers a line that asks a database.
+    pub fn ask<W: Write>(
+        &mut self,
+        state: &mut State,
+        verb: Verb,
+        output: &mut W,
+    ) -> Result<(), Stopped> {
+        if let Way::Owned = self.lines.way() {
+            return self.owned(state, verb);
+        }
+        match state {
+            State::Open(session) => self.ask_session(session, verb, output),
+            State::Shut(_) => tell_unasked(&mut self.lines.out, verb),
+        }
+    }
+}

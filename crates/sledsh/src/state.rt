@@ -1,0 +1,42 @@
+//! The store of a session of the shell.
+
+use shell_parts::held::Held;
+use shell_parts::store::Kept;
+use shell_words::operators::Operator;
+use sled_lines::session::Session;
+use sled_pages::MemPages;
+use sled_store::Pages;
+
+/// The store: opened, or the pages that a refused opening gave back.
+pub enum State {
+    /// A session over a database.
+    Open(Session<MemPages, Operator>),
+    /// No database is open.
+    Shut(Held),
+}
+
+impl State {
+    /// The pages, between two openings. The calls in flight are given up.
+    pub fn into_held(self) -> Held {
+        match self {
+            State::Open(session) => Held::Kept(Kept::of(session.into_db())),
+            State::Shut(held) => held,
+        }
+    }
+
+    /// The pages as they are.
+    pub fn pages(&self) -> &MemPages {
+        match self {
+            State::Open(session) => session.db().pages(),
+            State::Shut(held) => held.pages(),
+        }
+    }
+
+    /// Whether a group that was refused midway closed the database.
+    pub fn is_closed(&self) -> bool {
+        match self {
+            State::Open(session) => session.db().pages().in_group(),
+            State::Shut(_) => false,
+        }
+    }
+}
