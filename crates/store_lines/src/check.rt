@@ -69,7 +69,7 @@ impl Program for Texts {
         };
         let answers = printed_by(alloc, text);
         let added = match answers.text() {
-            Some(text) => printed.extend_from_slice(text.as_bytes()),
+            Some(text) => printed.extend_from_slice(text),
             None => Err(AllocError),
         };
         drop(answers);

@@ -26,11 +26,14 @@ impl Print for Part {
     }
 }
 
+// Behind a spelled byte nothing and `-` are no words of their own.
 fn push_text(out: &mut Text, text: &[u8]) {
     match text {
+        [b'#'] => out.push("%23"),
+        [b'#', b'-'] => out.push("%23-"),
         [b'#', rest @ ..] => {
             out.push("%23");
-            out.push_bytes(rest);
+            out.push_word(rest);
         }
         _ => out.push_word(text),
     }

@@ -1,5 +1,6 @@
 //! Lines: how byte strings and numbers are read.
 use crate::text::Text;
+use line_words::words::read_word;
 use sled_nodes::{IVec, Pid};
 use std::alloc::Global;
 use std::ops::Bound;
@@ -124,13 +125,23 @@ impl Line {
         number.unwrap_or(0)
     }
 
-    /// The bytes that a word spells. `%` is the empty string; elsewhere a `%` and two digits stand for one byte, and all else
-    /// for itself.
+    /// The byte string that the next word spells.
+    pub fn string(&mut self) -> Option<IVec> {
+        let word = word_at(self.words.as_slice(), self.at, self.begun).as_bytes();
+        let read = read_word(self.out.alloc, word);
+        self.go_on();
+        let string = self.out.kept(read)?;
+        self.is_bad |= string.is_none();
+        string
+    }
+
+    /// Its bytes.
     pub fn bytes(&mut self) -> Vec<u8> {
         let mut bytes = Vec::new(self.out.alloc);
-        let word = word_at(self.words.as_slice(), self.at, self.begun).as_bytes();
-        self.is_bad |= !push_spelled(word, &mut bytes, &mut self.out);
-        self.go_on();
+        if let Some(string) = self.string() {
+            self.out.is_cut |= bytes.extend_from_slice(string.as_ref()).is_err();
+            drop(string);
+        }
         bytes
     }
 
@@ -146,40 +157,6 @@ impl Line {
             }
         }
         list
-    }
-}
-
-// Adds the bytes that a word spells: whether it spells any.
-fn push_spelled(word: &[u8], bytes: &mut Vec<u8>, out: &mut Text) -> bool {
-    if word == b"%".as_slice() {
-        return true;
-    }
-    let mut rest = word;
-    for _ in 0..word.len() {
-        let Some((byte, others)) = first_byte(rest) else {
-            break;
-        };
-        out.keep(bytes, byte);
-        rest = others;
-    }
-    rest.is_empty() && !word.is_empty() && word != b"-".as_slice()
-}
-
-// The byte that a spelling begins with, and what follows it.
-fn first_byte(word: &[u8]) -> Option<(u8, &[u8])> {
-    match word {
-        [b'%', high, low, rest @ ..] => Some((hex_value(*high)? << 4 | hex_value(*low)?, rest)),
-        [byte, rest @ ..] if *byte != b'%' && byte.is_ascii_graphic() => Some((*byte, rest)),
-        _ => None,
-    }
-}
-
-// What a hexadecimal digit counts.
-fn hex_value(digit: u8) -> Option<u8> {
-    match digit {
-        b'0'..=b'9' => Some(digit - b'0'),
-        b'a'..=b'f' => Some(digit - b'a' + 10),
-        _ => None,
     }
 }
 
@@ -203,10 +180,7 @@ impl Word for Pid {
 
 impl Word for IVec {
     fn read(line: &mut Line) -> Option<IVec> {
-        let bytes = line.bytes();
-        let string = IVec::from_slice(line.out.alloc, bytes.as_slice());
-        drop(bytes);
-        line.out.kept(string)
+        line.string()
     }
 }
 

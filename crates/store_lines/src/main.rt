@@ -15,6 +15,7 @@ mod values;
 
 use check::{Texts, printed_by};
 use line_files::check;
+use std::io::Write;
 use std::process::ExitCode;
 use std::{env, fs, io};
 
@@ -97,7 +98,7 @@ fn run_text(rt: &HostRuntime, text: io::Result<String>) -> io::Result<()> {
     let printed = printed_by(rt.alloc(), text.as_str());
     drop(text);
     let done = match printed.text() {
-        Some(text) => rt.print(text),
+        Some(text) => io::writer(rt).write_all(text),
         None => Err(io::Error::from(io::ErrorKind::OutOfMemory)),
     };
     drop(printed);

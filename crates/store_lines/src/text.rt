@@ -1,13 +1,16 @@
 //! What is printed: how byte strings, numbers and answers stand in a line.
+use line_words::print::push_text;
+use line_words::words::push_word;
 use sled_nodes::{Error, Result};
 use std::alloc::Global;
 use std::fmt::Display;
+use std::io::Write;
 
 /// Text that is added to. Where there is no memory for a part of it, that is told at the end alone.
 #[derive(Drop)]
 pub struct Text {
     pub alloc: Global,
-    text: String,
+    text: Vec<u8>,
     /// Whether there was no memory for something.
     pub is_cut: bool,
 }
@@ -16,7 +19,7 @@ impl Text {
     pub fn new(alloc: Global) -> Text {
         Text {
             alloc,
-            text: String::new(alloc),
+            text: Vec::new(alloc),
             is_cut: false,
         }
     }
@@ -27,15 +30,16 @@ impl Text {
     }
 
     /// The text, if there was memory for all of it.
-    pub fn text(&self) -> Option<&str> {
+    pub fn text(&self) -> Option<&[u8]> {
         if self.is_cut {
             return None;
         }
-        Some(self.text.as_str())
+        Some(self.text.as_slice())
     }
 
     pub fn push(&mut self, text: &str) {
-        self.is_cut |= self.text.push_str(text).is_err();
+        let pushed = push_text(&mut self.text, text.as_bytes());
+        self.kept(pushed);
     }
 
     /// Adds the text of a value.
@@ -52,29 +56,16 @@ impl Text {
 
     /// Adds a line.
     pub fn push_line(&mut self, line: &Text) {
-        self.push(line.text.as_str());
+        let pushed = push_text(&mut self.text, line.text.as_slice());
+        self.kept(pushed);
         self.push("\n");
         self.is_cut |= line.is_cut;
     }
 
-    /// Adds bytes, each as it stands in a word.
-    pub fn push_bytes(&mut self, bytes: &[u8]) {
-        for byte in bytes {
-            let pushed = match *byte {
-                b'!'..=b'~' if *byte != b'%' => self.text.push(char::from(*byte)),
-                byte => write!(self.text, "%{byte:02x}"),
-            };
-            self.is_cut |= pushed.is_err();
-        }
-    }
-
     /// Adds a byte string.
     pub fn push_word(&mut self, bytes: &[u8]) {
-        match bytes {
-            [] => self.push("%"),
-            b"-" => self.push("%2d"),
-            _ => self.push_bytes(bytes),
-        }
+        let pushed = push_word(&mut self.text, bytes);
+        self.kept(pushed);
     }
 
     /// Adds a word, a space and a number.
