@@ -17,11 +17,11 @@ use Rattle.sled.specs.Groups.{GroupDecided, GroupRefused}
 use Rattle.sled.specs.Sound.{MapsAscend}
 use Rattle.sled.specs.Values.{DbValue, db_state}
 use Rattle.sled.proofs.Written.{after_both}
+use Rattle.example_parts.specs.Reads.{maps_now}
+use Rattle.example_parts.proofs.Added.{left_by}
+use Rattle.example_parts.proofs.Maps.{first_there}
 use Rattle.examples.specs.Batches.{batch_size, with_pairs, LeavesBatches, written, LoadsBatch, StopsBatch}
-use Rattle.examples.specs.Reads.{maps_now}
-use Rattle.examples.proofs.Leaving.{left_by}
 use Rattle.examples.proofs.Loading.{with_none, with_more, batch_puts, next_taken, next_left}
-use Rattle.examples.proofs.Stocking.{first_there}
 
 pub none_left : (rest : Map) → length rest ≡ 0 → rest ≡ []
 none_left [] e = refl

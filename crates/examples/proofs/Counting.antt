@@ -30,8 +30,10 @@ use Rattle.sled.specs.Values.{DbValue, db_state, named}
 use Rattle.sled.specs.Reads.{ReadsMap}
 use Rattle.sled.specs.Direct.{PointRefused}
 use Rattle.sled.specs.Fetch.{Closure, FetchDecided, FetchRefused}
-use Rattle.examples.specs.Reads.{found_in, maps_now}
-use Rattle.examples.specs.Counters.{number_in, sum_of, bytes_of_sum, adding, counter_in, SetsCounter}
+use Rattle.example_parts.specs.Reads.{found_in, maps_now}
+use Rattle.example_parts.specs.Counters.{number_in, sum_of, bytes_of_sum, adding, counter_in}
+use Rattle.example_parts.proofs.Numbers.{number_read}
+use Rattle.examples.specs.Counters.{SetsCounter}
 
 -- the bytes of a sum are its number
 pub sum_read : (stood : Option Key) (n : ℕ) → number_in (Some (bytes_of_sum stood n)) ≡ sum_of (number_in stood) n
@@ -39,9 +41,6 @@ sum_read stood n = from_be_bytes-to_be_bytes_8 (sum_of (number_in stood) n) (bel
   where
     below : (m : ℕ) → m % 2 ^ 64 < 2 ^ 64
     below m = mod_below m (2 ^ 64) (omega arith)
-
-pub number_read : (bytes : Key) (n : ℕ) → bytes ≡ to_be_bytes w64 n → n < 2 ^ 64 → number_in (Some bytes) ≡ n
-number_read bytes n is fits = ap (λ b. number_in (Some b)) is ∙ from_be_bytes-to_be_bytes_8 n fits
 
 -- ---- a call that changes nothing
 

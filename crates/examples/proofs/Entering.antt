@@ -1,9 +1,7 @@
 -- What a change of a stock writes, and that the index agrees with the table after it.
-use Rattle.std.proofs.Common.{◌≡◌, ◌≢◌, ◌⊎◌, inl, inr, false, List, [], ◌∷◌, ◌++◌, T, Option, Some, None, unwrap_or, Less, Equal, Greater, is_eq, sym, refl, ap, ◌∙◌, subst}
+use Rattle.std.proofs.Common.{◌≡◌, ◌≢◌, ◌⊎◌, inl, inr, List, [], ◌∷◌, ◌++◌, T, Option, Some, None, unwrap_or, sym, refl, ap, ◌∙◌, subst}
 use Rattle.std.specs.FinMap.Entries.{find, put, is_sorted, is_sorted-put}
-use Rattle.std.specs.declared.cmp.Ordering.{Ordering}
-use Rattle.std.proofs.lemmas.Cmp.{tied_itself}
-use Rattle.sled_nodes.proofs.Basics.{none_some, some_is, false_true, key_total, key_same}
+use Rattle.sled_nodes.proofs.Basics.{none_some, some_is, key_total}
 use Rattle.sled_nodes.proofs.Put.{found_here, found_there}
 use Rattle.ordered_keys.specs.Keys.{IsOneToOne}
 use Rattle.ordered_keys.specs.declared.part.Kind.TheVariants as kind
@@ -11,20 +9,8 @@ use Rattle.ordered_keys.specs.declared.part.Part.{Part}
 use Rattle.ordered_keys.specs.declared.part.Part.TheVariants.{Text}
 use Rattle.sled_nodes.specs.Order.{Key, key_cmp}
 use Rattle.sled_batch.specs.Batch.{Writes}
+use Rattle.example_parts.proofs.Keys.{same_or_apart}
 use Rattle.examples.specs.Stock.{entry_key, Agree, item_taken, entry_taken, item_put, entry_put}
-
--- ---- keys
-
-pub apart : (q k : Key) → is_eq (key_cmp q k) ≡ false → q ≢ k
-apart q k off same = false_true (sym off ∙ ap (λ x. is_eq (key_cmp x k)) same ∙ ap is_eq (tied_itself key_total k))
-
-pub same_or_apart : (q k : Key) → (q ≡ k) ⊎ (q ≢ k)
-same_or_apart q k = go (key_cmp q k) refl
-  where
-    go : (o : Ordering) → key_cmp q k ≡ o → (q ≡ k) ⊎ (q ≢ k)
-    go Less e = inr (apart q k (ap is_eq e))
-    go Equal e = inl (key_same q k e)
-    go Greater e = inr (apart q k (ap is_eq e))
 
 -- ---- what a change writes
 

@@ -17,7 +17,7 @@ use Rattle.sled_model.specs.Backlog.{Backlog, no_backlog, comes, next_of, after_
 use Rattle.sled_model.specs.Maps.{Map, Merge}
 use Rattle.sled_model.specs.Queues.{backlog_in, waiting_in, without_next}
 use Rattle.sled_model.specs.Answer.{key_of, decision_of, map_after, event_of}
-use Rattle.sled_model.specs.Refusal.{MustRefuse, IsClosed, IsDropped, first_of, foreign_test, is_number, must_refuse_of}
+use Rattle.sled_model.specs.Refusal.{IsClosed, IsDropped, foreign_test, is_number, must_refuse_of}
 use Rattle.sled_model.specs.State.{State, NamedTree, Queue, matches, queues_after}
 use Rattle.sled_model.specs.Whole.{TakesNext, Watches, DecidesPoint, GivesUpQueue}
 use Rattle.sled_model.specs.declared.call.Call.{Call}
@@ -36,6 +36,7 @@ use Rattle.sled_queues.specs.Events.{Turn, after_turns, taken_by, Stays}
 use Rattle.sled_queues.specs.Turns.{turns_of_event}
 use Rattle.sled_queues.specs.Trees.{IsTreeAfter}
 use Rattle.sled_queues.proofs.Copied.{copy_law, follows_law, after_both}
+use Rattle.example_parts.proofs.Maps.{second_none}
 use Rattle.examples.proofs.Missing.{GivenBy, given_by, comes_fits, stands_after, some_missed, none_missed}
 use Rattle.examples.proofs.Turned.{copies_prefix}
 use Rattle.examples.specs.declared.endings.Progress.{Progress}
@@ -315,10 +316,6 @@ module _ {P M : Type 0} (store : P → Store) (meant : M → Merge) (d : DbValue
       record { tested = r.tested; named = r.named; there = r.there; is = copies_prefix prefix es r.named.map (record { has = λ q. h.has q ∙ ap (find key_cmp q) (is ∙ r.is) }) }
 
 -- a tree that passes the tests has its number
-pub second_none : (a b : Option MustRefuse) → first_of a b ≡ None → b ≡ None
-second_none None b e = e
-second_none (Some m) b e = absurd cc
-
 number_is : (s : State) (tree : Tree) (named : NamedTree) → must_refuse_of s (tree ∷ []) ≡ None → s.trees tree.name ≡ Some named → named.number ≡ tree.number
 number_is s tree named tested there =
     eqb-true named.number tree.number (sym (ap (is_number tree.number) there)

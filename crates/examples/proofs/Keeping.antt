@@ -16,8 +16,8 @@ use Rattle.sled_model.specs.Whole.{new_tree, state_opened}
 use Rattle.sled_model.specs.declared.call.Call.TheVariants.{Insert}
 use Rattle.sled.specs.Values.{DbValue, db_state}
 use Rattle.sled.specs.Imports.{ImportDecided, ImportRefused}
+use Rattle.example_parts.proofs.Keys.{insert_there}
 use Rattle.examples.specs.Copies.{KeepsTree, LosesNothing}
-use Rattle.examples.proofs.Keys.{insert_there}
 
 as_it_is : (s : State) (name : Key) (tree : NamedTree) → s.trees name ≡ Some tree → KeepsTree s name tree
 as_it_is s name tree there = record { named = tree; there = there; number = refl; merge = refl; pairs = λ key value is. is }

@@ -1,31 +1,11 @@
--- What a crash may leave after some call, by what it might leave before and the maps that the call added.
-use Rattle.std.proofs.Common.{◌≡◌, ◌⊎◌, ℕ, zero, suc, ◌<◌, ◌≤◌, length, take, Bool, true, false, cond, List, [], ◌∷◌, append-nil, map, sym, refl, ap, ◌∙◌, inl, inr, arith}
+-- What a crash leaves that keeps all actions.
+use Rattle.std.proofs.Common.{◌≡◌, ℕ, zero, suc, ◌<◌, ◌≤◌, length, take, Bool, true, false, cond, List, [], ◌∷◌, append-nil, map, sym, refl, ap, ◌∙◌, inl, inr, arith}
 use Rattle.std.proofs.Math.Seq.{take-length}
-use Rattle.sled_store.specs.In.{In}
 use Rattle.sled_store.specs.State.{State, Action, after, after_all}
 use Rattle.sled_store.specs.Store.{Store, now}
-use Rattle.sled_store.specs.Crash.{left_from, crash_states, IsCrashState, Crashes}
-use Rattle.sled_store.proofs.Lists.{map_in}
-use Rattle.sled_model.specs.Maps.{Maps}
+use Rattle.sled_store.specs.Crash.{left_from, crash_states, Crashes}
 use Rattle.tree_laws.specs.Contents.{trees_of}
 use Rattle.tree_laws.specs.Crashes.{Stutters, StutterEquivalent, AddsCrashStates}
-use Rattle.tree_laws.proofs.Runs.{In_cases}
-use Rattle.examples.proofs.Surviving.{matches_has}
-
-in_mapped : {X Y : Type 0} (f : X → Y) (xs : List X) (y : Y) → In y (map f xs) → (x : X) × In x xs × (y ≡ f x)
-in_mapped f [] y i = absurd i
-in_mapped f (z ∷ xs) y (inl e) = (z, inl refl, e)
-in_mapped f (z ∷ xs) y (inr i) = let found = in_mapped f xs y i in (found.0, inr found.1, found.2)
-
--- the state has maps that a crash might leave before, or some of those that were added
-pub left_by : (maps : List Maps) (a b : Store) (state : State) → AddsCrashStates maps a b → IsCrashState b state → ((earlier : State) × IsCrashState a earlier × (trees_of state ≡ trees_of earlier)) ⊎ In (trees_of state) maps
-left_by maps a b state adds left =
-    elim (In_cases (map trees_of (crash_states a)) maps (trees_of state) (matches_has _ _ (trees_of state) adds.grew (map_in trees_of (crash_states b) state left.is))) [
-      | inl i ↦ let found = in_mapped trees_of (crash_states a) (trees_of state) i in inl (found.0, record { is = found.1 }, found.2)
-      | inr i ↦ inr i
-    ]
-
--- ---- a crash that keeps all actions
 
 -- the last of a list, or this one
 abbrev last_or : {X : Type 0} → X → List X → X

@@ -15,8 +15,8 @@ use Rattle.sled_model.specs.Groups.{writes_on, after_writes}
 use Rattle.sled_model.specs.State.{State, NamedTree, maps_of}
 use Rattle.sled_model.specs.declared.tree.Tree.{Tree}
 use Rattle.sled.proofs.Written.{writes_elsewhere}
+use Rattle.example_parts.proofs.Written.{Holds, batch_there}
 use Rattle.examples.specs.Batches.{put_all, with_pairs, written}
-use Rattle.examples.proofs.Written.{Holds, batch_there}
 
 -- ---- maps
 

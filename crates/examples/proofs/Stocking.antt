@@ -1,9 +1,8 @@
 -- What the calls on a stock make of its two trees, now and after a crash.
 use Rattle.std.proofs.Common.{◌≡◌, ◌≢◌, ℕ, Bool, true, false, not, cond, List, [], ◌∷◌, ◌++◌, Option, Some, None, option_map, unwrap_or, sym, refl, ap, ◌∙◌, subst, inl, inr}
-use Rattle.std.proofs.Math.Path.{fun_ext}
 use Rattle.std.specs.FinMap.Entries.{find}
 use Rattle.std.specs.Str.{bytes_eq}
-use Rattle.sled_nodes.proofs.Basics.{none_some, not_true}
+use Rattle.sled_nodes.proofs.Basics.{none_some}
 use Rattle.ordered_keys.specs.Keys.{IsOneToOne}
 use Rattle.sled_nodes.specs.Order.{Key, key_cmp}
 use Rattle.sled_nodes.specs.declared.error.Error.{Error}
@@ -15,7 +14,7 @@ use Rattle.sled_store.specs.Crash.{Crashes}
 use Rattle.sled_store.specs.theory.Facts.{may_leave_crashed}
 use Rattle.sled_model.specs.Maps.{Map, Maps, Merge}
 use Rattle.sled_model.specs.Groups.{writes_on, after_writes, DecidesGroup}
-use Rattle.sled_model.specs.Refusal.{MustRefuse, IsClosed, IsDropped, first_of, foreign_test, dropped_test, is_number, must_refuse_of}
+use Rattle.sled_model.specs.Refusal.{MustRefuse, first_of, must_refuse_of}
 use Rattle.sled_model.specs.State.{State, NamedTree, default_name, maps_of}
 use Rattle.sled_model.specs.Whole.{maps_opened}
 use Rattle.sled_model.specs.declared.call.Whole.TheVariants.{OpenTree}
@@ -29,17 +28,16 @@ use Rattle.sled.specs.Groups.{GroupDecided, GroupRefused}
 use Rattle.sled.specs.Opens.{or_empty, with_tree, with_default, Opens}
 use Rattle.sled.specs.Reads.{ReadsMap}
 use Rattle.sled.specs.Sound.{IsDb}
-use Rattle.sled.specs.Values.{DbValue, db_state, numbers_of}
-use Rattle.sled.proofs.Grouped.{tested_open}
+use Rattle.sled.specs.Values.{DbValue, db_state}
 use Rattle.sled.proofs.Written.{after_both, writes_elsewhere}
-use Rattle.examples.specs.Reads.{found_in, maps_now}
+use Rattle.example_parts.specs.Reads.{found_in, maps_now}
+use Rattle.example_parts.proofs.Maps.{maps_are, open_now, open_before, first_there, second_there}
+use Rattle.example_parts.proofs.Added.{left_by}
+use Rattle.example_parts.proofs.Written.{Holds, batch_there}
 use Rattle.examples.specs.Stock.{entry_key, AgreeIn, Agrees, Moves, Stays, item_taken, entry_taken, item_put, entry_put}
 use Rattle.examples.proofs.Entering.{items_rise, entries_rise, lies, others, still_agree}
-use Rattle.examples.proofs.Leaving.{left_by, kept_all}
-use Rattle.examples.proofs.Opened.{map_of_named, numbered}
-use Rattle.examples.proofs.Streams.{opens}
-use Rattle.examples.proofs.Written.{Holds, batch_there}
-use Rattle.examples.proofs.Following.{second_none}
+use Rattle.examples.proofs.Leaving.{kept_all}
+use Rattle.examples.proofs.Opening.{opened_now}
 
 -- ---- two trees in maps
 
@@ -72,53 +70,19 @@ first_free : (a b : Option MustRefuse) → first_of a b ≡ None → a ≡ None
 first_free None b e = refl
 first_free (Some m) b e = none_some (sym e)
 
-numbered_tree : (n : ℕ) (o : Option NamedTree) (name : Key) (later : Option MustRefuse) → cond (is_number n o) later (Some (IsDropped name)) ≡ None → ((t : NamedTree) × (o ≡ Some t)) × (later ≡ None)
-numbered_tree n None name later e = none_some (sym e)
-numbered_tree n (Some t) name later e = go (is_number n (Some t)) e
-  where
-    go : (b : Bool) → cond b later (Some (IsDropped name)) ≡ None → ((x : NamedTree) × (Some t ≡ Some x)) × (later ≡ None)
-    go true e = ((t, refl), e)
-    go false e = none_some (sym e)
-
-not_dropped : (s : State) (trees : List Tree) → must_refuse_of s trees ≡ None → dropped_test s trees ≡ None
-not_dropped s trees e = second_none (foreign_test s.name trees) (dropped_test s trees) (second_none (cond s.is_open None (Some IsClosed)) _ e)
-
--- where the tests pass each tree is there
-pub first_there : (s : State) (t : Tree) (more : List Tree) → must_refuse_of s (t ∷ more) ≡ None → (n : NamedTree) × (s.trees t.name ≡ Some n)
-first_there s t more e = (numbered_tree t.number (s.trees t.name) t.name (dropped_test s more) (not_dropped s (t ∷ more) e)).0
-
-pub second_there : (s : State) (t u : Tree) (more : List Tree) → must_refuse_of s (t ∷ u ∷ more) ≡ None → (n : NamedTree) × (s.trees u.name ≡ Some n)
-second_there s t u more e = (numbered_tree u.number (s.trees u.name) u.name (dropped_test s more) (numbered_tree t.number (s.trees t.name) t.name (dropped_test s (u ∷ more)) (not_dropped s (t ∷ u ∷ more) e)).1).0
-
 -- ---- databases
 
-not_not : (a b : Bool) → not a ≡ not b → a ≡ false → b ≡ false
-not_not true b e f = cc
-not_not false true e f = absurd cc
-not_not false false e f = refl
-
 module _ {P M : Type 0} (store : P → Store) (meant : M → Merge) where
-  -- the maps are the contents of the pages
-  pub maps_are : (d : DbValue P M) → IsDb store d → maps_now store meant d ≡ trees_of (now (store d.pages))
-  maps_are d is = fun_ext (λ t. map_of_named (numbers_of d.trees t) (trees_of (now (store d.pages)) t) _ (numbered store d is t))
-
-  -- where the tests pass no group is open
-  pub open_now : (d : DbValue P M) (trees : List Tree) → must_refuse_of (db_state store meant d) trees ≡ None → (now (store d.pages)).in_group ≡ false
-  open_now d trees free = not_true (now (store d.pages)).in_group (tested_open (db_state store meant d) trees free)
-
   module _ (old new : DbValue P M) (sound : IsDb store old) where
-    pub open_before : (db_state store meant new).is_open ≡ (db_state store meant old).is_open → (now (store new.pages)).in_group ≡ false → (now (store old.pages)).in_group ≡ false
-    open_before same is = not_not (now (store new.pages)).in_group (now (store old.pages)).in_group same is
-
     module _ (table index : Key) (agrees : Agrees (store old.pages) table index) where
       agreed : (now (store old.pages)).in_group ≡ false → AgreeIn (maps_now store meant old) table index
-      agreed is = subst (λ m. AgreeIn m table index) (sym (maps_are old sound)) (agrees.as_is is)
+      agreed is = subst (λ m. AgreeIn m table index) (sym (maps_are store meant old sound)) (agrees.as_is is)
 
       -- the two agree after a call where they do in its maps
       call_agrees : (maps : List Maps) → LeavesAll store maps None old new → ((x : Maps) → In x maps → AgreeIn x table index) → ((now (store new.pages)).in_group ≡ false → AgreeIn (maps_now store meant new) table index) → Agrees (store new.pages) table index
       call_agrees maps leaves added after = record {
         apart = agrees.apart;
-        as_is = λ is. subst (λ m. AgreeIn m table index) (maps_are new (leaves.sound sound)) (after is);
+        as_is = λ is. subst (λ m. AgreeIn m table index) (maps_are store meant new (leaves.sound sound)) (after is);
         left = λ state left. elim (left_by maps (store old.pages) (store new.pages) state leaves.extends left) [
           | inl before ↦ subst (λ m. AgreeIn m table index) (sym before.2) (agrees.left before.0 before.1)
           | inr i ↦ added (trees_of state) i
@@ -144,8 +108,8 @@ module _ {P M : Type 0} (store : P → Store) (meant : M → Merge) where
         pub part_opened : (tree : Tree) → WholeDecided store meant old (OpenTree name) (told.Tree tree) new → Agrees (store new.pages) table index
         part_opened tree w =
             let o = w.decides (λ n. None) 0 0 in
-            let same : maps_now store meant new ≡ with_tree name (maps_now store meant old) = (opens store meant old new name tree w).maps in
-            let is : (now (store old.pages)).in_group ≡ false = open_now old [] (first_free (must_refuse_of (db_state store meant old) []) _ o.free) in
+            let same : maps_now store meant new ≡ with_tree name (maps_now store meant old) = opened_now store meant old new name tree w in
+            let is : (now (store old.pages)).in_group ≡ false = open_now store meant old [] (first_free (must_refuse_of (db_state store meant old) []) _ o.free) in
             let after : AgreeIn (maps_now store meant new) table index =
             subst (λ m. AgreeIn m table index) (sym same) (agree_alike (maps_now store meant old) (with_tree name (maps_now store meant old)) table index (with_tree_alike name (maps_now store meant old)) (agreed is)) in
             call_agrees w.maps w.leaves (opened_added ((db_state store meant old).trees name) w.maps o.added after) (λ still. after)
@@ -153,7 +117,7 @@ module _ {P M : Type 0} (store : P → Store) (meant : M → Merge) where
         pub part_refused : (e : Error) → WholeRefused store meant old (OpenTree name) e new → Agrees (store new.pages) table index
         part_refused e w =
             let r = w.refuses (λ n. None) 0 in
-            call_agrees w.maps w.leaves (no_maps w.maps r.2) (λ is. subst (λ m. AgreeIn m table index) (sym (ap maps_of r.1)) (agreed (open_before (ap (λ (s : State). s.is_open) r.1) is)))
+            call_agrees w.maps w.leaves (no_maps w.maps r.2) (λ is. subst (λ m. AgreeIn m table index) (sym (ap maps_of r.1)) (agreed (open_before store meant old new sound (ap (λ (s : State). s.is_open) r.1) is)))
 
       -- ---- an item goes from one place to another
 
@@ -174,7 +138,7 @@ module _ {P M : Type 0} (store : P → Store) (meant : M → Merge) where
             | inr closed ↦ absurd (shut (sym (ap (λ (x : State). x.is_open) closed.1.is) ∙ ap not is))
           ]) in
           record {
-            agrees = call_agrees r.maps r.leaves (no_maps r.maps s.added) (λ is. subst (λ m. AgreeIn m table index) (sym (ap maps_of (same is))) (agreed (open_before (ap (λ (x : State). x.is_open) (same is)) is)));
+            agrees = call_agrees r.maps r.leaves (no_maps r.maps s.added) (λ is. subst (λ m. AgreeIn m table index) (sym (ap maps_of (same is))) (agreed (open_before store meant old new sound (ap (λ (x : State). x.is_open) (same is)) is)));
             same = λ is. ap maps_of (same is);
             back = λ keep left. kept_all keep (store old.pages) (store new.pages) left (subst (λ l. AddsCrashStates l (store old.pages) (store new.pages)) s.added r.leaves.extends);
           }
@@ -238,14 +202,14 @@ module _ {P M : Type 0} (store : P → Store) (meant : M → Merge) where
       index_of x = found_in (maps_now store meant x u.name)
 
       agree_now : AgreeIn (maps_now store meant new) t.name u.name
-      agree_now = still_agree law (table_of old) (index_of old) (table_of new) (index_of new) item from to (agreed old new sound t.name u.name agrees (open_now old (t ∷ u ∷ []) made.free)) stood table_now index_now
+      agree_now = still_agree law (table_of old) (index_of old) (table_of new) (index_of new) item from to (agreed old new sound t.name u.name agrees (open_now store meant old (t ∷ u ∷ []) made.free)) stood table_now index_now
 
       pub moved : Moves store meant old t.name u.name item from to new
       moved = record {
         agrees = call_agrees old new sound t.name u.name agrees d.maps d.leaves (one_map old new sound t.name u.name agrees d.maps made.added agree_now) (λ still. agree_now);
         was = stood;
-        is = lies law (table_of old) (index_of old) (table_of new) (index_of new) item from to (agreed old new sound t.name u.name agrees (open_now old (t ∷ u ∷ []) made.free)) stood table_now index_now;
-        others = others law (table_of old) (index_of old) (table_of new) (index_of new) item from to (agreed old new sound t.name u.name agrees (open_now old (t ∷ u ∷ []) made.free)) stood table_now index_now;
+        is = lies law (table_of old) (index_of old) (table_of new) (index_of new) item from to (agreed old new sound t.name u.name agrees (open_now store meant old (t ∷ u ∷ []) made.free)) stood table_now index_now;
+        others = others law (table_of old) (index_of old) (table_of new) (index_of new) item from to (agreed old new sound t.name u.name agrees (open_now store meant old (t ∷ u ∷ []) made.free)) stood table_now index_now;
       }
 
 -- ---- pages are opened, after a crash or not

@@ -22,7 +22,7 @@ use Rattle.sled.specs.Values.{DbValue, db_state}
 use Rattle.sled.specs.Sound.{MapsAscend}
 use Rattle.sled.specs.Direct.{PointDecided}
 use Rattle.sled.specs.Reads.{ReadsMap, BeginsRange}
-use Rattle.examples.specs.Reads.{maps_now}
+use Rattle.example_parts.specs.Reads.{maps_now}
 use Rattle.examples.specs.Typed.{Spelling, pairs_in, is_above, is_below, pair_bytes, bound_bytes, bounds_value, IsTyped, Puts, LooksUp, Walks, IsForeign}
 use Rattle.examples.proofs.Typing.{KeepsOrder, IsOneToOne, insert_puts, put_bytes, put_values, find_bytes, find_value, within_bytes, within_values, sorted_bytes, same_entries_of}
 

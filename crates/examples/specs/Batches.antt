@@ -11,7 +11,7 @@ use Rattle.sled_model.specs.Maps.{Map, Maps, Merge}
 use Rattle.tree_laws.specs.Contents.{trees_of}
 use Rattle.tree_laws.specs.Crashes.{AddsCrashStates}
 use Rattle.sled.specs.Values.{DbValue}
-use Rattle.examples.specs.Reads.{maps_now}
+use Rattle.example_parts.specs.Reads.{maps_now}
 
 -- the map once these pairs were put into it, one after the other
 abbrev pub put_all : Map → Map → Map

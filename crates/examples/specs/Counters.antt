@@ -1,36 +1,15 @@
 -- Counters in a tree of a database.
-use Rattle.std.specs.Prelude.{◌≡◌, ◌≢◌, ℕ, ◌+◌, ◌%◌, ◌^◌, length, nat_eq, Option, Some, None, if◌then◌else◌}
-use Rattle.std.specs.Int.{w64, to_be_bytes, from_be_bytes}
+use Rattle.std.specs.Prelude.{◌≡◌, ◌≢◌, ℕ}
 use Rattle.sled_nodes.specs.Order.{Key}
 use Rattle.sled_store.specs.Store.{Store}
 use Rattle.sled_model.specs.Maps.{Maps}
 use Rattle.sled.specs.Values.{DbValue}
-use Rattle.examples.specs.Reads.{found_in, maps_now}
-
--- eight bytes are a number, the highest first; none, and any other count of bytes, are 0
-abbrev pub number_in : Option Key → ℕ
-number_in None = 0
-number_in (Some bytes) = if nat_eq (length bytes) 8 then (from_be_bytes w64 bytes) else 0
-
--- the sum in 64 bits, which wraps
-abbrev pub sum_of : ℕ → ℕ → ℕ
-sum_of m n = (m + n) % 2 ^ 64
-
--- the bytes of the sum of the number that stands and another
-abbrev pub bytes_of_sum : Option Key → ℕ → Key
-bytes_of_sum stood n = to_be_bytes w64 (sum_of (number_in stood) n)
-
--- a merge writes the sum of the number that stands and the one in its bytes
-abbrev pub adding : Key → Option Key → Key → Option Key
-adding key old new = Some (bytes_of_sum old (number_in (Some new)))
+use Rattle.example_parts.specs.Reads.{found_in, maps_now}
+use Rattle.example_parts.specs.Counters.{adding, counter_in}
 
 -- the maps of a database whose operators all add
 abbrev pub counters_now : {P M : Type 0} → (P → Store) → DbValue P M → Maps
 counters_now store d = maps_now store (λ o. adding) d
-
--- the number at which a counter of a tree stands
-abbrev pub counter_in : Maps → Key → Key → ℕ
-counter_in maps tree name = number_in (found_in (maps tree) name)
 
 -- the counter stands at this number, and all others, of this tree and of every other, stand as before
 pub record SetsCounter (old new : Maps) (tree name : Key) (n : ℕ) : Type 0 where

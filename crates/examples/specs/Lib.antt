@@ -1,11 +1,7 @@
-pub mod Reads
-pub mod Survive
 pub mod Index
 pub mod Queue
-pub mod Ids
 pub mod Copies
 pub mod Typed
-pub mod Events
 pub mod Counters
 pub mod Endings
 pub mod Stock

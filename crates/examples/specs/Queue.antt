@@ -6,7 +6,7 @@ use Rattle.sled_store.specs.Store.{Store}
 use Rattle.sled_model.specs.Maps.{Map, Merge}
 use Rattle.sled_model.specs.declared.tree.Tree.{Tree}
 use Rattle.sled.specs.Values.{DbValue}
-use Rattle.examples.specs.Reads.{maps_now}
+use Rattle.example_parts.specs.Reads.{maps_now}
 
 abbrev pub jobs_of : Option Map → Map
 jobs_of None = []

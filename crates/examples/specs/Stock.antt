@@ -12,7 +12,7 @@ use Rattle.sled_model.specs.Maps.{Maps, Merge}
 use Rattle.tree_laws.specs.Contents.{trees_of}
 use Rattle.sled.specs.Opens.{with_default}
 use Rattle.sled.specs.Values.{DbValue}
-use Rattle.examples.specs.Reads.{found_in, maps_now}
+use Rattle.example_parts.specs.Reads.{found_in, maps_now}
 
 -- the key of an entry of the index: its place, and then its item
 abbrev pub entry_key : Key → Key → Key

@@ -1,7 +1,7 @@
 //! A load of many pairs into a tree, a hundred at a time: each batch is one group, which costs less than its pairs by themselves.
 ghost use Rattle.std.specs.Prelude.{◌≡◌, OnOk, OnErr};
+ghost use Rattle.example_parts.specs.Reads.{maps_now};
 ghost use Rattle.examples.specs.Batches.{with_pairs, LeavesBatches, written, LoadsBatch, StopsBatch};
-ghost use Rattle.examples.specs.Reads.{maps_now};
 
 use sled::{Batch, Db};
 use sled_model::{MergeOperator, Tree};

@@ -1,68 +1,17 @@
 //! Counters in a tree of a database: numbers that are added to by merges, and tickets that rise by one. A number is eight bytes,
 //! the highest first; what stands at a name and is of another length counts as 0, and so does a name where nothing stands.
 ghost use Rattle.std.specs.Prelude.{◌≡◌, Some, IfOk, OnOk, OnErr};
-ghost use Rattle.std.specs.Int.{to_be_bytes};
 ghost use Rattle.std.specs.Option.{option_map, option_copied};
-ghost use Rattle.examples.specs.Counters.{adding, bytes_of_sum, counter_in, counters_now, number_in, sum_of, SetsCounter};
-ghost use Rattle.examples.specs.Reads.{maps_now};
+ghost use Rattle.example_parts.specs.Counters.{bytes_of_sum, counter_in, sum_of};
+ghost use Rattle.example_parts.specs.Reads.{maps_now};
+ghost use Rattle.examples.specs.Counters.{counters_now, SetsCounter};
 
+use example_parts::{Adds, add_to, number_at};
 use sled::Db;
 use sled_model::{MergeOperator, Tree};
-use sled_nodes::{IVec, Result};
+use sled_nodes::Result;
 use sled_store::Pages;
 use std::alloc::{AllocError, Global};
-
-/// The merge operator that adds two numbers. The sum wraps.
-#[derive(Drop)]
-pub struct Adds;
-
-// The number in these bytes.
-fn number_of(bytes: Option<&[u8]>) -> u64
-    ensures { result ≡ number_in (option_copied bytes.entry) }
-{
-    let Some(bytes) = bytes else {
-        return 0;
-    };
-    if bytes.len() != 8 {
-        return 0;
-    }
-    match bytes.first_chunk::<8>() {
-        Some(number) => u64::from_be_bytes(*number),
-        None => 0,
-    }
-}
-
-/// The number in this value.
-pub fn number_at(value: &Option<IVec>) -> u64
-    ensures { result ≡ number_in value.now }
-{
-    match value {
-        Some(value) => number_of(Some(value.as_ref())),
-        None => 0,
-    }
-}
-
-// The bytes of the sum of the number that stands and another.
-fn add_to(alloc: Global, stood: Option<&[u8]>, n: u64) -> std::result::Result<Vec<u8>, AllocError>
-    ensures { IfOk result (λ sum. sum.items ≡ bytes_of_sum (option_copied stood.entry) n) }
-{
-    let sum = number_of(stood).wrapping_add(n);
-    Vec::from_slice(alloc, &sum.to_be_bytes())
-}
-
-impl MergeOperator for Adds {
-    ghost meant = { λ a. adding };
-
-    fn merge(
-        &self,
-        alloc: Global,
-        _key: &[u8],
-        old: Option<&[u8]>,
-        new: &[u8],
-    ) -> std::result::Result<Option<Vec<u8>>, AllocError> {
-        Ok(Some(add_to(alloc, old, number_of(Some(new)))?))
-    }
-}
 
 /// Adds a number to a counter of the tree, which has the operator that adds. Refused, all counters stand as before.
 pub fn add_to_counter<P: Pages>(

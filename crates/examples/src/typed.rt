@@ -6,7 +6,7 @@ ghost use Rattle.sled_nodes.specs.Order.{key_cmp};
 ghost use Rattle.sled_nodes.specs.declared.error.Error.TheVariants.{NoMemory};
 ghost use Rattle.ordered_keys.specs.Keys.{spelled};
 ghost use Rattle.ordered_keys.specs.declared.part.Part.TheVariants as part;
-ghost use Rattle.examples.specs.Reads.{maps_now};
+ghost use Rattle.example_parts.specs.Reads.{maps_now};
 ghost use Rattle.examples.specs.declared.typed.TypedError.TheVariants.{Foreign};
 ghost use Rattle.examples.specs.Typed.{Spelling, bounds_value, bound_at, bound_bytes, IsTyped, Puts, LooksUp, Walks, IsForeign};
 
@@ -315,4 +315,24 @@ impl Spelled for u64 {
     ghost keeps_order = { number_order };
 
     ghost one_to_one = { number_apart };
+}
+
+// A byte string is spelled as it is.
+impl Spelled for IVec {
+    ghost use Rattle.std.specs.Prelude.{refl};
+    ghost use Rattle.examples.specs.Typed.{as_it_is};
+
+    ghost spelling = { as_it_is };
+
+    fn spell(&self, alloc: Global) -> Result<IVec> {
+        IVec::from_slice(alloc, self.as_ref())
+    }
+
+    fn read(alloc: Global, bytes: &[u8]) -> Result<Option<IVec>> {
+        Ok(Some(IVec::from_slice(alloc, bytes)?))
+    }
+
+    ghost keeps_order = { λ a b i j. refl };
+
+    ghost one_to_one = { λ a b i j e. e };
 }

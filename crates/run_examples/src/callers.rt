@@ -1,7 +1,7 @@
-//! Callers in `examples` where there is memory: no contract says that they do not give up.
+//! Callers in `machine_examples` where there is memory: no contract says that they do not give up.
 use crate::flights::finds;
 use crate::pairs::pair;
-use examples::{insert_then_get_in_new, survive};
+use machine_examples::{insert_then_get_in_new, survive};
 use sled::{DEFAULT_TREE, empty_pages};
 use sled_nodes::Result;
 use sled_pages::MemPages;

@@ -1,5 +1,5 @@
-//! Runs the callers in `examples` and in `transaction_examples` where there is memory, and a database over the store in `store_examples`: no
-//! contract says that they do not give up. It prints what came of each; `stdout` has what should have come.
+//! Runs the callers in `examples`, `machine_examples` and `transaction_examples` where there is memory, and a database over the store in
+//! `store_examples`: no contract says that they do not give up. It prints what came of each; `stdout` has what should have come.
 #![tactic(auto)]
 
 mod batches;
@@ -62,7 +62,7 @@ impl Lines<'_> {
     }
 }
 
-// The callers in `examples`, and the database over the small store.
+// The callers in `examples` and `machine_examples`, and the database over the small store.
 fn run(lines: &mut Lines) {
     let alloc = lines.rt.alloc();
     lines.tell("what was inserted is read", Seen::of(is_read(alloc)));

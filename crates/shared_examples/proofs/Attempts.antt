@@ -16,7 +16,7 @@ use Rattle.sled_model.specs.declared.tree.Tree.{Tree}
 use Rattle.tree_laws.proofs.Pairs.{each_append}
 use Rattle.sled_shared.specs.Made.{MadeValue, PointMade}
 use Rattle.sled_shared.specs.Notes.{noted_of}
-use Rattle.examples.specs.Counters.{number_in}
+use Rattle.example_parts.specs.Counters.{number_in}
 use Rattle.shared_examples.specs.Raising.{swapped_by, swapped, is_part, swap_wrote, Raises, calls_made, overtaken_by}
 use Rattle.shared_examples.specs.declared.raising.Raised.{Raised}
 use Rattle.shared_examples.specs.declared.raising.Raised.TheVariants as raised

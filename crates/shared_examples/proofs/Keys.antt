@@ -15,7 +15,7 @@ use Rattle.sled_model.specs.Answer.{map_after, effect_of_write, same_value}
 use Rattle.sled_model.specs.declared.decision.Effect.{Effect}
 use Rattle.sled_model.specs.declared.decision.Effect.TheVariants as effect
 use Rattle.sled_model.specs.declared.tree.Tree.{Tree}
-use Rattle.examples.proofs.Written.{tied_back}
+use Rattle.example_parts.proofs.Written.{tied_back}
 use Rattle.shared_examples.specs.Places.{is_at}
 
 turned : (b : Bool) (value : Option Key) → cond (not b) value None ≡ cond b None value

@@ -13,7 +13,7 @@ use Rattle.sled.specs.Kept.{kept_of}
 use Rattle.sled_shared.specs.Made.{MadeValue, PointMade, WholeMade}
 use Rattle.sled_shared.specs.WholeNotes.{noted_with, AddsWhole}
 use Rattle.sled_shared.specs.Wholes.{WholeValue, PopMin, GenerateId}
-use Rattle.examples.specs.Counters.{number_in}
+use Rattle.example_parts.specs.Counters.{number_in}
 use Rattle.shared_examples.specs.Counting.{AddsOne}
 use Rattle.shared_examples.specs.Queueing.{noted_of_whole, Pushes, Puts, PushesNone}
 

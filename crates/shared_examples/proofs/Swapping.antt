@@ -15,8 +15,8 @@ use Rattle.sled_model.specs.declared.reply.Reply.TheVariants.{Swapped}
 use Rattle.sled_model.specs.declared.tree.Tree.{Tree}
 use Rattle.sled_shared.specs.History.{MakesPoint, makes_as}
 use Rattle.sled_shared.specs.Made.{MadeValue, PointMade}
+use Rattle.example_parts.specs.Counters.{number_in}
 use Rattle.shared_examples.specs.Places.{value_at, made_in, is_at, Leaves}
-use Rattle.examples.specs.Counters.{number_in}
 use Rattle.shared_examples.specs.Raising.{IsSwapAt, swapped_by, swapped, Follow, SwapsLaw, IsRaise, RaisesLaw}
 use Rattle.shared_examples.proofs.Keys.{after_effect, write_leaves, values_same, at_same, at_itself}
 use Rattle.shared_examples.proofs.Standing.{stood, point_here, point_none, Makes, legal_makes, only_leaves}

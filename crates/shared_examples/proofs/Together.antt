@@ -14,8 +14,8 @@ use Rattle.sled_shared.specs.Gathered.{IsGiven, IsMadeIn, IsOfGiven}
 use Rattle.sled_shared.specs.History.{made_by}
 use Rattle.sled_shared.specs.Made.{MadeValue, PointMade, EntryValue}
 use Rattle.sled_shared.specs.Values.{CallerValue}
+use Rattle.example_parts.specs.Counters.{number_in}
 use Rattle.shared_examples.specs.Places.{value_at, made_in, is_at, Leaves}
-use Rattle.examples.specs.Counters.{number_in}
 use Rattle.shared_examples.specs.Raising.{IsSwapAt, swapped_by, swapped, IsRaise, is_part, RaisedLaw}
 use Rattle.shared_examples.proofs.Leaving.{leaves}
 use Rattle.shared_examples.proofs.Sharing.{first_of_all, rest_of_all, shares_law}

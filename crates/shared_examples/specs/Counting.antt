@@ -9,7 +9,7 @@ use Rattle.sled_model.specs.declared.reply.Reply.TheVariants.{Value}
 use Rattle.sled_model.specs.declared.tree.Tree.{Tree}
 use Rattle.sled_shared.specs.History.{IsLegal}
 use Rattle.sled_shared.specs.Made.{MadeValue, PointMade, EntryValue}
-use Rattle.examples.specs.Counters.{number_in}
+use Rattle.example_parts.specs.Counters.{number_in}
 use Rattle.shared_examples.specs.Places.{value_at, made_in, is_at, Leaves}
 
 -- a merge of one came to a list, with a reply that tells this number

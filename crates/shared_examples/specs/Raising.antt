@@ -13,8 +13,8 @@ use Rattle.sled_shared.specs.Gathered.{IsMadeIn, IsOfGiven, EachOnce}
 use Rattle.sled_shared.specs.History.{IsLegal}
 use Rattle.sled_shared.specs.Made.{MadeValue, PointMade, EntryValue}
 use Rattle.sled_shared.specs.Values.{CallerValue}
+use Rattle.example_parts.specs.Counters.{number_in}
 use Rattle.shared_examples.specs.Places.{value_at, made_in, is_at, Leaves}
-use Rattle.examples.specs.Counters.{number_in}
 use Rattle.shared_examples.specs.declared.raising.Raised.{Raised}
 use Rattle.shared_examples.specs.declared.raising.Raised.TheVariants.{To, Overtaken}
 

@@ -7,7 +7,7 @@ ghost use Rattle.sled_model.specs.declared.call.Call.TheVariants.{Merge};
 ghost use Rattle.sled_shared.specs.Notes.{noted_of};
 ghost use Rattle.shared_examples.specs.Counting.{AddsOne, MergesLaw};
 
-use examples::number_at;
+use example_parts::number_at;
 use sled_machine::shared::Handle;
 use sled_model::{MergeOperator, Outcome, Reply, Tree};
 use sled_store::Pages;

@@ -6,10 +6,10 @@ ghost use Rattle.sled_model.specs.declared.call.Call.TheVariants.{CompareAndSwap
 ghost use Rattle.sled_model.specs.declared.outcome.Outcome.TheVariants.{Decided};
 ghost use Rattle.sled_model.specs.declared.reply.Reply.TheVariants.{Swapped};
 ghost use Rattle.sled_shared.specs.Notes.{noted_of};
-ghost use Rattle.examples.specs.Counters.{number_in};
+ghost use Rattle.example_parts.specs.Counters.{number_in};
 ghost use Rattle.shared_examples.specs.Raising.{RaisedLaw, Raises, RaisesLaw, SharesLaw, SwapsLaw, calls_made, overtaken_by, raised_to, swap_wrote};
 
-use examples::number_at;
+use example_parts::number_at;
 use sled_machine::shared::Handle;
 use sled_model::{CompareAndSwapError, MergeOperator, Outcome, Reply, Tree};
 use sled_nodes::texts::NUMBERS_USED_UP;

@@ -5,7 +5,7 @@ use crate::caller::{Caller, Seat};
 use crate::replay::is_replayed;
 use crate::state_tests::begin_and_abandon;
 use crate::trial::Trial;
-use examples::Adds;
+use example_parts::Adds;
 use sled::{Db, MemPages, empty_pages};
 use sled_machine::{Machine, shared};
 use sled_model::{Collection, Slot, Tree};

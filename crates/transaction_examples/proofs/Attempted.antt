@@ -27,7 +27,7 @@ use Rattle.sled.specs.Reads.{ReadsMap}
 use Rattle.sled.specs.Sound.{IsDb}
 use Rattle.sled.specs.Transactions.{flushes_as, Commits, Stops, ByTest, ByClosure, ByGroup, ByFlush, RunsOnTree, RunsOnList, ShowsLaw, ShowsAtLaw}
 use Rattle.sled.specs.Values.{DbValue, db_state}
-use Rattle.examples.specs.Reads.{found_in, maps_now}
+use Rattle.example_parts.specs.Reads.{found_in, maps_now}
 use Rattle.transaction_examples.proofs.Made.{MakesGroup, Stopped, NotBegun, NotWritten, NotGrouped}
 
 and_false : (b : Bool) → b && false ≡ false

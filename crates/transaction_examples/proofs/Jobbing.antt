@@ -21,8 +21,8 @@ use Rattle.tree_transactions.specs.declared.trees.TransactionalTrees.{Transactio
 use Rattle.sled.specs.Sound.{IsDb}
 use Rattle.sled.specs.Transactions.{RunsOnList, ListMade, ListNotMade, ShowsAtLaw}
 use Rattle.sled.specs.Values.{DbValue}
-use Rattle.examples.specs.Reads.{found_in, maps_now}
-use Rattle.examples.proofs.Entering.{same_or_apart}
+use Rattle.example_parts.specs.Reads.{found_in, maps_now}
+use Rattle.example_parts.proofs.Keys.{same_or_apart}
 use Rattle.transaction_examples.specs.Throughout.{HoldsThroughout}
 use Rattle.transaction_examples.specs.Jobs.{is_in_one, MovesJob, TakesJob, RefusesJob}
 use Rattle.transaction_examples.specs.theory.Jobs.{MovesInside, TakesInside, NotAborted}

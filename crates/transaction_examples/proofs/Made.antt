@@ -18,10 +18,10 @@ use Rattle.sled.specs.Sound.{IsDb}
 use Rattle.sled.specs.Transactions.{TakesIds}
 use Rattle.sled.specs.Values.{DbValue, db_state}
 use Rattle.sled.proofs.Written.{after_both, writes_elsewhere}
-use Rattle.examples.specs.Reads.{found_in, maps_now}
-use Rattle.examples.proofs.Leaving.{left_by}
-use Rattle.examples.proofs.Stocking.{maps_are, open_now, open_before, first_there, second_there}
-use Rattle.examples.proofs.Written.{Holds, batch_there}
+use Rattle.example_parts.specs.Reads.{found_in, maps_now}
+use Rattle.example_parts.proofs.Added.{left_by}
+use Rattle.example_parts.proofs.Maps.{maps_are, open_now, open_before, first_there, second_there}
+use Rattle.example_parts.proofs.Written.{Holds, batch_there}
 use Rattle.transaction_examples.specs.Throughout.{HoldsThroughout}
 
 -- what a tree has once these were written, and nothing else

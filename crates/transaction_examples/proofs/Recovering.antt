@@ -13,8 +13,8 @@ use Rattle.tree_laws.specs.Contents.{trees_of}
 use Rattle.sled.specs.Opens.{or_empty, with_default, Opens}
 use Rattle.sled.specs.Sound.{IsDb}
 use Rattle.sled.specs.Values.{DbValue}
-use Rattle.examples.specs.Reads.{found_in, maps_now}
-use Rattle.examples.proofs.Stocking.{maps_are}
+use Rattle.example_parts.specs.Reads.{found_in, maps_now}
+use Rattle.example_parts.proofs.Maps.{maps_are}
 use Rattle.transaction_examples.specs.Throughout.{IsSettled, Recovers}
 
 -- an empty tree that is new has no key

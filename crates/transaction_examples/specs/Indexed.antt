@@ -6,7 +6,7 @@ use Rattle.sled_model.specs.Maps.{Maps, Merge}
 use Rattle.tree_transactions.specs.declared.errors.TransactionError.{TransactionError}
 use Rattle.tree_transactions.specs.declared.errors.TransactionError.TheVariants.{Abort, Storage}
 use Rattle.sled.specs.Values.{DbValue}
-use Rattle.examples.specs.Reads.{found_in, maps_now}
+use Rattle.example_parts.specs.Reads.{found_in, maps_now}
 use Rattle.transaction_examples.specs.declared.indexed.EmailTaken.{EmailTaken}
 
 -- the index has an entry for each row of the table, and no others

@@ -6,7 +6,7 @@ use Rattle.sled_model.specs.Maps.{Maps, Merge}
 use Rattle.tree_transactions.specs.declared.errors.TransactionError.{TransactionError}
 use Rattle.tree_transactions.specs.declared.errors.TransactionError.TheVariants.{Abort, Storage}
 use Rattle.sled.specs.Values.{DbValue}
-use Rattle.examples.specs.Reads.{found_in, maps_now}
+use Rattle.example_parts.specs.Reads.{found_in, maps_now}
 
 -- a job is in one of the two trees alone, with this value
 abbrev pub is_in_one : Key → Key → Key → Key → Maps → Type 0

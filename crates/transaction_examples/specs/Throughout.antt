@@ -6,7 +6,7 @@ use Rattle.sled_store.specs.Store.{Store, now}
 use Rattle.sled_store.specs.Crash.{IsCrashState}
 use Rattle.sled_model.specs.Maps.{Maps}
 use Rattle.tree_laws.specs.Contents.{trees_of}
-use Rattle.examples.specs.Reads.{found_in}
+use Rattle.example_parts.specs.Reads.{found_in}
 
 -- It is so of the maps now, unless the database is closed, and of all maps that a crash may leave
 pub record HoldsThroughout (s : Store) (claim : Maps → Type 0) : Type 0 where

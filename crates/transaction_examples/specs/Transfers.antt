@@ -6,8 +6,8 @@ use Rattle.sled_model.specs.Maps.{Maps, Merge}
 use Rattle.tree_transactions.specs.declared.errors.TransactionError.{TransactionError}
 use Rattle.tree_transactions.specs.declared.errors.TransactionError.TheVariants.{Abort, Storage}
 use Rattle.sled.specs.Values.{DbValue}
-use Rattle.examples.specs.Counters.{counter_in}
-use Rattle.examples.specs.Reads.{found_in, maps_now}
+use Rattle.example_parts.specs.Counters.{counter_in}
+use Rattle.example_parts.specs.Reads.{found_in, maps_now}
 use Rattle.transaction_examples.specs.declared.transfers.TransferError.{TransferError}
 use Rattle.transaction_examples.specs.declared.transfers.TransferError.TheVariants.{SameCounter, NotEnough, TooMuch}
 

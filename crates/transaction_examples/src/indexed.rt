@@ -1,7 +1,7 @@
 //! A table of the addresses of users by their numbers, and an index of the numbers by the addresses. A row and its entry are written by one
 //! transaction, so that the two trees agree after every call and every crash.
 ghost use Rattle.std.specs.Prelude.{◌≢◌, IfOk, IfErr, OnOk};
-ghost use Rattle.examples.specs.Reads.{maps_now};
+ghost use Rattle.example_parts.specs.Reads.{maps_now};
 ghost use Rattle.transaction_examples.specs.Throughout.{HoldsThroughout};
 ghost use Rattle.transaction_examples.specs.Indexed.{agree_in, PutsRow, EndsPut};
 ghost use Rattle.transaction_examples.specs.theory.Indexed.{TellsFree, TakesEntry, ChangesEntry, PutsInside, GivesUpPut};

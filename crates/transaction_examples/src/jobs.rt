@@ -2,7 +2,7 @@
 //! it is never in both, and never lost.
 ghost use Rattle.std.specs.Prelude.{◌≢◌, IfOk, IfErr, OnOk};
 ghost use Rattle.sled_nodes.specs.Order.{Key};
-ghost use Rattle.examples.specs.Reads.{maps_now};
+ghost use Rattle.example_parts.specs.Reads.{maps_now};
 ghost use Rattle.transaction_examples.specs.Throughout.{HoldsThroughout};
 ghost use Rattle.transaction_examples.specs.Jobs.{is_in_one, TakesJob, RefusesJob};
 ghost use Rattle.transaction_examples.specs.theory.Jobs.{MovesInside, TakesInside, NotAborted};

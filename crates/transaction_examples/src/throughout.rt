@@ -1,7 +1,7 @@
 //! What holds of the maps of a database now and over crashes: a flush begins it, and what a crash leaves has it still.
 ghost use Rattle.std.specs.Prelude.{◌≡◌, IfOk, OnOk};
 ghost use Rattle.sled_pages.specs.Memory.{store_of};
-ghost use Rattle.examples.specs.Reads.{maps_now};
+ghost use Rattle.example_parts.specs.Reads.{maps_now};
 ghost use Rattle.transaction_examples.specs.Throughout.{IsSettled, Recovers};
 
 use sled::{Db, crash_pages};

@@ -4,13 +4,13 @@ ghost use Rattle.std.specs.Prelude.{ℕ, Some, IfOk, IfErr, OnOk};
 ghost use Rattle.std.specs.Int.{w64, to_be_bytes};
 ghost use Rattle.sled_pages.specs.Memory.{store_of};
 ghost use Rattle.tree_transactions.specs.Trees.{Records};
-ghost use Rattle.examples.specs.Reads.{maps_now};
+ghost use Rattle.example_parts.specs.Reads.{maps_now};
 ghost use Rattle.transaction_examples.specs.Throughout.{HoldsThroughout};
 ghost use Rattle.transaction_examples.specs.Transfers.{come_to, Transfers, EndsTransfer};
 ghost use Rattle.transaction_examples.specs.theory.Transfers.{CountsInside, MovesInside, GivesUpMove};
 
 use crate::throughout::{recover, settle};
-use examples::number_at;
+use example_parts::number_at;
 use sled::{
     ConflictableTransactionResult, Db, TransactionResult, TransactionalTree,
     UnabortableTransactionResult, abort, law_shows,

@@ -8,7 +8,7 @@ use Rattle.tree_transactions.specs.Trees.{Shows}
 use Rattle.tree_transactions.specs.declared.errors.ConflictableTransactionError.{ConflictableTransactionError}
 use Rattle.tree_transactions.specs.declared.errors.ConflictableTransactionError.TheVariants.{Abort, Conflict, Storage}
 use Rattle.tree_transactions.specs.declared.tree.TransactionalTree.{TransactionalTree}
-use Rattle.examples.specs.Counters.{number_in}
+use Rattle.example_parts.specs.Counters.{number_in}
 use Rattle.transaction_examples.specs.declared.transfers.TransferError.{TransferError}
 use Rattle.transaction_examples.specs.declared.transfers.TransferError.TheVariants.{SameCounter, NotEnough, TooMuch}
 

@@ -1,5 +1,5 @@
 use Rattle.std.proofs.Common.{rules, refl}
-use Rattle.examples.specs.Counters.{adding}
+use Rattle.example_parts.specs.Counters.{adding}
 use Rattle.examples.proofs.Counting.{added}
 use Rattle.examples.proofs.counters.add_to_counter.Goals as goal
 

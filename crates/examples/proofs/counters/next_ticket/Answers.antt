@@ -1,6 +1,6 @@
 use Rattle.std.proofs.Common.{rules, sym, subst}
+use Rattle.example_parts.specs.Reads.{maps_now}
 use Rattle.examples.specs.Counters.{SetsCounter}
-use Rattle.examples.specs.Reads.{maps_now}
 use Rattle.examples.proofs.Counting.{set_raised}
 use Rattle.examples.proofs.counters.next_ticket.Goals as goal
 

@@ -1,6 +1,6 @@
 use Rattle.sled_nodes.proofs.Basics.{ok_weaker}
 use Rattle.sled_pages.specs.Memory.{store_of}
-use Rattle.examples.specs.Reads.{maps_now}
+use Rattle.example_parts.specs.Reads.{maps_now}
 use Rattle.transaction_examples.proofs.Transferring.{sum_survives}
 use Rattle.transaction_examples.proofs.transfers.transfer_and_crash.Goals as goal
 

@@ -1,0 +1,5 @@
+pub mod Keys
+pub mod Written
+pub mod Added
+pub mod Maps
+pub mod Numbers

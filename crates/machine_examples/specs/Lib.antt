@@ -1,0 +1,4 @@
+pub mod Callers
+pub mod Survive
+pub mod Ids
+pub mod Events
