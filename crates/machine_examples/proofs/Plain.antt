@@ -33,7 +33,8 @@ use Rattle.sled_tree.specs.declared.flight.Went.{Went}
 use Rattle.sled_tree.specs.declared.flight.Went.TheVariants.{Moved}
 use Rattle.sled.specs.Direct.{Conducts, PointDecided, PointRefused}
 use Rattle.sled.specs.Drops.{DropsNamed, DropsTree, MightDrop, refuses_drop_as, RefusesDrop}
-use Rattle.sled.specs.Flights.{call_in_flight_of, BringsEvent, DbStepContract, DbSteps, Ends, GoesOn, DbRunsToEnd, outcome_of, slot_after, maps_added}
+use Rattle.tree_steps.specs.Outcomes.{outcome_of}
+use Rattle.sled.specs.Flights.{call_in_flight_of, BringsEvent, DbStepContract, DbSteps, Ends, GoesOn, DbRunsToEnd, slot_after, maps_added}
 use Rattle.sled.specs.Opens.{Opens, OpensBySteps, OpenRefusedBySteps}
 use Rattle.sled.specs.Groups.{IsQuietGroup, is_loud_group}
 use Rattle.sled.specs.Imports.{PartBySteps, PartRefusedBySteps, ImportsBySteps, ImportsNone, ImportsMore, ImportStops, ImportRefused}

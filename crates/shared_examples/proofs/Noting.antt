@@ -9,7 +9,7 @@ use Rattle.sled_model.specs.declared.outcome.Outcome.TheVariants as outcome
 use Rattle.sled_model.specs.declared.reply.Reply.{Reply}
 use Rattle.sled_model.specs.declared.reply.Reply.TheVariants.{Number, Value}
 use Rattle.sled_model.specs.declared.tree.Tree.{Tree}
-use Rattle.sled.specs.Kept.{kept_of}
+use Rattle.tree_steps.specs.Outcomes.{kept_of}
 use Rattle.sled_shared.specs.Made.{MadeValue, PointMade, WholeMade}
 use Rattle.sled_shared.specs.WholeNotes.{noted_with, AddsWhole}
 use Rattle.sled_shared.specs.Wholes.{WholeValue, PopMin, GenerateId}

@@ -15,7 +15,7 @@ use Rattle.sled_model.specs.declared.reply.Reply.TheVariants.{Value}
 use Rattle.sled_model.specs.declared.outcome.Step.TheVariants as step
 use Rattle.sled_model.specs.declared.outcome.Outcome.{Outcome}
 use Rattle.sled_model.specs.declared.outcome.Outcome.TheVariants.{Begun, Moved, Yielded, Decided, Refused, Abandoned, NoSuchSlot}
-use Rattle.sled.specs.Kept.{kept_of}
+use Rattle.tree_steps.specs.Outcomes.{kept_of}
 use Rattle.sled.specs.Values.{db_state}
 use Rattle.sled_calls.specs.Step.{MachineStep}
 use Rattle.sled_calls.specs.Values.{MachineValue, slots_of, configuration_of}

@@ -2,8 +2,6 @@ pub mod Resting
 pub mod Testing
 pub mod Trees
 pub mod Operating
-pub mod Watching
-pub mod KeptSteps
 pub mod Subscribing
 pub mod Flying
 pub mod Yielding

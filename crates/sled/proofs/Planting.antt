@@ -59,7 +59,7 @@ use Rattle.sled.proofs.Numbering.{leaves_rests}
 use Rattle.sled.proofs.Opening.{grown, calm_then, unseen, absent, planted_absent, tree_made}
 use Rattle.sled.proofs.Resting.{Rests, rests_only_faults, rests_now, rests_extends, now_rests}
 use Rattle.sled.proofs.Trees.{trees_at, maps_are}
-use Rattle.sled.proofs.Watching.{same_queues}
+use Rattle.tree_steps.proofs.Watching.{same_queues}
 
 -- ---- the names and their numbers
 

@@ -21,10 +21,10 @@ use Rattle.sled_tree.proofs.Facts.{flies_by_these}
 use Rattle.sled.specs.Values.{DbValue, db_state, snapshot_of_db}
 use Rattle.sled.specs.Sound.{IsDb}
 use Rattle.sled.specs.Flights.{call_in_flight_of, DbStepContract}
-use Rattle.sled.specs.theory.Watched.{steps_over_as}
+use Rattle.tree_steps.specs.theory.Watched.{steps_over_as}
 use Rattle.sled.specs.theory.Walking.{DbWalksTo, Stays, GoesOn, DbWalksDown}
 use Rattle.sled.proofs.Flying.{IsFlying, going_more, still_tested, turn_taken}
-use Rattle.sled.proofs.Watching.{alone}
+use Rattle.tree_steps.proofs.Watching.{alone}
 use Rattle.sled.proofs.Yielding.{flown_as}
 
 module _ {P M : Type 0} (store : P → Store) (meant : M → Merge) (db : DbValue P M) (sound : IsDb store db) where

@@ -60,7 +60,7 @@ use Rattle.tree_scans.proofs.Scanning as scanning
 use Rattle.sled.specs.Values.{DbValue, numbers_of, given_to, state_of, db_state, snapshot_of_db}
 use Rattle.sled.specs.Sound.{IsDb}
 use Rattle.sled.specs.Flights.{call_in_flight_of, next_of, follows_as, has_path, BringsEvent, DbStepContract}
-use Rattle.sled.specs.theory.Watched.{StepsOver, steps_over_as}
+use Rattle.tree_steps.specs.theory.Watched.{StepsOver, steps_over_as}
 use Rattle.sled.proofs.Flying.{at, is_db, calm_still, no_group, operator, tree_now, there, named_now, state_over, loses_acting, refuses_quietly, cause_is, touches_acting, told_now, done_state, flies_moved, moved_db, flies_refused, refused_db, flown}
 use Rattle.sled.proofs.Trees.{trees_put, maps_are}
 

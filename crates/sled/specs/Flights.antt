@@ -14,8 +14,6 @@ use Rattle.sled_model.specs.Refusal.{ToStep, must_refuse, TellsTurns, turns_limi
 use Rattle.sled_model.specs.Transition.{Transition}
 use Rattle.sled_model.specs.declared.event.Event.{Event}
 use Rattle.sled_model.specs.declared.reply.Reply.{Reply}
-use Rattle.sled_model.specs.declared.outcome.Outcome.{Outcome}
-use Rattle.sled_model.specs.declared.outcome.Outcome.TheVariants as outcome
 use Rattle.sled_model.specs.declared.outcome.Step.TheVariants as step
 use Rattle.sled_queues.specs.Values.{QueuesValue, queue_at}
 use Rattle.sled_queues.specs.Queues.{Becomes}
@@ -37,18 +35,13 @@ use Rattle.sled_tree.specs.declared.flight.Next.TheVariants as next
 use Rattle.sled_tree.specs.declared.flight.Went.{Went}
 use Rattle.sled_tree.specs.declared.flight.Went.TheVariants.{Moved, Yielded, Decided, Refused}
 use Rattle.tree_groups.specs.Writes.{PagesLast}
+use Rattle.tree_steps.specs.Outcomes.{outcome_of}
 use Rattle.sled.specs.Values.{DbValue, db_state, configuration_of, snapshot_of_db}
 use Rattle.sled.specs.Sound.{IsDb}
 
 -- a call in flight, as the model has it
 abbrev pub call_in_flight_of : InFlight → CallInFlight
 call_in_flight_of f = record { tree = f.job.tree; call = f.job.call; turns = f.turns; waiting = waiting_of f; rest = rest_of f }
-
-abbrev pub outcome_of : Went → Outcome
-outcome_of Moved = outcome.Moved
-outcome_of (Yielded key value) = outcome.Yielded key value
-outcome_of (Decided reply) = outcome.Decided reply
-outcome_of (Refused e) = outcome.Refused e
 
 -- what the call's slot holds after the step
 abbrev pub slot_after : Went → InFlight → Option CallInFlight

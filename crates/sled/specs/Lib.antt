@@ -7,7 +7,6 @@ pub mod Calls
 pub mod Names
 pub mod Reads
 pub mod Flights
-pub mod Kept
 pub mod Direct
 pub mod Pops
 pub mod Fetch

@@ -9,7 +9,6 @@ ghost use Rattle.sled_tree.specs.declared.flight.Went.TheVariants.{Moved};
 ghost use Rattle.sled.specs.Calls.{IsHandle, RefusesHandle, MustBeRefused};
 
 use crate::DEFAULT_TREE;
-use crate::step::advance_over;
 use sled_model::{Call, MAX_LOOPS, MergeOperator, Tree};
 use sled_nodes::texts::{HANDLE_OF_ANOTHER_DATABASE, NO_MERGE_OPERATOR, WALK_PASSED_TURNS};
 use sled_nodes::{Error, IVec, Result};
@@ -19,6 +18,7 @@ use sled_tree::{InFlight, Went, walk_down};
 use std::alloc::Global;
 use std::marker::Model;
 use tree_pages::{number_of, operator_of};
+use tree_steps::advance_over;
 
 // Whether the call goes on.
 fn goes_on(went: &Went) -> bool

@@ -21,7 +21,6 @@ mod names;
 mod open;
 mod operators;
 mod read;
-mod step;
 mod step_kept;
 mod transaction;
 mod watch;

@@ -28,7 +28,8 @@ use Rattle.tree_laws.specs.declared.flight.Stage.TheVariants.{Root}
 use Rattle.sled_tree.specs.declared.flight.Went.{Went}
 use Rattle.sled_tree.specs.declared.flight.Went.TheVariants.{Moved, Yielded, Decided, Refused}
 use Rattle.sled.specs.Values.{DbValue, db_state, snapshot_of_db}
-use Rattle.sled.specs.Flights.{DbSteps, DbRunsToEnd, Ends, GoesOn, call_in_flight_of, has_turns, outcome_of}
+use Rattle.tree_steps.specs.Outcomes.{outcome_of}
+use Rattle.sled.specs.Flights.{DbSteps, DbRunsToEnd, Ends, GoesOn, call_in_flight_of, has_turns}
 use Rattle.sled.proofs.Flying.{end_reached, only_ends}
 use Rattle.sled_calls.specs.Values.{MachineValue, kept_at}
 use Rattle.sled_calls.specs.Sound.{IsMachine}

@@ -39,7 +39,8 @@ use Rattle.sled_tree.specs.declared.flight.Went.TheVariants.{Moved, Yielded, Dec
 use Rattle.sled.specs.Values.{DbValue, state_of, db_state, configuration_of as instant_of_db, snapshot_of_db}
 use Rattle.sled.specs.Calls.{MustBeRefused, must_be_refused_as}
 use Rattle.sled_tree.specs.Known.{IsKnown, AreApart}
-use Rattle.sled.specs.Flights.{call_in_flight_of, KeepsTreePages, BringsEvent, DbStepContract, HasMore, follows_as, has_path, outcome_of, slot_after, maps_added}
+use Rattle.tree_steps.specs.Outcomes.{outcome_of}
+use Rattle.sled.specs.Flights.{call_in_flight_of, KeepsTreePages, BringsEvent, DbStepContract, HasMore, follows_as, has_path, slot_after, maps_added}
 use Rattle.sled.specs.Flush.{FlushesDb, RefusesFlush}
 use Rattle.sled.proofs.Flying.{loses_nothing}
 use Rattle.sled.proofs.Flushing.{stays_state, stays_moment}

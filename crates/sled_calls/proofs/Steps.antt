@@ -9,7 +9,7 @@ use Rattle.sled_tree.specs.declared.flight.InFlight.{InFlight}
 use Rattle.sled_tree.specs.declared.flight.Went.{Went}
 use Rattle.sled_tree.specs.declared.flight.Went.TheVariants.{Moved, Yielded, Decided, Refused}
 use Rattle.sled.specs.Values.{DbValue}
-use Rattle.sled.specs.Flights.{outcome_of}
+use Rattle.tree_steps.specs.Outcomes.{outcome_of}
 use Rattle.sled_calls.specs.StepsInSlot.{flight_after}
 use Rattle.sled_calls.specs.theory.StepsInSlot.{FliesInSlot, StepsInSlot}
 

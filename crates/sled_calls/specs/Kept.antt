@@ -11,7 +11,7 @@ use Rattle.sled_model.specs.declared.reply.Reply.TheVariants.{Done}
 use Rattle.sled_model.specs.declared.outcome.Outcome.{Outcome}
 use Rattle.sled_model.specs.declared.outcome.Outcome.TheVariants.{Decided, Refused}
 use Rattle.sled.specs.Values.{DbValue}
-use Rattle.sled.specs.Kept.{kept_of}
+use Rattle.tree_steps.specs.Outcomes.{kept_of}
 use Rattle.sled.specs.Parts.{ClearsParts, ImportsParts, ImportRefusedAfter}
 
 -- Of a whole call two copies of the reply are kept, as of a step; but what a subscriber was told next is not: `Done` stands for it

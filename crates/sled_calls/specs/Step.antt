@@ -33,7 +33,8 @@ use Rattle.sled_tree.specs.declared.flight.Went.{Went}
 use Rattle.tree_reads.specs.Walk.{once, for_each}
 use Rattle.sled.specs.Sound.{IsDb}
 use Rattle.sled.specs.Values.{DbValue, db_state, snapshot_of_db}
-use Rattle.sled.specs.Flights.{IsStepRefused, KeepsTreePages, call_in_flight_of, follows_as, has_path, outcome_of}
+use Rattle.tree_steps.specs.Outcomes.{outcome_of}
+use Rattle.sled.specs.Flights.{IsStepRefused, KeepsTreePages, call_in_flight_of, follows_as, has_path}
 use Rattle.sled.specs.Direct.{KeepsOrFreesTreePages, effect_of_whole, lost_of}
 use Rattle.sled.specs.Groups.{IsQuietGroup, is_loud_group}
 use Rattle.sled.specs.Drops.{DropsTree, RefusesDrop}

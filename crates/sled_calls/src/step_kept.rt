@@ -1,7 +1,7 @@
 //! Steps that keep copies of the reply, for whoever records what calls came to.
 ghost use Rattle.std.specs.Prelude.{◌≡◌};
 ghost use Rattle.sled_model.specs.declared.outcome.Step.TheVariants as step;
-ghost use Rattle.sled.specs.Kept.{kept_of};
+ghost use Rattle.tree_steps.specs.Outcomes.{kept_of};
 
 use crate::flights::step_kept_in;
 use crate::machine::Machine;

@@ -23,7 +23,7 @@ use Rattle.sled_model.specs.declared.outcome.Outcome.TheVariants as outcome
 use Rattle.sled_model.specs.declared.outcome.Step.TheVariants as step
 use Rattle.sled_model.specs.Transition.{transition_as}
 use Rattle.sled_model.proofs.Tests.{first_none, none_first}
-use Rattle.sled.specs.Kept.{kept_of}
+use Rattle.tree_steps.specs.Outcomes.{kept_of}
 use Rattle.sled.specs.Parts.{ImportRefusedAfter}
 use Rattle.sled.specs.Imports.{ImportRefused}
 use Rattle.sled.specs.Values.{DbValue, db_state, state_of}

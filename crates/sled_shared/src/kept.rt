@@ -5,7 +5,7 @@ ghost use Rattle.sled_model.specs.Refusal.{ToPoint, must_refuse};
 ghost use Rattle.sled_model.specs.declared.outcome.Outcome.TheVariants.{Refused};
 ghost use Rattle.sled.specs.Values.{db_state};
 ghost use Rattle.sled_calls.specs.Values.{slots_of};
-ghost use Rattle.sled.specs.Kept.{kept_of};
+ghost use Rattle.tree_steps.specs.Outcomes.{kept_of};
 ghost use Rattle.sled_shared.specs.Notes.{noted_in};
 ghost use Rattle.sled_shared.specs.Steps.{SlotStep};
 ghost use Rattle.sled_shared.specs.theory.Noting.{CanStep};

@@ -5,7 +5,7 @@ use Rattle.sled_model.specs.declared.outcome.Outcome.{Outcome}
 use Rattle.sled_tree.specs.declared.flight.InFlight.{InFlight}
 use Rattle.sled_tree.specs.declared.flight.Went.{Went}
 use Rattle.sled.specs.Values.{DbValue}
-use Rattle.sled.specs.Flights.{outcome_of}
+use Rattle.tree_steps.specs.Outcomes.{outcome_of}
 use Rattle.sled_calls.specs.StepsInSlot.{flight_after}
 
 -- the call in the slot flew so, and stands there as it is now

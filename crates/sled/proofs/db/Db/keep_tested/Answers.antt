@@ -2,7 +2,7 @@ use Rattle.std.proofs.Common.{refl, ap, ◌∙◌, subst}
 use Rattle.std.specs.Option.{option_map}
 use Rattle.std.specs.Ordering.{nat_cmp}
 use Rattle.std.specs.FinMap.Entries.{find}
-use Rattle.sled.specs.theory.Watched.{StepsOver}
+use Rattle.tree_steps.specs.theory.Watched.{StepsOver}
 use Rattle.sled.proofs.Flying.{flies_limit, below_limit}
 use Rattle.sled.proofs.Yielding.{flown_as}
 use Rattle.sled.proofs.Operating.{mapped}

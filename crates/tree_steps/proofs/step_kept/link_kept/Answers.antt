@@ -1,6 +1,6 @@
 use Rattle.std.specs.Option.{option_map}
 use Rattle.sled_tree.proofs.Linking.{leaf_of, change_pair}
-use Rattle.sled.proofs.step_kept.link_kept.Goals as goal
+use Rattle.tree_steps.proofs.step_kept.link_kept.Goals as goal
 
 pub link_keeping-requires-clause-pair : goal.link_keeping-requires-clause-pair
 link_keeping-requires-clause-pair g c κs within =

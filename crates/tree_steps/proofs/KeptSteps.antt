@@ -43,11 +43,10 @@ use Rattle.sled_tree.specs.declared.flight.Went.{Went}
 use Rattle.sled_tree.specs.declared.flight.Went.TheVariants as went
 use Rattle.sled_tree.proofs.Facts.{unable, by_these}
 use Rattle.tree_scans.specs.Scans.{ScanStep, Gives, Ends, GoesOn, Walks, Lacks, behind}
-use Rattle.sled.specs.Flights.{outcome_of}
-use Rattle.sled.specs.Kept.{kept_of}
-use Rattle.sled.specs.theory.Kept.{ComesOut}
-use Rattle.sled.specs.theory.Watched.{AdvancesOver, TellsPrepared, links_watched_as}
-use Rattle.sled.proofs.Watching.{short, alone}
+use Rattle.tree_steps.specs.Outcomes.{outcome_of, kept_of}
+use Rattle.tree_steps.specs.theory.Outcomes.{ComesOut}
+use Rattle.tree_steps.specs.theory.Watched.{AdvancesOver, TellsPrepared, links_watched_as}
+use Rattle.tree_steps.proofs.Watching.{short, alone}
 
 -- ---- the tables: a line that decides is that of a leaf, and there the call may be refused
 

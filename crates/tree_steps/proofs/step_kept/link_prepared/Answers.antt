@@ -1,8 +1,8 @@
 use Rattle.std.proofs.Common.{subst}
 use Rattle.sled_tree.proofs.Linking.{leaf_of}
-use Rattle.sled.specs.theory.Watched.{links_watched_as}
-use Rattle.sled.proofs.KeptSteps.{told_alone}
-use Rattle.sled.proofs.step_kept.link_prepared.Goals as goal
+use Rattle.tree_steps.specs.theory.Watched.{links_watched_as}
+use Rattle.tree_steps.proofs.KeptSteps.{told_alone}
+use Rattle.tree_steps.proofs.step_kept.link_prepared.Goals as goal
 
 pub returns-else-links_watched : goal.returns-else-links_watched
 returns-else-links_watched g c =

@@ -1,9 +1,9 @@
 use Rattle.std.proofs.Common.{refl, subst}
 use Rattle.sled_tree.specs.theory.Linking.{replies_with}
 use Rattle.sled_tree.proofs.Linking.{leaf_of}
-use Rattle.sled.proofs.Watching.{linked, unlinked}
-use Rattle.sled.proofs.KeptSteps.{told_short}
-use Rattle.sled.proofs.step.link_told.Goals as goal
+use Rattle.tree_steps.proofs.Watching.{linked, unlinked}
+use Rattle.tree_steps.proofs.KeptSteps.{told_short}
+use Rattle.tree_steps.proofs.step.link_told.Goals as goal
 
 pub returns-in-Err : goal.returns-in-Err
 returns-in-Err g c =

@@ -1,6 +1,6 @@
 use Rattle.std.specs.Option.{option_map}
 use Rattle.sled_tree.proofs.Linking.{leaf_of, change_pair}
-use Rattle.sled.proofs.step.link_watched.Goals as goal
+use Rattle.tree_steps.proofs.step.link_watched.Goals as goal
 
 pub link_told-requires-clause-pair : goal.link_told-requires-clause-pair
 link_told-requires-clause-pair g c κs within =

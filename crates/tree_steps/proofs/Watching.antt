@@ -29,7 +29,7 @@ use Rattle.sled_tree.specs.declared.flight.InFlight.{InFlight}
 use Rattle.sled_tree.specs.declared.flight.Went.{Went}
 use Rattle.sled_tree.specs.declared.flight.Went.TheVariants.{Moved, Yielded, Decided, Refused}
 use Rattle.sled_tree.proofs.Linking.{unprepared, change_event}
-use Rattle.sled.specs.theory.Watched.{told, told_by, tells_as, links_watched_as, AdvancesOver}
+use Rattle.tree_steps.specs.theory.Watched.{told, told_by, tells_as, links_watched_as, AdvancesOver}
 
 -- queues that stay as they are
 pub same_queues : (old new : QueuesValue) → new ≡ old → Becomes (queue_at old) old.given new

@@ -1,9 +1,9 @@
 use Rattle.std.proofs.Common.{Some, sym, refl, ap, ◌∙◌, subst}
 use Rattle.sled_tree.specs.theory.Linking.{replies_with}
 use Rattle.sled_tree.proofs.Linking.{leaf_of}
-use Rattle.sled.specs.theory.Watched.{TellsPrepared}
-use Rattle.sled.proofs.KeptSteps.{told_short, keeps_none}
-use Rattle.sled.proofs.step_kept.link_keeping.Goals as goal
+use Rattle.tree_steps.specs.theory.Watched.{TellsPrepared}
+use Rattle.tree_steps.proofs.KeptSteps.{told_short, keeps_none}
+use Rattle.tree_steps.proofs.step_kept.link_keeping.Goals as goal
 
 pub returns-in-Err-clause-links : goal.returns-in-Err-clause-links
 returns-in-Err-clause-links g c =

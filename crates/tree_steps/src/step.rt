@@ -11,7 +11,7 @@ ghost use Rattle.sled_tree.specs.theory.Change.{IsOfPair};
 ghost use Rattle.sled_tree.specs.theory.Linking.{IsAtLink};
 ghost use Rattle.sled_model.specs.State.{IsOnKey};
 ghost use Rattle.sled_tree.specs.Stages.{IsOnItsWay};
-ghost use Rattle.sled.specs.theory.Watched.{AdvancesOver, StepsOver, TellsPrepared, links_watched_as};
+ghost use Rattle.tree_steps.specs.theory.Watched.{AdvancesOver, StepsOver, TellsPrepared, links_watched_as};
 
 use sled_model::{MAX_LOOPS, MergeOperator};
 use sled_queues::Queues;
@@ -114,8 +114,8 @@ fn advance_on_key<P: Pages, M: MergeOperator>(
     }
 }
 
-// One step of a call in flight that has turns left. A scan touches no queue.
-pub(crate) fn advance_over<P: Pages, M: MergeOperator>(
+/// One step of a call in flight that has turns left. A scan touches no queue.
+pub fn advance_over<P: Pages, M: MergeOperator>(
     pages: &mut P,
     queues: &mut Queues,
     alloc: Global,

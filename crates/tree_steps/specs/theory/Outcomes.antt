@@ -1,4 +1,4 @@
--- Of Kept, for proofs.
+-- Of Outcomes, for proofs.
 use Rattle.std.specs.Prelude.{◌≡◌, ◌≢◌, ◌⊎◌}
 use Rattle.sled_nodes.specs.declared.error.Error.TheVariants.{NoMemory}
 use Rattle.sled_model.specs.declared.reply.Reply.{Reply}
