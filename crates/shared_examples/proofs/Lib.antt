@@ -7,4 +7,5 @@ pub mod Sharing
 pub mod Together
 pub mod Attempts
 pub mod Taking
+pub mod Remaining
 pub mod Noting

@@ -15,18 +15,18 @@ use Rattle.sled_model.specs.declared.decision.Effect.TheVariants as effect
 use Rattle.sled_model.specs.declared.reply.Reply.{Reply}
 use Rattle.sled_model.specs.declared.reply.Reply.TheVariants.{Pair}
 use Rattle.sled_model.specs.declared.tree.Tree.{Tree}
-use Rattle.sled_shared.specs.History.{MakesPoint, makes_as}
-use Rattle.sled_shared.specs.Made.{MadeValue, PointMade, WholeMade}
+use Rattle.sled_shared.specs.History.{MakesPoint, makes_as, IsLegal}
+use Rattle.sled_shared.specs.Made.{MadeValue, PointMade, WholeMade, EntryValue}
 use Rattle.sled_shared.specs.WholeMade.{MakesPop, map_popped}
 use Rattle.sled_shared.specs.Wholes.{PopMin}
-use Rattle.shared_examples.specs.Places.{found_in, value_at, is_at, Leaves}
-use Rattle.shared_examples.specs.Queueing.{IsInsert, IsTake, IsPushOrTake, Has, QueueLaw}
+use Rattle.shared_examples.specs.Places.{found_in, value_at, is_at, made_in, Leaves}
+use Rattle.shared_examples.specs.Queueing.{IsInsert, IsTake, IsPushOrTake, Has, TakesOnce}
 use Rattle.shared_examples.proofs.Keys.{after_effect, without_here, left_after, values_same, at_same}
 use Rattle.shared_examples.proofs.Standing.{put_left, point_here, point_elsewhere, Makes, legal_makes, cut, all_first, all_last}
 
 -- ---- an insert
 
-insert_here : (a c : Maps) (t : Tree) (k v : Key) (reply : Reply) → MakesPoint a t (Insert k v) reply c → value_at c t.name k ≡ Some v
+pub insert_here : (a c : Maps) (t : Tree) (k v : Key) (reply : Reply) → MakesPoint a t (Insert k v) reply c → value_at c t.name k ≡ Some v
 insert_here a c t k v reply p =
     point_here a t (Insert k v) reply c p
     ∙ ap (λ (d : Decision). after_effect d.effect (find key_cmp k p.map)) p.comes
@@ -37,10 +37,10 @@ insert_here a c t k v reply p =
     go false e = refl
 
 -- two names are one or not
-apart : (a b : Key) → bytes_eq a b ≡ false → a ≡ b → ⊥
+pub apart : (a b : Key) → bytes_eq a b ≡ false → a ≡ b → ⊥
 apart a b off e = false_true (sym off ∙ ap (λ x. bytes_eq x b) e ∙ name_itself b)
 
-not_at : (tree key : Key) (t : Tree) (k : Key) → is_at tree key t k ≡ false → ((t.name ≡ tree) → ⊥) ⊎ ((k ≡ key) → ⊥)
+pub not_at : (tree key : Key) (t : Tree) (k : Key) → is_at tree key t k ≡ false → ((t.name ≡ tree) → ⊥) ⊎ ((k ≡ key) → ⊥)
 not_at tree key t k e = go (bytes_eq t.name tree) (bytes_eq k key) refl refl e
   where
     go : (x y : Bool) → bytes_eq t.name tree ≡ x → bytes_eq k key ≡ y → x && y ≡ false → ((t.name ≡ tree) → ⊥) ⊎ ((k ≡ key) → ⊥)
@@ -63,7 +63,7 @@ pop_left a c t reply p tree key w e =
     put_left a t.name tree key p.map (map_popped p.found p.map) w p.there (popped_left p.found p.map key w) (ap (λ (m : Maps). value_at m tree key) (sym p.is) ∙ e)
 
 -- the first pair of a map is found in it, and not in what is left without it
-first_found : (key value : Key) (map : Map) → IsLeast map (Some (key, value)) → find key_cmp key map ≡ Some value
+pub first_found : (key value : Key) (map : Map) → IsLeast map (Some (key, value)) → find key_cmp key map ≡ Some value
 first_found key value map ends =
     ap (find key_cmp key) ends.1 ∙ ap (λ o. cond (is_eq o) (Some value) (find key_cmp key ends.0)) (tied_itself key_total key)
 
@@ -150,8 +150,8 @@ module _ (tree key : Key) where
       let each = all_last (λ m. IsPushOrTake m ⊎ ((k : Key) → Leaves tree k m)) before (take ∷ between) (all_first (λ m. IsPushOrTake m ⊎ ((k : Key) → Leaves tree k m)) (before ++ take ∷ between) (other ∷ after) all) in
       put_anew second between q.2.0 (taken_gone first take q.0 q.2.0 q.2.1 is) (origin second between q.2.0 r.0 q.2.2 each.1 (taken_stood second other r.0 r.2.0 r.2.1 was))
 
-pub queue_law : QueueLaw
-queue_law old new tree history legal all = record {
+pub takes_once : (old new : Maps) (tree : Key) (history : List EntryValue) → IsLegal old history new → AllByRecursion (λ m. IsPushOrTake m ⊎ ((key : Key) → Leaves tree key m)) (made_in history) → TakesOnce old tree (made_in history)
+takes_once old new tree history legal all = record {
   put = λ before after key value take split is.
       put_before tree key value take before after old new (subst (λ l. Makes old l new) split (legal_makes legal)) (subst (AllByRecursion (λ m. IsPushOrTake m ⊎ ((k : Key) → Leaves tree k m))) split all) is;
   again = λ before between after key first second take other split is was.

@@ -38,6 +38,10 @@ abbrev pub IsInsert : Key → Key → Key → MadeValue → Type 0
 IsInsert tree key value (PointMade t (Insert k v) reply) = (t.name ≡ tree) × (k ≡ key) × (v ≡ value)
 IsInsert tree key value m = ⊥
 
+-- .. and of whatever value
+abbrev pub IsInsertAt : Key → Key → MadeValue → Type 0
+IsInsertAt tree key m = (value : Key) × IsInsert tree key value m
+
 -- a pop of the first pair of a tree of this name, which was this one
 abbrev pub IsTake : Key → Key → Key → MadeValue → Type 0
 IsTake tree key value (WholeMade (PopMin t) reply) = (t.name ≡ tree) × (reply ≡ Pair (Some (key, value)))
@@ -61,7 +65,14 @@ pub record TakesOnce (old : Maps) (tree : Key) (made : List MadeValue) : Type 0 
   pub again : (before between after : List MadeValue) (key first second : Key) (take other : MadeValue) → made ≡ before ++ take ∷ between ++ other ∷ after → IsTake tree key first take → IsTake tree key second other
       → Has (IsInsert tree key second) between
 
+-- What stood there from the beginning or was inserted stands at the end, unless it was taken or another was inserted at its key
+pub record LosesNone (old new : Maps) (tree : Key) (made : List MadeValue) : Type 0 where
+  pub stood : (key value : Key) → value_at old tree key ≡ Some value → (value_at new tree key ≡ Some value) ⊎ Has (λ m. IsTake tree key value m ⊎ IsInsertAt tree key m) made
+  pub put : (before after : List MadeValue) (key value : Key) (insert : MadeValue) → made ≡ before ++ insert ∷ after → IsInsert tree key value insert
+      → (value_at new tree key ≡ Some value) ⊎ Has (λ m. IsTake tree key value m ⊎ IsInsertAt tree key m) after
+
 -- Of a legal history in which each call is an insert, a pop of a first pair, or leaves all keys of the tree
 abbrev pub QueueLaw : Type 0
 QueueLaw = (old new : Maps) (tree : Key) (history : List EntryValue) → IsLegal old history new
-    → AllByRecursion (λ m. IsPushOrTake m ⊎ ((key : Key) → Leaves tree key m)) (made_in history) → TakesOnce old tree (made_in history)
+    → AllByRecursion (λ m. IsPushOrTake m ⊎ ((key : Key) → Leaves tree key m)) (made_in history)
+    → TakesOnce old tree (made_in history) × LosesNone old new tree (made_in history)

@@ -1,5 +1,5 @@
 //! A queue of work in a tree that threads share. A job is put in at the key of an id that the database gives, and taken out from the front. No job
-//! is taken twice.
+//! is taken twice, and none is lost.
 ghost use Rattle.std.specs.Prelude.{◌≡◌, ◌++◌, ◌∷◌, [], IfSome, IfOk, IfErr, OnOk, OnErr};
 ghost use Rattle.sled_model.specs.declared.reply.Reply.TheVariants.{Number, Pair};
 ghost use Rattle.sled_shared.specs.Made.{WholeMade};
@@ -152,8 +152,9 @@ pub fn take<P: Pages, L: Ledger, M: MergeOperator>(
     }
 }
 
-/// Each job is taken at most once. Of a legal history in which each call is an insert, a pop of a first pair, or leaves all keys of the queue: what was
-/// taken had been inserted before, or stood there from the beginning; and between two takes of one key the job that the second took was inserted there.
+/// Each job is taken at most once, and none is lost. Of a legal history in which each call is an insert, a pop of a first pair, or leaves all keys of
+/// the queue: what was taken had been inserted before, or stood there from the beginning; between two takes of one key the job that the second took was
+/// inserted there; and what was inserted, or stood there from the beginning, stands at the end, unless it was taken or another was inserted at its key.
 ///
 /// ```
 /// law_queue(); // From here on a proof knows it.

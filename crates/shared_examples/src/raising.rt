@@ -24,9 +24,10 @@ use std::sync::ledger::Ledger;
 pub enum Raised {
     /// This number was written.
     To(u64),
-    /// At each attempt another caller wrote between the read and the swap. Nothing was written.
+    /// At each attempt another caller wrote between the read and the swap. No swap of this caller's succeeded.
     Overtaken,
-    /// The read or the swap came out so, and nothing was written. Where the greatest `u64` stood it is `Unsupported` (`numbers used up`).
+    /// The read or the swap came out so, and no swap of this caller's succeeded. Where the greatest `u64` stood it is `Unsupported` (`numbers
+    /// used up`).
     Stopped(Outcome),
 }
 

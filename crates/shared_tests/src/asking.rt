@@ -1,8 +1,10 @@
 //! Calls of a caller, and what came of them, boiled down to small values.
 use crate::beside::{Scene, Way};
+use shared_examples::{Raised, add_one, push, raise, take};
 use sled_machine::shared::Made;
 use sled_model::{Call, Next, Outcome, Reply, Slot, Subscriber, Whole};
 use sled_nodes::{Error, IVec};
+use std::ops::Bound;
 use std::process::Abort;
 use std::sync::Wait;
 use std::sync::ledger::Ledger;
@@ -15,6 +17,16 @@ pub enum Ask<'a> {
     Remove(&'a [u8]),
     Merge(&'a [u8], &'a [u8]),
     Swap(&'a [u8], &'a [u8], &'a [u8]),
+    /// A scan of all keys.
+    Scan,
+    /// Adds one to the number at the key by a merge.
+    AddOne(&'a [u8]),
+    /// Raises the number at the key by a read and a swap, again and again until it is done.
+    Raise(&'a [u8]),
+    /// Puts a job into the queue.
+    Push(&'a [u8]),
+    /// Takes the first job out of the queue.
+    Take,
     PopMin,
     Clear,
     DropTree,
@@ -35,6 +47,11 @@ pub enum Told {
     NoValue,
     Swapped,
     Conflict,
+    /// The pair with the key that is this number.
+    Pair(u64),
+    End,
+    /// The job that is this number.
+    Job(u64),
     Popped,
     Cleared,
     Dropped,
@@ -75,6 +92,7 @@ fn reply_told(reply: &Reply) -> Told {
         Reply::Value(None) => Told::NoValue,
         Reply::Swapped(Ok(())) => Told::Swapped,
         Reply::Swapped(Err(_)) => Told::Conflict,
+        Reply::End => Told::End,
         Reply::Pair(Some(_)) => Told::Popped,
         Reply::Done => Told::Cleared,
         Reply::Flag(true) => Told::Dropped,
@@ -91,6 +109,7 @@ pub fn outcome_told(outcome: Outcome) -> Told {
         Outcome::Decided(reply) => reply_told(reply),
         Outcome::Refused(Error::CollectionNotFound(_)) => Told::NoSuchTree,
         Outcome::Moved => Told::Moved,
+        Outcome::Yielded(key, _) => Told::Pair(number_of(key.as_ref())),
         Outcome::Abandoned => Told::Abandoned,
         Outcome::NoSuchSlot => Told::NoSuchSlot,
         _ => Told::Other,
@@ -138,13 +157,60 @@ pub fn call_of<R: Abort>(rt: &R, scene: &Scene, ask: Ask<'_>) -> Call {
     let call = match ask {
         Ask::Get(key) => Call::get(scene.alloc, key),
         Ask::Remove(key) => Call::remove(scene.alloc, key),
+        Ask::Scan => Call::scan(scene.alloc, Bound::Unbounded, Bound::Unbounded, false),
         _ => panic!(rt; "no call that begins"),
     };
     call.expect(rt, "memory")
 }
 
-/// Makes the call, or a part of it. How it came out.
-pub fn outcome_of<L: Ledger, R: Wait + Abort>(
+// What an example tells: this, or how its call came out.
+fn answer_told(answer: Result<Told, Outcome>) -> Told {
+    match answer {
+        Ok(told) => told,
+        Err(outcome) => outcome_told(outcome),
+    }
+}
+
+fn raised_told(raised: Raised) -> Told {
+    match raised {
+        Raised::To(number) => Told::Value(number),
+        Raised::Overtaken => Told::Conflict,
+        Raised::Stopped(outcome) => outcome_told(outcome),
+    }
+}
+
+// What a job tells that was taken, if one waited.
+fn job_told(job: Option<(IVec, IVec)>) -> Told {
+    let told = match &job {
+        Some(pair) => Told::Job(number_of(pair.1.as_ref())),
+        None => Told::NoValue,
+    };
+    drop(job);
+    told
+}
+
+// So often a number is read and swapped at most: each time in vain another thread wrote it.
+const ATTEMPTS: u64 = 1_000_000;
+
+/// Makes the call, or a part of it. What it tells.
+pub fn told_of<L: Ledger, R: Wait + Abort>(
+    rt: &R,
+    scene: &Scene,
+    handle: &mut Way<L>,
+    ask: Ask<'_>,
+) -> Told {
+    let (alloc, tree) = (scene.alloc, &scene.tree);
+    match ask {
+        Ask::AddOne(key) => answer_told(add_one(rt, alloc, handle, tree, key).map(Told::Value)),
+        Ask::Raise(key) => raised_told(raise(rt, alloc, handle, tree, key, ATTEMPTS)),
+        Ask::Push(job) => answer_told(push(rt, alloc, handle, tree, job).map(|_| Told::Id)),
+        Ask::Take => answer_told(take(rt, handle, tree).map(job_told)),
+        _ => outcome_told(outcome_of(rt, scene, handle, ask)),
+    }
+}
+
+// Makes the call, or a part of it. How it came out.
+fn outcome_of<L: Ledger, R: Wait + Abort>(
     rt: &R,
     scene: &Scene,
     handle: &mut Way<L>,

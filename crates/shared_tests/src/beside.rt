@@ -2,11 +2,12 @@
 ghost use Rattle.std.specs.Prelude.{◌≡◌, ◌+◌, ◌<◌};
 
 use crate::caller::{Caller, Seat};
-use crate::replay::is_replayed;
+use crate::replay::{Plain, has_just, replayed};
 use crate::state_tests::begin_and_abandon;
 use crate::trial::Trial;
 use example_parts::Adds;
 use sled::{Db, MemPages, empty_pages};
+use sled_machine::shared::Blank;
 use sled_machine::{Machine, shared};
 use sled_model::{Collection, Slot, Tree};
 use std::alloc::Global;
@@ -14,7 +15,7 @@ use std::marker::Brand;
 use std::process::Abort;
 use std::sync::Wait;
 use std::sync::atomic::{AtomicU64, Ordering};
-use std::sync::ledger::{Blank, Ledger};
+use std::sync::ledger::Ledger;
 use std::thread::{Threads, for_each_mut};
 
 /// A database in memory, whose merge operators add.
@@ -205,7 +206,32 @@ fn began_so(start: Start, opening: &[Collection]) -> bool {
     opening.len() == start.trees && pairs == usize::from(start.keys.wrapping_sub(start.taken))
 }
 
-// Looks at what callers made: a plain map makes the same of the calls.
+// Whether the database of the machine has just the pairs of a plain map.
+fn is_left_so<R: Abort>(rt: &R, machine: &Machine<MemPages, Adds>, map: &Plain) -> bool {
+    let collections = machine.db().export().expect(rt, "memory");
+    let same = has_just(map, collections.as_slice());
+    drop(collections);
+    same
+}
+
+// What a plain map has after it made the calls of the callers.
+fn remade<L: Ledger, R: Abort>(
+    rt: &R,
+    scene: &Scene,
+    start: Start,
+    trial: Trial<'_>,
+    state: &Gathered<L>,
+) -> Plain {
+    let (opening, history) = (state.opening(), state.history());
+    let well = began_so(start, opening) && trial.passes(scene, history);
+    require(rt, well, "what was there, and what callers made");
+    match replayed(rt, scene.alloc, opening, history) {
+        Some(map) => map,
+        None => panic!(rt; "a plain map replies otherwise"),
+    }
+}
+
+// Looks at what callers made: a plain map makes the same of the calls, and has what the database has then.
 fn look<L: Ledger, R: Abort>(
     rt: &R,
     scene: &Scene,
@@ -218,16 +244,13 @@ fn look<L: Ledger, R: Abort>(
     if start.trees == 1 {
         begin_and_abandon(rt, scene, &mut state);
     }
-    let (opening, history) = (state.opening(), state.history());
-    let well = began_so(start, opening)
-        && is_replayed(rt, scene.alloc, opening, history)
-        && trial.passes(scene, history);
-    require(rt, well, "what was there, and what callers made of it");
-    state.audit();
+    let map = remade(rt, scene, start, trial, &state);
     let machine = state.into_machine();
+    let same = is_left_so(rt, &machine, &map);
     let left = is_left(&scene.before, &machine) && is_left(&scene.after, &machine);
+    drop(map);
     drop(machine);
-    require(rt, left, "unstepped calls");
+    require(rt, same && left, "the same pairs, and unstepped calls");
 }
 
 // Has so many callers work on a database.

@@ -1,5 +1,5 @@
 //! A caller of a trial. What it does knows neither its handle nor the runtime.
-use crate::asking::{Ask, Told, call_of, outcome_of, outcome_told};
+use crate::asking::{Ask, Told, call_of, outcome_told, told_of};
 use crate::beside::{Scene, Way, require};
 use sled_machine::shared::{Gate, Made};
 use sled_model::Call;
@@ -39,7 +39,7 @@ impl<L: Ledger, R: Wait + Abort> Caller for Seat<'_, L, R> {
     }
 
     fn ask(&mut self, ask: Ask<'_>) -> Told {
-        outcome_told(outcome_of(self.rt, self.scene, self.handle, ask))
+        told_of(self.rt, self.scene, self.handle, ask)
     }
 
     fn insert_past<G: Gate>(&mut self, key: &[u8], value: &[u8], gate: &G) -> Told {

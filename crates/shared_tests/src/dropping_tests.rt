@@ -2,12 +2,12 @@
 use crate::asking::{Ask, Told};
 use crate::beside::{EMPTY, Start, try_out};
 use crate::trial::{Trial, Wanted};
-use crate::turns::{Signal, Turn};
+use crate::turns::{Place, Signal, Turn};
 
 // So many keys are inserted. Then the test fails, since the other thread did nothing.
 const KEYS: u64 = 10_000_000;
 
-const FIRST: [Turn<'static>; 1] = [Turn::Insert(None, KEYS)];
+const FIRST: [Turn<'static>; 1] = [Turn::Put(Place::Itself, KEYS)];
 
 // The second thread drops the tree once an insert was decided.
 const SECOND: [Turn<'static>; 2] = [

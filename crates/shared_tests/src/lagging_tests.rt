@@ -1,7 +1,7 @@
 //! Two threads that insert under a subscriber, which nobody asks meanwhile: it is told the latest events, and how many it missed.
 use crate::beside::{EMPTY, try_out};
 use crate::trial::{Trial, Wanted};
-use crate::turns::{Signal, Turn};
+use crate::turns::{Place, Signal, Turn};
 
 // So often each thread inserts.
 const TIMES: u64 = 1500;
@@ -16,11 +16,11 @@ const CALLS: u64 = 1 + 2 * TIMES + 1 + WAITING + 1;
 const LAG: Turn<'static> = Turn::Lag(WAITING, 2 * TIMES - WAITING);
 
 // The first thread has the subscriber.
-const FIRST: [Turn<'static>; 3] = [Turn::Watch, Turn::Insert(Some(b"one"), TIMES), LAG];
+const FIRST: [Turn<'static>; 3] = [Turn::Watch, Turn::Put(Place::Key(b"one"), TIMES), LAG];
 
 const SECOND: [Turn<'static>; 3] = [
     Turn::Wait(Signal::Ready),
-    Turn::Insert(Some(b"other"), TIMES),
+    Turn::Put(Place::Key(b"other"), TIMES),
     LAG,
 ];
 

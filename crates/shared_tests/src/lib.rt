@@ -1,5 +1,5 @@
 //! Tests of a database that threads share. Each ends by itself, and comes out the same whatever the schedule, as long as a thread that
-//! waits for another one does not look in vain ten billion times; then the test fails. `beside` has callers work in threads of their own,
+//! waits for another one does not look in vain a hundred million times; then the test fails. `beside` has callers work in threads of their own,
 //! gathers the state, and looks at what they made; a `trial` says which `turns` each `caller` takes, and what has to come of them; `asking`
 //! makes a call and boils down what came of it; a `replay` makes the calls of a history again, on a plain map.
 #![tactic(auto)]
@@ -23,7 +23,11 @@ mod handover_tests;
 #[cfg(test)]
 mod lagging_tests;
 #[cfg(test)]
+mod queue_tests;
+#[cfg(test)]
 mod replay;
+#[cfg(test)]
+mod scan_tests;
 #[cfg(test)]
 mod state_tests;
 #[cfg(test)]

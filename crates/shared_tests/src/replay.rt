@@ -6,7 +6,8 @@ use std::alloc::Global;
 use std::collections::BTreeMap;
 use std::process::Abort;
 
-type Plain = BTreeMap<IVec, IVec>;
+/// A plain map.
+pub type Plain = BTreeMap<IVec, IVec>;
 
 // Puts a value at a key.
 fn put<R: Abort>(rt: &R, map: &mut Plain, key: &IVec, value: &IVec) {
@@ -130,17 +131,33 @@ fn replays<R: Abort>(rt: &R, map: &mut Plain, history: &[Entry]) -> bool {
     true
 }
 
-/// Whether a plain map that begins with what the database had when it was shared makes each call of the history with the same reply. All
-/// pairs and calls are of one tree.
-pub fn is_replayed<R: Abort>(
+/// The plain map that begins with what the database had when it was shared, after it made each call of the history; `None` where one has
+/// another reply there. All pairs and calls are of one tree.
+pub fn replayed<R: Abort>(
     rt: &R,
     alloc: Global,
     opening: &[Collection],
     history: &[Entry],
-) -> bool {
+) -> Option<Plain> {
     let mut map = BTreeMap::new(alloc);
     fill(rt, &mut map, opening);
-    let same = replays(rt, &mut map, history);
+    if replays(rt, &mut map, history) {
+        return Some(map);
+    }
     drop(map);
-    same
+    None
+}
+
+/// Whether the map has the pairs of all these collections, and no others.
+pub fn has_just(map: &Plain, collections: &[Collection]) -> bool {
+    let mut pairs = 0usize;
+    for collection in collections {
+        for (key, value) in &collection.2 {
+            if !map.get(key).is_some_and(|there| there == value) {
+                return false;
+            }
+            pairs = pairs.wrapping_add(1);
+        }
+    }
+    pairs == map.len()
 }

@@ -5,6 +5,7 @@ use crate::caller::Caller;
 use sled_machine::shared::{Gate, Made};
 use sled_model::{Call, Reply};
 use std::sync::atomic::{AtomicU64, Ordering};
+use std::thread::yield_now;
 
 /// What callers tell each other by a number that is 0 at first.
 #[derive(Clone, Copy)]
@@ -22,6 +23,24 @@ pub enum Signal {
     After,
 }
 
+/// Where a number is put.
+#[derive(Clone, Copy)]
+pub enum Place<'a> {
+    /// At this key.
+    Key(&'a [u8]),
+    /// At itself.
+    Itself,
+    /// Into the queue.
+    Queue,
+}
+
+/// What is taken that others put.
+#[derive(Clone, Copy)]
+pub enum Taken {
+    Events,
+    Jobs,
+}
+
 /// What a caller does.
 #[derive(Clone, Copy)]
 pub enum Turn<'a> {
@@ -29,10 +48,10 @@ pub enum Turn<'a> {
     Ask(Ask<'a>, Told),
     /// Inserts this value at this key, of which that has to come, after it went on so often. After its first step the others make their call.
     Meet(&'a [u8], &'a [u8], Told, u64),
-    /// Inserts so often, or until the tree is not there any more: at this key, or at the numbers from 1 on.
-    Insert(Option<&'a [u8]>, u64),
-    /// Adds one so often to the counter.
-    Add(usize),
+    /// Puts the numbers from 1 on there, so many, or until the tree is not there any more.
+    Put(Place<'a>, u64),
+    /// Makes a call so often that tells a number. Each is greater than the one before.
+    Count(Ask<'a>, usize),
     /// Begins a call.
     Begin(Ask<'a>, Signal),
     /// Steps the call that was begun for others as often as the trial says. It goes on each time.
@@ -45,8 +64,8 @@ pub enum Turn<'a> {
     Abandon,
     /// Subscribes to all keys.
     Watch,
-    /// Takes events until so many inserts are told or missed.
-    Take(u64),
+    /// Makes a call that takes what others put, an event or a job, until so many are told or missed.
+    Take(Taken, u64),
     /// The one of two callers that comes here last is told so many events, and that it missed so many.
     Lag(u64, u64),
     /// It has made so many calls, as it can tell itself.
@@ -58,15 +77,17 @@ pub enum Turn<'a> {
     Set(Signal),
 }
 
-// So often a number is looked at: for some ten seconds and more, since on a busy machine the other thread may have to wait for its turn.
-const LOOKS: u64 = 10_000_000_000;
+// So often a number is looked at.
+const LOOKS: u64 = 100_000_000;
 
-// Looks at a number until another thread has set it to more than this. Whether that came.
+// Looks at a number until another thread has set it to more than this. Whether that came. After each look others may run, since on a busy
+// machine the other thread may have to wait for its turn.
 fn is_more(number: &AtomicU64, than: u64) -> bool {
     for _ in 0..LOOKS {
         if number.load(Ordering::SeqCst) > than {
             return true;
         }
+        yield_now();
     }
     false
 }
@@ -100,12 +121,23 @@ fn meet<C: Caller>(scene: &Scene, caller: &mut C, key: &[u8], value: &[u8]) -> (
     (told, scene.count.load(Ordering::SeqCst))
 }
 
-// The number at this key, or at itself, and how many came in.
-fn insert_on<C: Caller>(scene: &Scene, caller: &mut C, key: Option<&[u8]>, times: u64) {
+// The call that puts these bytes there.
+fn putting<'a>(place: Place<'a>, bytes: &'a [u8]) -> Ask<'a> {
+    match place {
+        Place::Key(key) => Ask::Insert(key, bytes),
+        Place::Itself => Ask::Insert(bytes, bytes),
+        Place::Queue => Ask::Push(bytes),
+    }
+}
+
+// Tells how many came in.
+fn put_on<C: Caller>(scene: &Scene, caller: &mut C, place: Place<'_>, times: u64) {
     for number in 1..=times {
         let bytes = number.to_be_bytes();
-        match caller.ask(Ask::Insert(key.unwrap_or(&bytes), &bytes)) {
-            Told::NoValue | Told::Value(_) => scene.count.store(number, Ordering::SeqCst),
+        match caller.ask(putting(place, &bytes)) {
+            Told::NoValue | Told::Value(_) | Told::Id => {
+                scene.count.store(number, Ordering::SeqCst);
+            }
             told => {
                 caller.require(told == Told::NoSuchTree, "decided, or no tree");
                 return;
@@ -114,11 +146,10 @@ fn insert_on<C: Caller>(scene: &Scene, caller: &mut C, key: Option<&[u8]>, times
     }
 }
 
-// Each reply must be greater than the one before.
-fn add<C: Caller>(caller: &mut C, times: usize) {
+fn count_on<C: Caller>(caller: &mut C, ask: Ask<'_>, times: usize) {
     let mut last = 0;
     for _ in 0..times {
-        match caller.ask(Ask::Merge(b"counter", &[0, 0, 0, 0, 0, 0, 0, 1])) {
+        match caller.ask(ask) {
             Told::Value(number) if last < number => last = number,
             _ => caller.require(false, "each reply is above the one before"),
         }
@@ -141,25 +172,28 @@ fn watch<C: Caller>(scene: &Scene, caller: &mut C) {
     }
 }
 
-// Each event must be of a later key than the one before.
-fn take<C: Caller>(scene: &Scene, caller: &mut C, keys: u64) {
-    let next = Ask::Next(scene.ready.load(Ordering::SeqCst));
+// Each event must be of a later key than the one before, and each job a later one.
+fn take<C: Caller>(scene: &Scene, caller: &mut C, taken: Taken, wanted: u64) {
+    let next = match taken {
+        Taken::Events => Ask::Next(scene.ready.load(Ordering::SeqCst)),
+        Taken::Jobs => Ask::Take,
+    };
     let (mut sum, mut last) = (0u64, 0u64);
     for _ in 0..EVENTS {
-        if sum >= keys {
+        if sum >= wanted {
             break;
         }
         wait_for_more(caller, &scene.count, sum);
         match caller.ask(next) {
-            Told::Event(key) if last < key => {
-                last = key;
+            Told::Event(number) | Told::Job(number) if last < number => {
+                last = number;
                 sum = sum.wrapping_add(1);
             }
             Told::Missed(count) => sum = sum.wrapping_add(count),
-            _ => caller.require(false, "a key above the one before, or what was missed"),
+            _ => caller.require(false, "one above the one before, or what was missed"),
         }
     }
-    caller.require(sum == keys, "all inserts are told or missed");
+    caller.require(sum == wanted, "all are told or missed");
 }
 
 fn lag<C: Caller>(scene: &Scene, caller: &mut C, events: u64, missed: u64) {
@@ -235,12 +269,12 @@ fn take_turn<C: Caller>(scene: &Scene, caller: &mut C, turn: Turn<'_>) {
                 "the others' call between",
             );
         }
-        Turn::Insert(key, times) => insert_on(scene, caller, key, times),
-        Turn::Add(times) => add(caller, times),
+        Turn::Put(place, times) => put_on(scene, caller, place, times),
+        Turn::Count(ask, times) => count_on(caller, ask, times),
         Turn::GoOn => go_on(scene, caller, 0, scene.moves),
         Turn::GoOnTo(moves) => go_on(scene, caller, scene.moves, moves),
         Turn::Watch => watch(scene, caller),
-        Turn::Take(keys) => take(scene, caller, keys),
+        Turn::Take(taken, wanted) => take(scene, caller, taken, wanted),
         Turn::Lag(events, missed) => lag(scene, caller, events, missed),
         other => begin_or_wait(scene, caller, other),
     }

@@ -84,8 +84,8 @@ step_adds store number meant a b slot o made more s e = go o _ s.step.step.is e
     go (outcome.Yielded key value) maps t e = e ∙ append-nil made
     go (outcome.Refused x) maps t e = e ∙ append-nil made
     go outcome.NoSuchSlot maps t e = e ∙ append-nil made
-    go outcome.Abandoned maps t e = e ∙ append-nil made
-    go (outcome.Begun i) maps t e = e ∙ append-nil made
+    go outcome.Abandoned maps t e = absurd t
+    go (outcome.Begun i) maps t e = absurd t
 
 -- where there was memory to make a call on a key it is one
 pub on_key_made : (made : Result Call Error) (call : Call) → IfOk made (λ it. it ≡ call) → IsOnKey call → IfOk made IsOnKey

@@ -1,9 +1,10 @@
 -- What a step notes: an entry in the history, and the same in the list of its caller.
 use Rattle.std.specs.Prelude.{◌≡◌, ℕ, List, [], ◌∷◌, ◌++◌, map, Option, Some, None}
 use Rattle.sled_nodes.specs.Ranges.{Range}
+use Rattle.sled_nodes.specs.declared.error.Error.TheVariants.{Closed}
 use Rattle.sled_model.specs.State.{CallInFlight, range_of}
 use Rattle.sled_model.specs.declared.outcome.Outcome.{Outcome}
-use Rattle.sled_model.specs.declared.outcome.Outcome.TheVariants.{Decided}
+use Rattle.sled_model.specs.declared.outcome.Outcome.TheVariants.{Begun, Decided, Refused, Abandoned, NoSuchSlot}
 use Rattle.sled_model.specs.declared.call.Call.{Call}
 use Rattle.sled_model.specs.declared.tree.Tree.{Tree}
 use Rattle.sled_model.specs.declared.reply.Reply.{Reply}
@@ -35,7 +36,23 @@ abbrev pub AddsReply : Reply → List MadeValue → List MadeValue → Type 0
 AddsReply End made more = more ≡ made
 AddsReply reply made more = (tree : Tree) × (call : Call) × (more ≡ made ++ PointMade tree call reply ∷ [])
 
--- a step that tells a reply adds it to a list, and any other adds nothing
+-- a step that tells a reply adds it to a list, and any other adds nothing. No step begins a call or gives one up
 abbrev pub AddsStep : Outcome → List MadeValue → List MadeValue → Type 0
 AddsStep (Decided reply) made more = AddsReply reply made more
+AddsStep (Begun slot) made more = ⊥
+AddsStep Abandoned made more = ⊥
 AddsStep o made more = more ≡ made
+
+-- a call ends with a reply, with a refusal, or because another caller ended its slot
+abbrev pub IsEnd : Outcome → Type 0
+IsEnd (Decided reply) = Unit {0}
+IsEnd (Refused e) = Unit {0}
+IsEnd NoSuchSlot = Unit {0}
+IsEnd o = ⊥
+
+-- a call is given up, or the slot has none, or the database was taken out of its lock
+abbrev pub IsGivenUp : Outcome → Type 0
+IsGivenUp Abandoned = Unit {0}
+IsGivenUp NoSuchSlot = Unit {0}
+IsGivenUp (Refused Closed) = Unit {0}
+IsGivenUp o = ⊥

@@ -9,6 +9,7 @@ use Rattle.sled_calls.specs.Ids.{RiseBetween}
 use Rattle.sled_calls.specs.Values.{MachineValue}
 use Rattle.sled_shared.specs.Made.{EntryValue}
 use Rattle.sled_shared.specs.History.{IsLegal, maps_from, ids_made}
+use Rattle.sled_shared.specs.Values.{StateValue}
 
 -- the database is open
 abbrev pub IsOpen : {P M : Type 0} → (P → Store) → MachineValue P M → Type 0
@@ -24,6 +25,14 @@ pub record IsState {P M : Type 0} (store : P → Store) (m : MachineValue P M) (
   pub legal : IsOpen store m → IsLegal (maps_from opening) history (maps_now store m)
   pub ids : RiseBetween 0 (ids_made history) m.db.greatest_id
   pub counted : length history ≡ total
+
+-- while the database of a state is open its history is legal, from the opening to the maps now
+abbrev pub HasLegalHistory : {P M : Type 0} → (P → Store) → StateValue P M → Type 0
+HasLegalHistory store s = IsOpen store s.machine → IsLegal (maps_from s.opening) s.history (maps_now store s.machine)
+
+-- the ids in its history rise, up to the greatest that the database gave
+abbrev pub HasRisingIds : {P M : Type 0} → StateValue P M → Type 0
+HasRisingIds s = RiseBetween 0 (ids_made s.history) s.machine.db.greatest_id
 
 -- so many parts of the ledger are left for the callers that have no handle, and one more, and they count nothing
 pub record HasParts (callers given parts amount : ℕ) : Type 0 where

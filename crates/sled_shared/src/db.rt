@@ -118,7 +118,7 @@ impl<P: Pages, L: Ledger, M: MergeOperator> Db<P, L, M> {
     /// `NoMemory`.
     ///
     /// ```
-    /// let blank = std::sync::ledger::Blank::new(3); // For two callers.
+    /// let blank = sled_shared::Blank::new(3); // For two callers.
     /// let shared = sled_shared::Db::<MemPages, std::marker::Brand>::new(rt, alloc, db, blank, 2);
     /// ```
     pub fn new(

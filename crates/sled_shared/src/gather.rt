@@ -1,8 +1,7 @@
 //! The state, out of its lock.
 ghost use Rattle.std.specs.Prelude.{◌≡◌, true, All, IfOk, IfErr, IfSome, length, vec_len};
 ghost use Rattle.sled_model.specs.Collections.{contents_of};
-ghost use Rattle.sled_shared.specs.History.{IsLegal, maps_from};
-ghost use Rattle.sled_shared.specs.Sound.{IsOpen, maps_now};
+ghost use Rattle.sled_shared.specs.Sound.{HasLegalHistory, HasRisingIds};
 ghost use Rattle.sled_shared.specs.Gathered.{EachOnce, IsMadeIn, IsOfGiven};
 
 use crate::compare::{all_agree, are_all, are_same_collections, has_no_others};
@@ -40,8 +39,9 @@ fn began_with<P: Pages, L: Ledger, M: MergeOperator>(
 impl<P: Pages, L: Ledger, M: MergeOperator> Db<P, L, M> {
     /// Takes the state out, once all callers are done. All handles that were made must be handed in, in any order; where none was made the
     /// empty list is all. Each handle's list is compared with the history: it must be that of the entries with its number, in order, and
-    /// the history must have no others; and what the state began with must be what the database had when it was shared. Where it is not so, all is given back as it was. The history of the state is legal, while its
-    /// database is open.
+    /// the history must have no others; and what the state began with must be what the database had when it was shared. Where it is not
+    /// so, the database and the handles are given back, and the state stays under its lock. While its database is open the history of the
+    /// state is legal, and its ids rise.
     ///
     /// ```
     /// match shared.gather(rt, handles) {
@@ -59,7 +59,8 @@ impl<P: Pages, L: Ledger, M: MergeOperator> Db<P, L, M> {
         ensures made { IfOk result (λ s. All (IsMadeIn s.history) handles.items) }
         ensures others { IfOk result (λ s. All (IsOfGiven self.given) s.history) }
         ensures opening { IfOk result (λ s. s.opening ≡ self.opening) }
-        ensures legal { IfOk result (λ s. IsOpen P.store s.machine → IsLegal (maps_from s.opening) s.history (maps_now P.store s.machine)) }
+        ensures legal { IfOk result (HasLegalHistory P.store) }
+        ensures ids { IfOk result HasRisingIds }
         ensures err { IfErr result (λ e. (e.0 ≡ self) × (e.1 ≡ handles)) }
     {
         match self.take_if(rt, handles.as_slice()) {

@@ -1,12 +1,11 @@
 //! Callers' ways to a database that is shared.
-ghost use Rattle.std.specs.Prelude.{◌≡◌, ◌≢◌, ◌++◌, IfOk};
+ghost use Rattle.std.specs.Prelude.{◌≡◌, ◌++◌, IfOk};
 ghost use Rattle.std.specs.Option.{option_copied};
 ghost use Rattle.sled_model.specs.State.{IsOnKey};
 ghost use Rattle.sled_model.specs.declared.call.Call.{Call};
 ghost use Rattle.sled_model.specs.declared.call.Call.TheVariants.{Get, Insert, Remove, CompareAndSwap, Merge};
-ghost use Rattle.sled_model.specs.declared.outcome.Outcome.TheVariants.{Moved};
 ghost use Rattle.sled_shared.specs.Made.{made_values};
-ghost use Rattle.sled_shared.specs.Notes.{AddsStep, noted_of};
+ghost use Rattle.sled_shared.specs.Notes.{AddsStep, IsEnd, IsGivenUp, noted_of};
 ghost use Rattle.sled_shared.specs.WholeNotes.{AddsWhole};
 
 use crate::caller::Caller;
@@ -110,13 +109,14 @@ impl<P: Pages, L: Ledger, M: MergeOperator> Handle<P, L, M> {
         outcome
     }
 
-    /// Gives the call in the slot up, whoever began it.
+    /// Gives the call in the slot up, whoever began it. Where the slot has no call the answer is `NoSuchSlot`.
     ///
     /// ```
     /// let outcome = handle.abandon(rt, slot); // `Abandoned`, or `NoSuchSlot`.
     /// ```
     pub fn abandon(&mut self, rt: &impl Wait, slot: Slot) -> Outcome
-        ensures { self.new ≡ self.old }
+        ensures given_up { IsGivenUp result }
+        ensures same { self.new ≡ self.old }
     {
         let mut guard = self.lock.lock(rt);
         let outcome = abandon_in(&mut *guard, slot);
@@ -165,21 +165,26 @@ impl<P: Pages, L: Ledger, M: MergeOperator> Handle<P, L, M> {
         requires { IsOnKey call.now }
         ensures made { self.new.made ≡ self.old.made ++ noted_of result tree.now call.now }
         ensures number { self.new.number ≡ self.old.number }
-        ensures ends { result ≢ Moved }
+        ensures ends { IsEnd result }
     {
         for _ in rt.forever() {
             match self.step_of(rt, slot, tree, call) {
-                Outcome::Moved => gate.between(),
-                other => return other,
+                end @ (Outcome::Decided(_) | Outcome::Refused(_) | Outcome::NoSuchSlot) =>
+                    return end,
+                // a call on a key comes to nothing else than `Moved`
+                other => {
+                    drop(other);
+                    gate.between();
+                }
             }
         }
         unreachable!()
     }
 
-    /// Makes a call on a key of a tree, step by step until a reply. The lock is taken for each step and is free between two, where the
-    /// gate is called. A call that is decided comes to the end of this caller's list, with its reply. It must be no scan: that it is
-    /// none is what `Call::is_on_key` tells. Where another caller ended the slot the answer is `NoSuchSlot`, and nothing comes to the
-    /// list.
+    /// Makes a call on a key of a tree, step by step until it is decided or refused. The lock is taken for each step and is free between
+    /// two, where the gate is called. A call that is decided comes to the end of this caller's list, with its reply. It must be no scan:
+    /// that it is none is what `Call::is_on_key` tells. Where another caller ended the slot the answer is `NoSuchSlot`, and nothing comes
+    /// to the list.
     ///
     /// ```
     /// let outcome = handle.call(rt, &tree, Call::insert(alloc, b"ulm", b"21")?, &NoGate);
@@ -188,7 +193,7 @@ impl<P: Pages, L: Ledger, M: MergeOperator> Handle<P, L, M> {
         requires { IsOnKey call }
         ensures made { self.new.made ≡ self.old.made ++ noted_of result tree.now call }
         ensures number { self.new.number ≡ self.old.number }
-        ensures ends { result ≢ Moved }
+        ensures ends { IsEnd result }
     {
         let again = match call.clone() {
             Ok(again) => again,
@@ -214,7 +219,7 @@ impl<P: Pages, L: Ledger, M: MergeOperator> Handle<P, L, M> {
         requires { IfOk made IsOnKey }
         ensures made { (call : Call) → IfOk made (λ it. it ≡ call) → self.new.made ≡ self.old.made ++ noted_of result tree.now call }
         ensures number { self.new.number ≡ self.old.number }
-        ensures ends { result ≢ Moved }
+        ensures ends { IsEnd result }
     {
         match made {
             Ok(call) => self.call(rt, tree, call, &NoGate),
@@ -231,7 +236,7 @@ impl<P: Pages, L: Ledger, M: MergeOperator> Handle<P, L, M> {
     pub fn get(&mut self, rt: &impl Wait, alloc: Global, tree: &Tree, key: &[u8]) -> Outcome
         ensures made { self.new.made ≡ self.old.made ++ noted_of result tree.now (Get key.now) }
         ensures number { self.new.number ≡ self.old.number }
-        ensures ends { result ≢ Moved }
+        ensures ends { IsEnd result }
     {
         self.call_made(rt, tree, Call::get(alloc, key))
     }
@@ -252,7 +257,7 @@ impl<P: Pages, L: Ledger, M: MergeOperator> Handle<P, L, M> {
     ) -> Outcome
         ensures made { self.new.made ≡ self.old.made ++ noted_of result tree.now (Insert key.now value.now) }
         ensures number { self.new.number ≡ self.old.number }
-        ensures ends { result ≢ Moved }
+        ensures ends { IsEnd result }
     {
         self.call_made(rt, tree, Call::insert(alloc, key, value))
     }
@@ -266,7 +271,7 @@ impl<P: Pages, L: Ledger, M: MergeOperator> Handle<P, L, M> {
     pub fn remove(&mut self, rt: &impl Wait, alloc: Global, tree: &Tree, key: &[u8]) -> Outcome
         ensures made { self.new.made ≡ self.old.made ++ noted_of result tree.now (Remove key.now) }
         ensures number { self.new.number ≡ self.old.number }
-        ensures ends { result ≢ Moved }
+        ensures ends { IsEnd result }
     {
         self.call_made(rt, tree, Call::remove(alloc, key))
     }
@@ -288,7 +293,7 @@ impl<P: Pages, L: Ledger, M: MergeOperator> Handle<P, L, M> {
     ) -> Outcome
         ensures made { self.new.made ≡ self.old.made ++ noted_of result tree.now (CompareAndSwap key.now (option_copied old.entry) (option_copied new.entry)) }
         ensures number { self.new.number ≡ self.old.number }
-        ensures ends { result ≢ Moved }
+        ensures ends { IsEnd result }
     {
         self.call_made(rt, tree, Call::compare_and_swap(alloc, key, old, new))
     }
@@ -309,7 +314,7 @@ impl<P: Pages, L: Ledger, M: MergeOperator> Handle<P, L, M> {
     ) -> Outcome
         ensures made { self.new.made ≡ self.old.made ++ noted_of result tree.now (Merge key.now bytes.now) }
         ensures number { self.new.number ≡ self.old.number }
-        ensures ends { result ≢ Moved }
+        ensures ends { IsEnd result }
     {
         self.call_made(rt, tree, Call::merge(alloc, key, bytes))
     }

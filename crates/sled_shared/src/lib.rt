@@ -7,12 +7,13 @@
 //!
 //! Whenever the lock is free the history is legal, as long as no group was refused midway: from the collections that the database had when
 //! it was shared, each call replied and wrote what it would have, made alone at its place, and the maps after the last are the maps now
-//! (`specs/History`, `specs/Sound`). A merge wrote what its reply tells. A caller's list is no longer than its share of the entries, which a ledger counts. At the end `gather`
-//! takes all handles back and compares: each list is that of its caller's entries, and the history has no others.
+//! (`specs/History`, `specs/Sound`). A merge wrote what its reply tells. A caller's list is as long as its share of the entries, which a
+//! ledger counts. At the end `gather` takes all handles back and compares: each list is that of its caller's entries, and the history has
+//! no others.
 //!
 //! ```
 //! // For two callers: a ledger with a part for each, and one more. At `Err` the database is given back.
-//! let blank = std::sync::ledger::Blank::new(3);
+//! let blank = sled_shared::Blank::new(3);
 //! let shared = sled_shared::Db::<MemPages, std::marker::Brand>::new(rt, alloc, db, blank, 2);
 //! ```
 #![tactic(auto)]
@@ -35,3 +36,5 @@ pub use db::Db;
 pub use entry::{Entry, Made};
 pub use handle::{Gate, Handle, NoGate};
 pub use state::State;
+// an unopened ledger, which `Db::new` takes
+pub use std::sync::ledger::Blank;

@@ -34,14 +34,17 @@ impl<P: Pages, L: Ledger, M> Model for State<P, L, M> {
 
 impl<P: Pages, L: Ledger, M: MergeOperator> State<P, L, M> {
     ghost use Rattle.std.specs.Prelude.{◌≡◌};
+    ghost use Rattle.sled_shared.specs.Sound.{HasLegalHistory, HasRisingIds};
 
-    /// The machine. The history is let go.
+    /// The machine. The history, which is legal while the database is open, is let go.
     ///
     /// ```
     /// let db = state.into_machine().into_db();
     /// ```
     pub fn into_machine(self) -> Machine<P, M>
-        ensures { result ≡ self.machine }
+        ensures machine { result ≡ self.machine }
+        ensures legal { HasLegalHistory P.store self }
+        ensures ids { HasRisingIds self }
     {
         let Self {
             machine,

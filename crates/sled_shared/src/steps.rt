@@ -7,11 +7,9 @@ ghost use Rattle.sled_model.specs.declared.outcome.Step.TheVariants as step;
 ghost use Rattle.sled_model.specs.declared.outcome.Outcome.TheVariants as outcome;
 ghost use Rattle.sled_calls.specs.Step.{MachineStepContract};
 ghost use Rattle.sled_calls.specs.Values.{slots_of, job_of_call};
-ghost use Rattle.sled_calls.specs.Ids.{RiseBetween};
-ghost use Rattle.sled_shared.specs.History.{IsLegal, ids_made, maps_from};
 ghost use Rattle.sled_shared.specs.Made.{entry_values};
-ghost use Rattle.sled_shared.specs.Notes.{AddsStep, entries_of, noted_in, noted_of};
-ghost use Rattle.sled_shared.specs.Sound.{IsOpen, maps_now};
+ghost use Rattle.sled_shared.specs.Notes.{AddsStep, IsGivenUp, entries_of, noted_in, noted_of};
+ghost use Rattle.sled_shared.specs.Sound.{HasLegalHistory, HasRisingIds};
 ghost use Rattle.sled_shared.specs.Steps.{SlotStep};
 ghost use Rattle.sled_shared.specs.theory.Noting.{job_pair};
 ghost use Rattle.sled_shared.specs.WholeNotes.{AddsWhole, NotesWhole};
@@ -68,8 +66,10 @@ impl<P: Pages, L: Ledger, M: MergeOperator> State<P, L, M> {
     /// the history and the caller's list are longer by it and its reply. A scan is never noted. Room and copies are made before the
     /// step: where there is no memory for them the call is refused with `NoMemory`, and its slot is gone.
     ///
+    /// A handle does this under the lock, with its own caller.
+    ///
     /// ```
-    /// let outcome = state.step(&mut me, slot);
+    /// let outcome = handle.step(rt, slot);
     /// ```
     pub fn step(&mut self, me: &mut Caller<L>, slot: Slot) -> Outcome
         ensures step { SlotStep P.store P.flush_number M.meant self.old.machine slot result self.new.machine }
@@ -113,8 +113,10 @@ impl<P: Pages, L: Ledger, M: MergeOperator> State<P, L, M> {
     /// with the parts that it did, if it did any. Room and copies are made before the call: where there is no memory for them a test that
     /// would refuse it does, and else it is refused with `NoMemory`; nothing changes then.
     ///
+    /// A handle does this under the lock, with its own caller.
+    ///
     /// ```
-    /// let outcome = state.whole(&mut me, Whole::PopMin(tree));
+    /// let outcome = handle.whole(rt, Whole::PopMin(tree));
     /// ```
     pub fn whole(&mut self, me: &mut Caller<L>, whole: Whole) -> Outcome
         ensures whole { NotesWhole P.store P.flush_number M.meant self.old.machine self.old.history me.old.number me.old.made whole result self.new.machine self.new.history me.new.made }
@@ -149,13 +151,15 @@ impl<P: Pages, L: Ledger, M: MergeOperator> State<P, L, M> {
         self.opening.as_slice()
     }
 
-    /// What callers made, in the order of the steps that decided it.
+    /// What callers made, in the order of the steps that decided it. While the database is open it is legal, as `audit` says.
     ///
     /// ```
     /// let made = state.history().len(); // As many as all callers made.
     /// ```
     pub fn history(&self) -> &[Entry]
-        ensures { entry_values result.now ≡ self.now.history }
+        ensures entries { entry_values result.now ≡ self.now.history }
+        ensures legal { HasLegalHistory P.store self.now }
+        ensures ids { HasRisingIds self.now }
     {
         self.history.as_slice()
     }
@@ -168,8 +172,8 @@ impl<P: Pages, L: Ledger, M: MergeOperator> State<P, L, M> {
     /// state.audit(); // From here on a proof knows that the history is legal.
     /// ```
     pub fn audit(&self)
-        ensures legal { IsOpen P.store self.now.machine → IsLegal (maps_from self.now.opening) self.now.history (maps_now P.store self.now.machine) }
-        ensures ids { RiseBetween 0 (ids_made self.now.history) self.now.machine.db.greatest_id }
+        ensures legal { HasLegalHistory P.store self.now }
+        ensures ids { HasRisingIds self.now }
     {
         let _history = &self.history;
     }
@@ -231,7 +235,9 @@ pub(crate) fn step_of<P: Pages, L: Ledger, M: MergeOperator>(
 pub(crate) fn abandon_in<P: Pages, L: Ledger, M: MergeOperator>(
     held: &mut Option<State<P, L, M>>,
     slot: Slot,
-) -> Outcome {
+) -> Outcome
+    ensures { IsGivenUp result }
+{
     match held {
         None => Outcome::Refused(Error::Closed),
         Some(state) => state.abandon(slot),

@@ -5,11 +5,11 @@ use crate::loaded::{Owned, is_done};
 use crate::pairs::{NO_MARK, mark_of};
 use crate::work::{Way, Work};
 use sled::MemPages;
-use sled_machine::shared::{Db, Entry, Made, State};
+use sled_machine::shared::{Blank, Db, Entry, Made, State};
 use sled_model::{Call, Reply, Tree};
 use std::alloc::Global;
 use std::sync::Wait;
-use std::sync::ledger::{Blank, Ledger};
+use std::sync::ledger::Ledger;
 use std::thread::{Threads, for_each_mut};
 use std::time::{Clock, Duration, Instant};
 

@@ -1,0 +1,29 @@
+//! A thread that puts jobs into a queue, and another that takes them: each once, and in order.
+use crate::asking::{Ask, Told};
+use crate::beside::{EMPTY, try_out};
+use crate::trial::{Trial, Wanted};
+use crate::turns::{Place, Taken, Turn};
+
+// So many jobs are put in: the numbers from 1 on.
+const JOBS: u64 = 1000;
+
+// A job comes to the history with its id and its insert, and is taken once. Then none waits.
+const CALLS: usize = 3 * JOBS as usize + 1;
+
+const FIRST: [Turn<'static>; 1] = [Turn::Put(Place::Queue, JOBS)];
+
+const SECOND: [Turn<'static>; 2] = [
+    Turn::Take(Taken::Jobs, JOBS),
+    Turn::Ask(Ask::Take, Told::NoValue),
+];
+
+#[test]
+fn jobs_are_taken_beside_others_that_come(rt: HostRuntime) {
+    let trial = Trial {
+        first: &FIRST,
+        others: &SECOND,
+        moves: 0,
+        wanted: Wanted::Calls(CALLS, &[]),
+    };
+    try_out(&rt, rt.alloc(), EMPTY, 2, trial);
+}
