@@ -2,13 +2,13 @@
 
 use crate::counting::{Counting, kept_of};
 use crate::many::{find, load, overtake, run_steps};
-use known_lines::known::tell_known;
 use line_files::Program;
 use line_words::command::{Command, parse};
 use line_words::input::{Stopped, read_line, without_end};
 use line_words::print::Piece::Text;
 use line_words::print::push_bad_line;
 use line_words::words::{first_word, read_number, read_word};
+use session_lines::known::tell_known;
 use shell_parts::look::tell_look;
 use shell_parts::store::Kept;
 use shell_words::look::{Look, is_read, look_of};

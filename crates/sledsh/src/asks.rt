@@ -2,13 +2,13 @@
 
 use crate::shell::Shell;
 use crate::state::State;
-use known_lines::known::tell_known;
 use line_words::input::Stopped;
 use line_words::print::Piece::{Text, Word};
 use line_words::print::Shown;
 use line_words::words::first_word;
 use owned_lines::owned::make_owned;
 use session_lines::fetch::fetch;
+use session_lines::known::tell_known;
 use session_lines::transactions::{tell_transaction, tell_transaction_all};
 use shell_calls::calls::{handle_of, hearing, known_of, tell_unasked, whole_of};
 use shell_calls::groups::group_of;
