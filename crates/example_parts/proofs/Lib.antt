@@ -2,4 +2,4 @@ pub mod Keys
 pub mod Written
 pub mod Added
 pub mod Maps
-pub mod Numbers
+pub mod Reading

@@ -32,7 +32,7 @@ use Rattle.sled.specs.Direct.{PointRefused}
 use Rattle.sled.specs.Fetch.{Closure, FetchDecided, FetchRefused}
 use Rattle.example_parts.specs.Reads.{found_in, maps_now}
 use Rattle.example_parts.specs.Counters.{number_in, sum_of, bytes_of_sum, adding, counter_in}
-use Rattle.example_parts.proofs.Numbers.{number_read}
+use Rattle.example_parts.proofs.Reading.{number_read}
 use Rattle.examples.specs.Counters.{SetsCounter}
 
 -- the bytes of a sum are its number

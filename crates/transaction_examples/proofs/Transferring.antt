@@ -23,7 +23,7 @@ use Rattle.sled.specs.Transactions.{RunsOnTree, TransactionMade, TransactionNotM
 use Rattle.sled.specs.Values.{DbValue}
 use Rattle.example_parts.specs.Counters.{number_in, counter_in}
 use Rattle.example_parts.specs.Reads.{found_in, maps_now}
-use Rattle.example_parts.proofs.Numbers.{number_read}
+use Rattle.example_parts.proofs.Reading.{number_read}
 use Rattle.transaction_examples.specs.Throughout.{HoldsThroughout, IsSettled, Recovers}
 use Rattle.transaction_examples.specs.Transfers.{come_to, Transfers, is_reason, EndsTransfer}
 use Rattle.transaction_examples.specs.declared.transfers.TransferError.{TransferError}
