@@ -4,7 +4,7 @@ ghost use Rattle.std.specs.Prelude.{◌≡◌, ◌+◌, ◌<◌};
 use crate::caller::{Caller, Seat};
 use crate::replay::{Plain, has_just, replayed};
 use crate::state_tests::begin_and_abandon;
-use crate::trial::Trial;
+use crate::trial::{Start, Trial};
 use example_parts::Adds;
 use sled::{Db, MemPages, empty_pages};
 use sled_machine::shared::Blank;
@@ -56,9 +56,6 @@ fn is_done<T: Drop, E: Drop>(came: Result<T, E>) -> bool {
     drop(came);
     done
 }
-
-// The name of the tree that is there from the beginning.
-const DEFAULT: &[u8] = b"__sled__default";
 
 // A new database.
 fn new_database<R: Abort>(rt: &R, alloc: Global) -> Fresh {
@@ -146,7 +143,7 @@ fn handles_of<L: Ledger, R: Abort>(
 fn work_beside<L: Ledger + Send + Sync, R: Threads + Wait + Abort + Sync>(
     rt: &R,
     scene: &Scene,
-    trial: Trial<'_>,
+    trial: &Trial<'_>,
     handles: &mut [Way<L>],
 ) {
     let threads = handles.len();
@@ -218,12 +215,11 @@ fn is_left_so<R: Abort>(rt: &R, machine: &Machine<MemPages, Adds>, map: &Plain) 
 fn remade<L: Ledger, R: Abort>(
     rt: &R,
     scene: &Scene,
-    start: Start,
-    trial: Trial<'_>,
+    trial: &Trial<'_>,
     state: &Gathered<L>,
 ) -> Plain {
     let (opening, history) = (state.opening(), state.history());
-    let well = began_so(start, opening) && trial.passes(scene, history);
+    let well = began_so(trial.start, opening) && trial.passes(scene, history);
     require(rt, well, "what was there, and what callers made");
     match replayed(rt, scene.alloc, opening, history) {
         Some(map) => map,
@@ -232,19 +228,13 @@ fn remade<L: Ledger, R: Abort>(
 }
 
 // Looks at what callers made: a plain map makes the same of the calls, and has what the database has then.
-fn look<L: Ledger, R: Abort>(
-    rt: &R,
-    scene: &Scene,
-    start: Start,
-    trial: Trial<'_>,
-    state: Gathered<L>,
-) {
+fn look<L: Ledger, R: Abort>(rt: &R, scene: &Scene, trial: &Trial<'_>, state: Gathered<L>) {
     let mut state = state;
     // Another tree than that of the beginning may be dropped.
-    if start.trees == 1 {
+    if trial.start.trees == 1 {
         begin_and_abandon(rt, scene, &mut state);
     }
-    let map = remade(rt, scene, start, trial, &state);
+    let map = remade(rt, scene, trial, &state);
     let machine = state.into_machine();
     let same = is_left_so(rt, &machine, &map);
     let left = is_left(&scene.before, &machine) && is_left(&scene.after, &machine);
@@ -260,8 +250,7 @@ fn try_among<L: Ledger + Send + Sync, R: Threads + Wait + Abort + Sync>(
     db: Fresh,
     blank: Blank,
     callers: u64,
-    start: Start,
-    trial: Trial<'_>,
+    trial: &Trial<'_>,
 )
 where
     requires name { blank.name ≡ L.name }
@@ -272,48 +261,18 @@ where
     let mut handles = handles_of(rt, scene.alloc, &mut shared, callers);
     work_beside(rt, scene, trial, handles.as_mut_slice());
     let state = gathered_late(rt, shared, handles);
-    look(rt, scene, start, trial, state);
+    look(rt, scene, trial, state);
 }
 
-/// A database with one tree, of this name, into which so many keys were put, from 0 up, and so many of the last taken out again. With the
-/// tree that is there from the beginning it has so many.
-#[derive(Clone, Copy)]
-pub struct Start {
-    pub name: &'static [u8],
-    pub trees: usize,
-    pub keys: u8,
-    pub taken: u8,
-}
-
-/// A database with nothing in it.
-pub const EMPTY: Start = Start {
-    name: DEFAULT,
-    trees: 1,
-    keys: 0,
-    taken: 0,
-};
-
-/// Has so many callers work on a database, each in a thread, and looks at what comes of it.
-pub fn try_out<R: Threads + Wait + Abort + Sync>(
-    rt: &R,
-    alloc: Global,
-    start: Start,
-    callers: u8,
-    trial: Trial<'_>,
-) {
+/// Makes the trial: has its callers work on a database, each in a thread, and looks at what comes of it.
+pub fn try_out<R: Threads + Wait + Abort + Sync>(rt: &R, alloc: Global, trial: &Trial<'_>) {
     let mut db = new_database(rt, alloc);
+    let start = trial.start;
     let tree = tree_of(rt, &mut db, start.name);
     fill(rt, &mut db, &tree, start.keys, start.taken);
     let scene = new_scene(alloc, tree, trial.moves);
-    let callers = u64::from(callers);
-    try_among::<Brand, _>(
-        rt,
-        &scene,
-        db,
-        Blank::new(callers + 1),
-        callers,
-        start,
-        trial,
-    );
+    let callers = u64::from(trial.callers);
+    let blank = Blank::new(callers + 1);
+    try_among::<Brand, _>(rt, &scene, db, blank, callers, trial);
     drop(scene);
 }

@@ -1,7 +1,7 @@
 //! A thread that inserts into a tree until another one drops it.
 use crate::asking::{Ask, Told};
-use crate::beside::{EMPTY, Start, try_out};
-use crate::trial::{Trial, Wanted};
+use crate::beside::try_out;
+use crate::trial::{EMPTY, Start, Trial, Wanted};
 use crate::turns::{Place, Signal, Turn};
 
 // So many keys are inserted. Then the test fails, since the other thread did nothing.
@@ -15,18 +15,20 @@ const SECOND: [Turn<'static>; 2] = [
     Turn::Ask(Ask::DropTree, Told::Dropped),
 ];
 
-#[test]
-fn an_insert_finds_its_tree_dropped(rt: HostRuntime) {
-    let start = Start {
+const TRIAL: Trial<'static> = Trial {
+    start: Start {
         name: b"t",
         trees: 2,
         ..EMPTY
-    };
-    let trial = Trial {
-        first: &FIRST,
-        others: &SECOND,
-        moves: 0,
-        wanted: Wanted::Dropped(KEYS),
-    };
-    try_out(&rt, rt.alloc(), start, 2, trial);
+    },
+    callers: 2,
+    first: &FIRST,
+    others: &SECOND,
+    moves: 0,
+    wanted: Wanted::Dropped(KEYS),
+};
+
+#[test]
+fn an_insert_finds_its_tree_dropped(rt: HostRuntime) {
+    try_out(&rt, rt.alloc(), &TRIAL);
 }

@@ -1,7 +1,7 @@
 //! Two threads at one key: the second makes its call while the first stands between two steps, with the lock free.
 use crate::asking::{Ask, Told};
-use crate::beside::{EMPTY, try_out};
-use crate::trial::{Trial, Wanted};
+use crate::beside::try_out;
+use crate::trial::{EMPTY, Trial, Wanted};
 use crate::turns::{Signal, Turn};
 
 // The first thread makes one call.
@@ -21,13 +21,16 @@ const SECOND: [Turn<'static>; 6] = [
     Turn::Made(2),
 ];
 
+const TRIAL: Trial<'static> = Trial {
+    start: EMPTY,
+    callers: 2,
+    first: &FIRST,
+    others: &SECOND,
+    moves: 0,
+    wanted: Wanted::Calls(3, &[]),
+};
+
 #[test]
 fn one_call_between_two_steps_of_another(rt: HostRuntime) {
-    let trial = Trial {
-        first: &FIRST,
-        others: &SECOND,
-        moves: 0,
-        wanted: Wanted::Calls(3, &[]),
-    };
-    try_out(&rt, rt.alloc(), EMPTY, 2, trial);
+    try_out(&rt, rt.alloc(), &TRIAL);
 }

@@ -1,8 +1,8 @@
 //! Two callers, each of which has its own call alone. That a state is taken out only when both are back, and that no third one comes, is looked
 //! at in each trial.
 use crate::asking::{Ask, Told};
-use crate::beside::{EMPTY, try_out};
-use crate::trial::{Trial, Wanted};
+use crate::beside::try_out;
+use crate::trial::{EMPTY, Trial, Wanted};
 use crate::turns::Turn;
 
 const FIRST: [Turn<'static>; 2] = [
@@ -15,13 +15,16 @@ const SECOND: [Turn<'static>; 2] = [
     Turn::MadeInsert(b"other"),
 ];
 
+const TRIAL: Trial<'static> = Trial {
+    start: EMPTY,
+    callers: 2,
+    first: &FIRST,
+    others: &SECOND,
+    moves: 0,
+    wanted: Wanted::Calls(2, &[]),
+};
+
 #[test]
 fn a_state_waits_for_all_handles(rt: HostRuntime) {
-    let trial = Trial {
-        first: &FIRST,
-        others: &SECOND,
-        moves: 0,
-        wanted: Wanted::Calls(2, &[]),
-    };
-    try_out(&rt, rt.alloc(), EMPTY, 2, trial);
+    try_out(&rt, rt.alloc(), &TRIAL);
 }

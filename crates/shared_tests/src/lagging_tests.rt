@@ -1,6 +1,6 @@
 //! Two threads that insert under a subscriber, which nobody asks meanwhile: it is told the latest events, and how many it missed.
-use crate::beside::{EMPTY, try_out};
-use crate::trial::{Trial, Wanted};
+use crate::beside::try_out;
+use crate::trial::{EMPTY, Trial, Wanted};
 use crate::turns::{Place, Signal, Turn};
 
 // So often each thread inserts.
@@ -24,13 +24,16 @@ const SECOND: [Turn<'static>; 3] = [
     LAG,
 ];
 
+const TRIAL: Trial<'static> = Trial {
+    start: EMPTY,
+    callers: 2,
+    first: &FIRST,
+    others: &SECOND,
+    moves: 0,
+    wanted: Wanted::Calls(CALLS as usize, &[]),
+};
+
 #[test]
 fn a_subscriber_lags_behind_two_threads(rt: HostRuntime) {
-    let trial = Trial {
-        first: &FIRST,
-        others: &SECOND,
-        moves: 0,
-        wanted: Wanted::Calls(CALLS as usize, &[]),
-    };
-    try_out(&rt, rt.alloc(), EMPTY, 2, trial);
+    try_out(&rt, rt.alloc(), &TRIAL);
 }

@@ -1,7 +1,7 @@
 //! A scan that two threads step: the first takes one pair of it, and the second the others. Nothing is noted of it.
 use crate::asking::{Ask, Told};
-use crate::beside::{EMPTY, Start, try_out};
-use crate::trial::{Trial, Wanted};
+use crate::beside::try_out;
+use crate::trial::{EMPTY, Start, Trial, Wanted};
 use crate::turns::{Signal, Turn};
 
 // One step reads the leaf that is the root. Then each gives a pair.
@@ -21,14 +21,16 @@ const SECOND: [Turn<'static>; 5] = [
     Turn::Made(0),
 ];
 
+const TRIAL: Trial<'static> = Trial {
+    start: Start { keys: 2, ..EMPTY },
+    callers: 2,
+    first: &FIRST,
+    others: &SECOND,
+    moves: 0,
+    wanted: Wanted::Calls(0, &[]),
+};
+
 #[test]
 fn a_scan_is_stepped_by_two_threads(rt: HostRuntime) {
-    let start = Start { keys: 2, ..EMPTY };
-    let trial = Trial {
-        first: &FIRST,
-        others: &SECOND,
-        moves: 0,
-        wanted: Wanted::Calls(0, &[]),
-    };
-    try_out(&rt, rt.alloc(), start, 2, trial);
+    try_out(&rt, rt.alloc(), &TRIAL);
 }

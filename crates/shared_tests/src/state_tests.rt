@@ -1,7 +1,7 @@
 //! A swap, what a handle tells of its caller, and calls of a state outside the lock, once all handles are back.
 use crate::asking::{Ask, Told, call_of, outcome_told};
-use crate::beside::{EMPTY, Gathered, Scene, Start, require, try_out};
-use crate::trial::{Trial, Wanted};
+use crate::beside::{Gathered, Scene, require, try_out};
+use crate::trial::{EMPTY, Start, Trial, Wanted};
 use crate::turns::Turn;
 use std::process::Abort;
 use std::sync::ledger::Ledger;
@@ -29,14 +29,16 @@ const SECOND: [Turn<'static>; 2] = [
     Turn::Ask(SWAP, Told::Conflict),
 ];
 
+const TRIAL: Trial<'static> = Trial {
+    start: Start { keys: 1, ..EMPTY },
+    callers: 2,
+    first: &FIRST,
+    others: &SECOND,
+    moves: 0,
+    wanted: Wanted::Calls(2, &[(2, Told::Swapped), (2, Told::Conflict)]),
+};
+
 #[test]
 fn what_a_state_tells(rt: HostRuntime) {
-    let start = Start { keys: 1, ..EMPTY };
-    let trial = Trial {
-        first: &FIRST,
-        others: &SECOND,
-        moves: 0,
-        wanted: Wanted::Calls(2, &[(2, Told::Swapped), (2, Told::Conflict)]),
-    };
-    try_out(&rt, rt.alloc(), start, 2, trial);
+    try_out(&rt, rt.alloc(), &TRIAL);
 }

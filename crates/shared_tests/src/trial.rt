@@ -6,6 +6,27 @@ use crate::turns::{Turn, take_turns};
 use sled_machine::shared::{Entry, Made};
 use std::sync::atomic::Ordering;
 
+// The name of the tree that is there from the beginning.
+const DEFAULT: &[u8] = b"__sled__default";
+
+/// A database with one tree, of this name, into which so many keys were put, from 0 up, and so many of the last taken out again. With the
+/// tree that is there from the beginning it has so many.
+#[derive(Clone, Copy)]
+pub struct Start {
+    pub name: &'static [u8],
+    pub trees: usize,
+    pub keys: u8,
+    pub taken: u8,
+}
+
+/// A database with nothing in it.
+pub const EMPTY: Start = Start {
+    name: DEFAULT,
+    trees: 1,
+    keys: 0,
+    taken: 0,
+};
+
 /// What the history has, once all callers are done.
 #[derive(Clone, Copy)]
 pub enum Wanted<'a> {
@@ -19,9 +40,12 @@ pub enum Wanted<'a> {
     Any,
 }
 
-/// What the first of several callers does, what each other one does, and what the history has then.
+/// A database at the start and how many callers it has, what the first of them does and what each other one does, and what the history has
+/// then.
 #[derive(Clone, Copy)]
 pub struct Trial<'a> {
+    pub start: Start,
+    pub callers: u8,
     pub first: &'a [Turn<'a>],
     pub others: &'a [Turn<'a>],
     /// So many moves of a call are the first caller's, where it hands one over.

@@ -1,7 +1,7 @@
 //! Whole calls of two callers, and the entries of them.
 use crate::asking::{Ask, Told};
-use crate::beside::{EMPTY, try_out};
-use crate::trial::{Trial, Wanted};
+use crate::beside::try_out;
+use crate::trial::{EMPTY, Trial, Wanted};
 use crate::turns::{Signal, Turn};
 
 // The first caller fills the tree with two keys and pops the least of them.
@@ -22,13 +22,16 @@ const SECOND: [Turn<'static>; 4] = [
 ];
 
 // The pop and the clear are told by their entries.
+const TRIAL: Trial<'static> = Trial {
+    start: EMPTY,
+    callers: 2,
+    first: &FIRST,
+    others: &SECOND,
+    moves: 0,
+    wanted: Wanted::Calls(5, &[(1, Told::Popped), (2, Told::Cleared)]),
+};
+
 #[test]
 fn whole_calls_are_noted(rt: HostRuntime) {
-    let trial = Trial {
-        first: &FIRST,
-        others: &SECOND,
-        moves: 0,
-        wanted: Wanted::Calls(5, &[(1, Told::Popped), (2, Told::Cleared)]),
-    };
-    try_out(&rt, rt.alloc(), EMPTY, 2, trial);
+    try_out(&rt, rt.alloc(), &TRIAL);
 }
