@@ -1,5 +1,5 @@
 //! A queue of work in a tree that threads share. A job is put in at the key of an id that the database gives, and taken out from the front. No job
-//! is taken twice, and none is lost.
+//! is taken twice, and none is lost unless another is put in at its key; of jobs that `push` puts in each has a key of its own, since ids rise.
 ghost use Rattle.std.specs.Prelude.{◌≡◌, ◌++◌, ◌∷◌, [], IfSome, IfOk, IfErr, OnOk, OnErr};
 ghost use Rattle.sled_model.specs.declared.reply.Reply.TheVariants.{Number, Pair};
 ghost use Rattle.sled_shared.specs.Made.{WholeMade};

@@ -1,8 +1,9 @@
 //! Calls of a caller, and what came of them, boiled down to small values.
-use crate::beside::{Scene, Way};
+use crate::beside::{Scene, Way, is_done, require};
 use shared_examples::{Raised, add_one, push, raise, take};
+use sled_batch::Batch;
 use sled_machine::shared::Made;
-use sled_model::{Call, Next, Outcome, Reply, Slot, Subscriber, Whole};
+use sled_model::{Call, Next, Outcome, Reply, Slot, Subscriber, Tree, Whole};
 use sled_nodes::{Error, IVec};
 use std::ops::Bound;
 use std::process::Abort;
@@ -28,11 +29,19 @@ pub enum Ask<'a> {
     /// Takes the first job out of the queue.
     Take,
     PopMin,
+    PopMax,
     Clear,
+    /// A group of one insert.
+    Group(&'a [u8], &'a [u8]),
+    /// An import of so many pairs, all with this key and value. It is refused at the second.
+    Import(&'a [u8], u8),
+    Flush,
+    OpenTree(&'a [u8]),
     DropTree,
     GenerateId,
     Watch,
     Next(u64),
+    Unsubscribe(u64),
     /// A step of the call in this slot.
     Step(u64),
     /// The call in this slot is given up.
@@ -53,9 +62,12 @@ pub enum Told {
     /// The job that is this number.
     Job(u64),
     Popped,
-    Cleared,
+    Done,
     Dropped,
-    Id,
+    Number,
+    Tree,
+    /// So many parts were done.
+    Parts(u64),
     Subscriber(u64),
     /// An insert at the key that is this number.
     Event(u64),
@@ -65,6 +77,7 @@ pub enum Told {
     Abandoned,
     NoSuchSlot,
     NoSuchTree,
+    Unsupported,
     /// Nothing, or something else.
     Other,
 }
@@ -94,9 +107,10 @@ fn reply_told(reply: &Reply) -> Told {
         Reply::Swapped(Err(_)) => Told::Conflict,
         Reply::End => Told::End,
         Reply::Pair(Some(_)) => Told::Popped,
-        Reply::Done => Told::Cleared,
+        Reply::Done => Told::Done,
         Reply::Flag(true) => Told::Dropped,
-        Reply::Number(_) => Told::Id,
+        Reply::Number(_) => Told::Number,
+        Reply::Tree(_) => Told::Tree,
         Reply::Subscriber(subscriber) => Told::Subscriber(subscriber.0),
         Reply::Next(Some(next)) => next_told(next),
         _ => Told::Other,
@@ -108,6 +122,7 @@ pub fn outcome_told(outcome: Outcome) -> Told {
     let told = match &outcome {
         Outcome::Decided(reply) => reply_told(reply),
         Outcome::Refused(Error::CollectionNotFound(_)) => Told::NoSuchTree,
+        Outcome::Refused(Error::Unsupported(_)) => Told::Unsupported,
         Outcome::Moved => Told::Moved,
         Outcome::Yielded(key, _) => Told::Pair(number_of(key.as_ref())),
         Outcome::Abandoned => Told::Abandoned,
@@ -122,33 +137,61 @@ pub fn outcome_told(outcome: Outcome) -> Told {
 pub fn noted(made: &Made) -> Told {
     match made {
         Made::Point(_, _, reply) => reply_told(reply),
-        Made::Whole(Whole::PopMin(_), Reply::Pair(Some(_))) => Told::Popped,
-        Made::Whole(Whole::Clear(_), Reply::Done) => Told::Cleared,
+        Made::Whole(Whole::PopMin(_) | Whole::PopMax(_), Reply::Pair(Some(_))) => Told::Popped,
+        Made::Whole(Whole::Clear(_), Reply::Done) => Told::Done,
+        Made::Parts(Whole::Import(_), number) => Told::Parts(*number),
         Made::Whole(Whole::DropTree(_), Reply::Flag(true)) => Told::Dropped,
         _ => Told::Other,
     }
 }
 
-// The whole call that is asked for.
-fn whole_of<R: Abort>(rt: &R, scene: &Scene, ask: Ask<'_>) -> Whole {
-    if let Ask::Next(number) = ask {
-        return Whole::Next(Subscriber(number));
+fn bytes_of<R: Abort>(rt: &R, scene: &Scene, bytes: &[u8]) -> IVec {
+    IVec::from_slice(scene.alloc, bytes).expect(rt, "memory")
+}
+
+// A group of one insert.
+fn group_of<R: Abort>(rt: &R, scene: &Scene, tree: Tree, key: &[u8], value: &[u8]) -> Whole {
+    let mut batch = Batch::default(scene.alloc);
+    let written = batch.insert(scene.alloc, key, value);
+    written.expect(rt, "memory");
+    Whole::Group(vec![in scene.alloc; (tree, batch)].expect(rt, "memory"))
+}
+
+// An import of so many pairs of one key.
+fn import_of<R: Abort>(rt: &R, scene: &Scene, key: &[u8], count: u8) -> Whole {
+    let mut pairs = Vec::new(scene.alloc);
+    for _ in 0..count {
+        let pair = (bytes_of(rt, scene, key), bytes_of(rt, scene, key));
+        require(rt, is_done(pairs.push(pair)), "memory");
     }
-    if let Ask::DropTree = ask {
-        return Whole::DropTree(scene.tree.name.clone().expect(rt, "memory"));
-    }
+    let kind = Vec::from_slice(scene.alloc, b"tree").expect(rt, "memory");
+    let name = Vec::from_slice(scene.alloc, scene.tree.name.as_ref()).expect(rt, "memory");
+    Whole::Import(vec![in scene.alloc; (kind, name, pairs)].expect(rt, "memory"))
+}
+
+// The whole call on the tree that is asked for.
+fn whole_on<R: Abort>(rt: &R, scene: &Scene, ask: Ask<'_>) -> Whole {
     let tree = scene.tree.clone().expect(rt, "memory");
     match ask {
         Ask::PopMin => Whole::PopMin(tree),
+        Ask::PopMax => Whole::PopMax(tree),
         Ask::Clear => Whole::Clear(tree),
-        Ask::Watch => Whole::Watch(
-            tree,
-            IVec::from_slice(scene.alloc, b"").expect(rt, "memory"),
-        ),
-        _ => {
-            drop(tree);
-            Whole::GenerateId
-        }
+        Ask::Group(key, value) => group_of(rt, scene, tree, key, value),
+        _ => Whole::Watch(tree, bytes_of(rt, scene, b"")),
+    }
+}
+
+// The whole call that is asked for.
+fn whole_of<R: Abort>(rt: &R, scene: &Scene, ask: Ask<'_>) -> Whole {
+    match ask {
+        Ask::Import(key, count) => import_of(rt, scene, key, count),
+        Ask::Flush => Whole::Flush,
+        Ask::OpenTree(name) => Whole::OpenTree(bytes_of(rt, scene, name)),
+        Ask::DropTree => Whole::DropTree(scene.tree.name.clone().expect(rt, "memory")),
+        Ask::GenerateId => Whole::GenerateId,
+        Ask::Next(number) => Whole::Next(Subscriber(number)),
+        Ask::Unsubscribe(number) => Whole::Unsubscribe(Subscriber(number)),
+        _ => whole_on(rt, scene, ask),
     }
 }
 
@@ -203,7 +246,7 @@ pub fn told_of<L: Ledger, R: Wait + Abort>(
     match ask {
         Ask::AddOne(key) => answer_told(add_one(rt, alloc, handle, tree, key).map(Told::Value)),
         Ask::Raise(key) => raised_told(raise(rt, alloc, handle, tree, key, ATTEMPTS)),
-        Ask::Push(job) => answer_told(push(rt, alloc, handle, tree, job).map(|_| Told::Id)),
+        Ask::Push(job) => answer_told(push(rt, alloc, handle, tree, job).map(|_| Told::Number)),
         Ask::Take => answer_told(take(rt, handle, tree).map(job_told)),
         _ => outcome_told(outcome_of(rt, scene, handle, ask)),
     }

@@ -43,6 +43,8 @@ pub struct Scene {
     pub slot: AtomicU64,
     pub before: AtomicU64,
     pub after: AtomicU64,
+    /// So often somebody waited in vain.
+    pub vain: AtomicU64,
 }
 
 /// Ends the test where something does not hold, and says what should.
@@ -50,8 +52,8 @@ pub fn require<R: Abort>(rt: &R, holds: bool, what: &str) {
     assert!(rt; holds, "{what}");
 }
 
-// Whether this came out well. It is let go.
-fn is_done<T: Drop, E: Drop>(came: Result<T, E>) -> bool {
+/// Whether this came out well. It is let go.
+pub fn is_done<T: Drop, E: Drop>(came: Result<T, E>) -> bool {
     let done = came.is_ok();
     drop(came);
     done
@@ -96,6 +98,7 @@ fn new_scene(alloc: Global, tree: Tree, moves: u64) -> Scene {
         slot: AtomicU64::new(0),
         before: AtomicU64::new(0),
         after: AtomicU64::new(0),
+        vain: AtomicU64::new(0),
     }
 }
 

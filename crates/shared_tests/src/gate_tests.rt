@@ -34,3 +34,27 @@ const TRIAL: Trial<'static> = Trial {
 fn one_call_between_two_steps_of_another(rt: HostRuntime) {
     try_out(&rt, rt.alloc(), &TRIAL);
 }
+
+// Where the second thread gives the call up meanwhile, the first has none any more.
+const FIRST_ENDED: [Turn<'static>; 2] = [
+    Turn::Meet(b"a", &[1], Told::NoSuchSlot, 1),
+    Turn::Made(0),
+];
+
+const SECOND_ENDING: [Turn<'static>; 3] = [
+    Turn::Wait(Signal::Ready),
+    Turn::Ask(Ask::Abandon(1), Told::Abandoned),
+    Turn::Set(Signal::Answered),
+];
+
+const ENDED: Trial<'static> = Trial {
+    first: &FIRST_ENDED,
+    others: &SECOND_ENDING,
+    wanted: Wanted::Calls(0, &[]),
+    ..TRIAL
+};
+
+#[test]
+fn a_call_whose_slot_another_ends(rt: HostRuntime) {
+    try_out(&rt, rt.alloc(), &ENDED);
+}

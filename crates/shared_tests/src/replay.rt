@@ -1,6 +1,7 @@
 //! The calls of a history, made again on a plain map.
+use sled_batch::Batch;
 use sled_machine::shared::{Entry, Made};
-use sled_model::{Call, Collection, Reply, Whole};
+use sled_model::{Call, Collection, Reply, Tree, Whole};
 use sled_nodes::IVec;
 use std::alloc::Global;
 use std::collections::BTreeMap;
@@ -81,25 +82,43 @@ fn makes<R: Abort>(rt: &R, map: &mut Plain, call: &Call, reply: &Reply) -> bool 
     }
 }
 
-// Takes the first pair out of the map. Whether it is this one.
-fn pops(map: &mut Plain, pair: &Option<(IVec, IVec)>) -> bool {
-    let popped = map.pop_first();
+// Whether this pair was taken out of the map. It is let go.
+fn is_popped(popped: Option<(IVec, IVec)>, pair: &Option<(IVec, IVec)>) -> bool {
     let same = popped == *pair;
     drop(popped);
     same
 }
 
+// Makes the writes of all batches.
+fn write<R: Abort>(rt: &R, map: &mut Plain, batches: &[(Tree, Batch)]) {
+    for (_, batch) in batches {
+        for (key, value) in batch.writes().iter() {
+            set(rt, map, key, value);
+        }
+    }
+}
+
 // Makes the whole call on the map. Whether it has such a reply there.
-fn makes_whole(map: &mut Plain, whole: &Whole, reply: &Reply) -> bool {
+fn makes_whole<R: Abort>(rt: &R, map: &mut Plain, whole: &Whole, reply: &Reply) -> bool {
     match (whole, reply) {
-        (Whole::PopMin(_), Reply::Pair(pair)) => pops(map, pair),
+        (Whole::PopMin(_), Reply::Pair(pair)) => is_popped(map.pop_first(), pair),
+        (Whole::PopMax(_), Reply::Pair(pair)) => is_popped(map.pop_last(), pair),
         (Whole::Clear(_), Reply::Done) | (Whole::DropTree(_), Reply::Flag(true)) => {
             map.clear();
             true
         }
-        (Whole::GenerateId, Reply::Number(_))
+        (Whole::Group(batches), Reply::Done) => {
+            write(rt, map, batches.as_slice());
+            true
+        }
+        (Whole::Import(collections), Reply::Done) => {
+            fill(rt, map, collections.as_slice(), u64::MAX);
+            true
+        }
+        (Whole::Flush | Whole::GenerateId, Reply::Number(_))
+        | (Whole::OpenTree(_), Reply::Tree(_))
         | (Whole::Watch(_, _), Reply::Subscriber(_))
-        | (Whole::Next(_), Reply::Done) => true,
+        | (Whole::Next(_) | Whole::Unsubscribe(_), Reply::Done) => true,
         _ => false,
     }
 }
@@ -107,16 +126,26 @@ fn makes_whole(map: &mut Plain, whole: &Whole, reply: &Reply) -> bool {
 fn makes_made<R: Abort>(rt: &R, map: &mut Plain, made: &Made) -> bool {
     match made {
         Made::Point(_, call, reply) => makes(rt, map, call, reply),
-        Made::Whole(whole, reply) => makes_whole(map, whole, reply),
+        Made::Whole(whole, reply) => makes_whole(rt, map, whole, reply),
+        Made::Parts(Whole::Import(collections), parts) => {
+            fill(rt, map, collections.as_slice(), *parts);
+            true
+        }
         Made::Parts(_, _) => false,
     }
 }
 
-// Puts the pairs of all collections into the map.
-fn fill<R: Abort>(rt: &R, map: &mut Plain, opening: &[Collection]) {
-    for collection in opening {
+// Puts pairs of the collections into the map, so many parts of an import: each collection is one, and each of its pairs.
+fn fill<R: Abort>(rt: &R, map: &mut Plain, collections: &[Collection], parts: u64) {
+    let mut left = parts;
+    for collection in collections {
+        left = left.saturating_sub(1);
         for pair in &collection.2 {
+            if left == 0 {
+                return;
+            }
             put(rt, map, &pair.0, &pair.1);
+            left = left.saturating_sub(1);
         }
     }
 }
@@ -140,7 +169,7 @@ pub fn replayed<R: Abort>(
     history: &[Entry],
 ) -> Option<Plain> {
     let mut map = BTreeMap::new(alloc);
-    fill(rt, &mut map, opening);
+    fill(rt, &mut map, opening, u64::MAX);
     if replays(rt, &mut map, history) {
         return Some(map);
     }

@@ -13,11 +13,12 @@ const FIRST: [Turn<'static>; 5] = [
     Turn::Set(Signal::Ready),
 ];
 
-const SECOND: [Turn<'static>; 5] = [
+const SECOND: [Turn<'static>; 6] = [
     Turn::Wait(Signal::Ready),
     Turn::Step(Told::Pair(1)),
     Turn::Step(Told::End),
     Turn::Step(Told::NoSuchSlot),
+    Turn::Ask(Ask::Abandon(1), Told::NoSuchSlot),
     Turn::Made(0),
 ];
 

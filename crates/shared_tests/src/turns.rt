@@ -110,7 +110,9 @@ impl Gate for Meets<'_> {
     fn between(&self) {
         if self.scene.count.fetch_add(1, Ordering::SeqCst) == 0 {
             self.scene.ready.store(1, Ordering::SeqCst);
-            is_more(&self.scene.answered, 0);
+            if !is_more(&self.scene.answered, 0) {
+                self.scene.vain.fetch_add(1, Ordering::SeqCst);
+            }
         }
     }
 }
@@ -135,7 +137,7 @@ fn put_on<C: Caller>(scene: &Scene, caller: &mut C, place: Place<'_>, times: u64
     for number in 1..=times {
         let bytes = number.to_be_bytes();
         match caller.ask(putting(place, &bytes)) {
-            Told::NoValue | Told::Value(_) | Told::Id => {
+            Told::NoValue | Told::Value(_) | Told::Number => {
                 scene.count.store(number, Ordering::SeqCst);
             }
             told => {
@@ -264,8 +266,9 @@ fn take_turn<C: Caller>(scene: &Scene, caller: &mut C, turn: Turn<'_>) {
         }
         Turn::Meet(key, value, wanted, times) => {
             let (told, passed) = meet(scene, caller, key, value);
+            let came = scene.vain.load(Ordering::SeqCst) == 0;
             caller.require(
-                told == wanted && passed == times,
+                told == wanted && passed == times && came,
                 "the others' call between",
             );
         }

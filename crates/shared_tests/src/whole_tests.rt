@@ -13,24 +13,37 @@ const FIRST: [Turn<'static>; 5] = [
     Turn::Set(Signal::Ready),
 ];
 
-// Then the second one clears it, and takes an id.
-const SECOND: [Turn<'static>; 4] = [
+// Then the second one clears it, and makes each other whole call. Of the import that is refused two parts are done: the tree is opened, and
+// the first pair is in.
+const SECOND: [Turn<'static>; 13] = [
     Turn::Wait(Signal::Ready),
-    Turn::Ask(Ask::Clear, Told::Cleared),
-    Turn::Ask(Ask::GenerateId, Told::Id),
-    Turn::Made(2),
+    Turn::Ask(Ask::Clear, Told::Done),
+    Turn::Ask(Ask::GenerateId, Told::Number),
+    Turn::Ask(Ask::Group(b"c", b"3"), Told::Done),
+    Turn::Ask(Ask::PopMax, Told::Popped),
+    Turn::Ask(Ask::Import(&[4], 1), Told::Done),
+    Turn::Ask(Ask::Import(&[5], 2), Told::Unsupported),
+    Turn::Ask(Ask::Get(&[5]), Told::Value(5)),
+    Turn::Ask(Ask::OpenTree(b"other"), Told::Tree),
+    Turn::Ask(Ask::Flush, Told::Number),
+    Turn::Ask(Ask::Watch, Told::Subscriber(1)),
+    Turn::Ask(Ask::Unsubscribe(1), Told::Done),
+    Turn::Made(11),
 ];
 
-// The pop and the clear are told by their entries.
 const TRIAL: Trial<'static> = Trial {
     start: EMPTY,
     callers: 2,
     first: &FIRST,
     others: &SECOND,
     moves: 0,
-    wanted: Wanted::Calls(5, &[(1, Told::Popped), (2, Told::Cleared)]),
+    wanted: Wanted::Calls(
+        14,
+        &[(1, Told::Popped), (2, Told::Done), (2, Told::Parts(2))],
+    ),
 };
 
+// The pop, the clear and the import that was refused are told by their entries.
 #[test]
 fn whole_calls_are_noted(rt: HostRuntime) {
     try_out(&rt, rt.alloc(), &TRIAL);
