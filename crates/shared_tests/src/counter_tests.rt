@@ -1,7 +1,7 @@
 //! Threads that count up one number together: by merges, and by reads and swaps. None is lost, and none is told twice.
 use crate::asking::{Ask, Told};
 use crate::beside::try_out;
-use crate::trial::{EMPTY, Trial, Wanted};
+use crate::trial::{Trial, Wanted};
 use crate::turns::{Signal, Turn};
 
 // So often each thread adds one.
@@ -12,25 +12,15 @@ const TURNS: [Turn<'static>; 2] = [
     Turn::Made(TIMES),
 ];
 
-const TWO: Trial<'static> = Trial {
-    start: EMPTY,
-    callers: 2,
-    first: &TURNS,
-    others: &TURNS,
-    moves: 0,
-    wanted: Wanted::Counted(2 * TIMES),
-};
-
-const FOUR: Trial<'static> = Trial {
-    callers: 4,
-    wanted: Wanted::Counted(4 * TIMES),
-    ..TWO
-};
-
 #[test]
 fn two_and_four_threads_add(rt: HostRuntime) {
-    try_out(&rt, rt.alloc(), &TWO);
-    try_out(&rt, rt.alloc(), &FOUR);
+    let two = Trial::of_two(&TURNS, &TURNS, Wanted::Counted(2 * TIMES));
+    try_out(&rt, rt.alloc(), &two);
+    let four = Trial {
+        callers: 4,
+        ..Trial::of_two(&TURNS, &TURNS, Wanted::Counted(4 * TIMES))
+    };
+    try_out(&rt, rt.alloc(), &four);
 }
 
 const RAISES: Turn<'static> = Turn::Count(Ask::Raise(b"number"), TIMES);
@@ -44,16 +34,8 @@ const FIRST: [Turn<'static>; 3] = [
 
 const SECOND: [Turn<'static>; 2] = [RAISES, Turn::Set(Signal::Ended)];
 
-const TRIAL: Trial<'static> = Trial {
-    start: EMPTY,
-    callers: 2,
-    first: &FIRST,
-    others: &SECOND,
-    moves: 0,
-    wanted: Wanted::Any,
-};
-
 #[test]
 fn two_threads_raise(rt: HostRuntime) {
-    try_out(&rt, rt.alloc(), &TRIAL);
+    let trial = Trial::of_two(&FIRST, &SECOND, Wanted::Any);
+    try_out(&rt, rt.alloc(), &trial);
 }

@@ -15,20 +15,17 @@ const SECOND: [Turn<'static>; 2] = [
     Turn::Ask(Ask::DropTree, Told::Dropped),
 ];
 
-const TRIAL: Trial<'static> = Trial {
-    start: Start {
-        name: b"t",
-        trees: 2,
-        ..EMPTY
-    },
-    callers: 2,
-    first: &FIRST,
-    others: &SECOND,
-    moves: 0,
-    wanted: Wanted::Dropped(KEYS),
+const START: Start = Start {
+    name: b"t",
+    trees: 2,
+    ..EMPTY
 };
 
 #[test]
 fn an_insert_finds_its_tree_dropped(rt: HostRuntime) {
-    try_out(&rt, rt.alloc(), &TRIAL);
+    let trial = Trial {
+        start: START,
+        ..Trial::of_two(&FIRST, &SECOND, Wanted::Dropped(KEYS))
+    };
+    try_out(&rt, rt.alloc(), &trial);
 }

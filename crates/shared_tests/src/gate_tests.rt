@@ -1,7 +1,7 @@
 //! Two threads at one key: the second makes its call while the first stands between two steps, with the lock free.
 use crate::asking::{Ask, Told};
 use crate::beside::try_out;
-use crate::trial::{EMPTY, Trial, Wanted};
+use crate::trial::{Trial, Wanted};
 use crate::turns::{Signal, Turn};
 
 // The first thread makes one call.
@@ -21,18 +21,10 @@ const SECOND: [Turn<'static>; 6] = [
     Turn::Made(2),
 ];
 
-const TRIAL: Trial<'static> = Trial {
-    start: EMPTY,
-    callers: 2,
-    first: &FIRST,
-    others: &SECOND,
-    moves: 0,
-    wanted: Wanted::Calls(3, &[]),
-};
-
 #[test]
 fn one_call_between_two_steps_of_another(rt: HostRuntime) {
-    try_out(&rt, rt.alloc(), &TRIAL);
+    let trial = Trial::of_two(&FIRST, &SECOND, Wanted::Calls(3, &[]));
+    try_out(&rt, rt.alloc(), &trial);
 }
 
 // Where the second thread gives the call up meanwhile, the first has none any more.
@@ -47,14 +39,8 @@ const SECOND_ENDING: [Turn<'static>; 3] = [
     Turn::Set(Signal::Answered),
 ];
 
-const ENDED: Trial<'static> = Trial {
-    first: &FIRST_ENDED,
-    others: &SECOND_ENDING,
-    wanted: Wanted::Calls(0, &[]),
-    ..TRIAL
-};
-
 #[test]
 fn a_call_whose_slot_another_ends(rt: HostRuntime) {
-    try_out(&rt, rt.alloc(), &ENDED);
+    let trial = Trial::of_two(&FIRST_ENDED, &SECOND_ENDING, Wanted::Calls(0, &[]));
+    try_out(&rt, rt.alloc(), &trial);
 }

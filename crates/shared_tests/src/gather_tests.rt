@@ -2,7 +2,7 @@
 //! at in each trial.
 use crate::asking::{Ask, Told};
 use crate::beside::try_out;
-use crate::trial::{EMPTY, Trial, Wanted};
+use crate::trial::{Trial, Wanted};
 use crate::turns::Turn;
 
 const FIRST: [Turn<'static>; 2] = [
@@ -15,16 +15,8 @@ const SECOND: [Turn<'static>; 2] = [
     Turn::MadeInsert(b"other"),
 ];
 
-const TRIAL: Trial<'static> = Trial {
-    start: EMPTY,
-    callers: 2,
-    first: &FIRST,
-    others: &SECOND,
-    moves: 0,
-    wanted: Wanted::Calls(2, &[]),
-};
-
 #[test]
 fn a_state_waits_for_all_handles(rt: HostRuntime) {
-    try_out(&rt, rt.alloc(), &TRIAL);
+    let trial = Trial::of_two(&FIRST, &SECOND, Wanted::Calls(2, &[]));
+    try_out(&rt, rt.alloc(), &trial);
 }

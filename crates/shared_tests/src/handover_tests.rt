@@ -50,34 +50,30 @@ const SECOND_AGAIN: [Turn<'static>; 2] = [
     Turn::Ask(Ask::Remove(&[10]), Told::Value(10)),
 ];
 
-// A removal that is handed over after each number of steps. It is the second caller's alone.
-fn hand_over<R: Threads + Wait + Abort + Sync>(rt: &R, alloc: Global, trial: Trial<'_>) {
+const WANTED: Wanted<'static> = Wanted::Calls(1, &[(2, Told::Value(10))]);
+
+// A removal that is handed over after each number of steps, by what each thread does. It is the second caller's alone.
+fn hand_over<R: Threads + Wait + Abort + Sync>(
+    rt: &R,
+    alloc: Global,
+    first: &[Turn<'_>],
+    second: &[Turn<'_>],
+) {
+    let trial = Trial {
+        start: TWO_LEAVES,
+        ..Trial::of_two(first, second, WANTED)
+    };
     for moves in 0..=MOVES {
         try_out(rt, alloc, &Trial { moves, ..trial });
     }
 }
 
-const FINISHED: Trial<'static> = Trial {
-    start: TWO_LEAVES,
-    callers: 2,
-    first: &FIRST,
-    others: &SECOND,
-    moves: 0,
-    wanted: Wanted::Calls(1, &[(2, Told::Value(10))]),
-};
-
-const MADE_AGAIN: Trial<'static> = Trial {
-    first: &FIRST_GIVING_UP,
-    others: &SECOND_AGAIN,
-    ..FINISHED
-};
-
 #[test]
 fn a_call_is_finished_by_another_thread(rt: HostRuntime) {
-    hand_over(&rt, rt.alloc(), FINISHED);
+    hand_over(&rt, rt.alloc(), &FIRST, &SECOND);
 }
 
 #[test]
 fn a_call_that_is_given_up_is_made_by_another_thread(rt: HostRuntime) {
-    hand_over(&rt, rt.alloc(), MADE_AGAIN);
+    hand_over(&rt, rt.alloc(), &FIRST_GIVING_UP, &SECOND_AGAIN);
 }

@@ -1,6 +1,6 @@
 //! Two threads that insert under a subscriber, which nobody asks meanwhile: it is told the latest events, and how many it missed.
 use crate::beside::try_out;
-use crate::trial::{EMPTY, Trial, Wanted};
+use crate::trial::{Trial, Wanted};
 use crate::turns::{Place, Signal, Turn};
 
 // So often each thread inserts.
@@ -24,16 +24,8 @@ const SECOND: [Turn<'static>; 3] = [
     LAG,
 ];
 
-const TRIAL: Trial<'static> = Trial {
-    start: EMPTY,
-    callers: 2,
-    first: &FIRST,
-    others: &SECOND,
-    moves: 0,
-    wanted: Wanted::Calls(CALLS as usize, &[]),
-};
-
 #[test]
 fn a_subscriber_lags_behind_two_threads(rt: HostRuntime) {
-    try_out(&rt, rt.alloc(), &TRIAL);
+    let trial = Trial::of_two(&FIRST, &SECOND, Wanted::Calls(CALLS as usize, &[]));
+    try_out(&rt, rt.alloc(), &trial);
 }

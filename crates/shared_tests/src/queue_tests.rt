@@ -1,7 +1,7 @@
 //! A thread that puts jobs into a queue, and another that takes them: each once, and in order.
 use crate::asking::{Ask, Told};
 use crate::beside::try_out;
-use crate::trial::{EMPTY, Trial, Wanted};
+use crate::trial::{Trial, Wanted};
 use crate::turns::{Place, Taken, Turn};
 
 // So many jobs are put in: the numbers from 1 on.
@@ -17,16 +17,8 @@ const SECOND: [Turn<'static>; 2] = [
     Turn::Ask(Ask::Take, Told::NoValue),
 ];
 
-const TRIAL: Trial<'static> = Trial {
-    start: EMPTY,
-    callers: 2,
-    first: &FIRST,
-    others: &SECOND,
-    moves: 0,
-    wanted: Wanted::Calls(CALLS, &[]),
-};
-
 #[test]
 fn jobs_are_taken_beside_others_that_come(rt: HostRuntime) {
-    try_out(&rt, rt.alloc(), &TRIAL);
+    let trial = Trial::of_two(&FIRST, &SECOND, Wanted::Calls(CALLS, &[]));
+    try_out(&rt, rt.alloc(), &trial);
 }

@@ -22,16 +22,13 @@ const SECOND: [Turn<'static>; 6] = [
     Turn::Made(0),
 ];
 
-const TRIAL: Trial<'static> = Trial {
-    start: Start { keys: 2, ..EMPTY },
-    callers: 2,
-    first: &FIRST,
-    others: &SECOND,
-    moves: 0,
-    wanted: Wanted::Calls(0, &[]),
-};
+const START: Start = Start { keys: 2, ..EMPTY };
 
 #[test]
 fn a_scan_is_stepped_by_two_threads(rt: HostRuntime) {
-    try_out(&rt, rt.alloc(), &TRIAL);
+    let trial = Trial {
+        start: START,
+        ..Trial::of_two(&FIRST, &SECOND, Wanted::Calls(0, &[]))
+    };
+    try_out(&rt, rt.alloc(), &trial);
 }

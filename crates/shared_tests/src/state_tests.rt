@@ -29,16 +29,15 @@ const SECOND: [Turn<'static>; 2] = [
     Turn::Ask(SWAP, Told::Conflict),
 ];
 
-const TRIAL: Trial<'static> = Trial {
-    start: Start { keys: 1, ..EMPTY },
-    callers: 2,
-    first: &FIRST,
-    others: &SECOND,
-    moves: 0,
-    wanted: Wanted::Calls(2, &[(2, Told::Swapped), (2, Told::Conflict)]),
-};
+const WANTED: Wanted<'static> = Wanted::Calls(2, &[(2, Told::Swapped), (2, Told::Conflict)]);
+
+const START: Start = Start { keys: 1, ..EMPTY };
 
 #[test]
 fn what_a_state_tells(rt: HostRuntime) {
-    try_out(&rt, rt.alloc(), &TRIAL);
+    let trial = Trial {
+        start: START,
+        ..Trial::of_two(&FIRST, &SECOND, WANTED)
+    };
+    try_out(&rt, rt.alloc(), &trial);
 }
