@@ -13,7 +13,7 @@ use Rattle.sled_nodes.specs.declared.node.Node.{Node}
 use Rattle.tree_laws.specs.Forest.{later, Holds, Forest, Place, place, Run, IsPointer, WellFormed, head, Tree}
 use Rattle.tree_laws.proofs.Order.{below-trans, below_irrefl, below_upto-trans}
 use Rattle.tree_laws.proofs.Pairs.{under}
-use Rattle.tree_laws.proofs.Runs.{rises_on, run_from, run_to, run_parts, In_cases}
+use Rattle.tree_laws.proofs.Runs.{In-right, rises_on, run_from, run_to, run_parts, In_cases}
 use Rattle.tree_laws.proofs.Replace.{place_is, not_both}
 
 -- of two pages of a run, one ends at or below where the other begins
@@ -94,6 +94,14 @@ module _ {nodes : Nodes} {roots : Tree → Option ℕ} {w : Forest} (f : WellFor
   pub holds_at : (x : Place) (p : ℕ) (n : Node) → In p (w.chain x) → nodes p ≡ Some n → Holds x.height n.lo n.hi n.content
   holds_at x p n i live = let h = f.page x p (f.homed x p i) in subst (λ (z : Node). Holds x.height z.lo z.hi z.content) (some_is (sym h.1.live ∙ live)) h.1.sound.holds
 
+  -- the runs before and behind a page of a chain
+  pub parted : (x : Place) (p : ℕ) (n : Node) (xs ys : List ℕ) → w.chain x ≡ xs ++ (p ∷ ys) → nodes p ≡ Some n → Run nodes xs (head (w.chain x)) [] (Some p) n.lo × ((n.next ≡ None) ⊎ Below n.lo n.hi) × Run nodes ys n.next n.hi None []
+  parted x p n xs ys e live =
+      let from : Option ℕ = head (w.chain x) in
+      let r = run_parts nodes xs (p ∷ ys) _ _ _ _ (subst (λ z. Run nodes z from [] None []) e (chain_run x p (subst (λ z. In p z) (sym e) (In-right xs (p ∷ ys) p (inl refl))))) in
+      subst (λ (z : Node). Run nodes xs from [] (Some p) z.lo × ((z.next ≡ None) ⊎ Below z.lo z.hi) × Run nodes ys z.next z.hi None []) (some_is (sym r.3.1.live ∙ live))
+      (subst (λ g. Run nodes xs from [] g r.3.0.lo) r.3.1.here (subst (λ k. Run nodes xs from [] r.0 k) r.3.1.lo_is r.2), r.3.1.rises, r.3.2)
+
   -- of the pages of a chain one covers a key
   pub one_cover : (x : Place) (p q : ℕ) (n m : Node) (k : Key) → In p (w.chain x) → In q (w.chain x) → nodes p ≡ Some n → nodes q ≡ Some m → Within n.lo n.hi k → Within m.lo m.hi k → p ≡ q
   one_cover x p q n m k i j a b c d = elim (same_or_not p q) [
@@ -162,12 +170,9 @@ module _ {nodes : Nodes} {roots : Tree → Option ℕ} {w : Forest} (f : WellFor
   pub one_later : (t : Tree) (h : ℕ) (xs ys : List ℕ) (p c : ℕ) (n d : Node) → w.chain (place t h) ≡ xs ++ (p ∷ (c ∷ ys)) → nodes p ≡ Some n → nodes c ≡ Some d
       → (q r : ℕ) (a b : Node) (l : Key) → In q (w.chain (place t (suc h))) → In r (w.chain (place t (suc h))) → nodes q ≡ Some a → nodes r ≡ Some b → In (l, p) (later (pointers a.content)) → b.merging_child ≡ Some c → q ≡ r
   one_later t h xs ys p c n d is pn cd q r a b l i j qa rb ap' bc =
-      let whole : Run nodes (xs ++ (p ∷ (c ∷ ys))) (head (w.chain (place t h))) [] None [] = subst (λ z. Run nodes z (head (w.chain (place t h))) [] None []) is (chain_run (place t h) p (subst (λ z. In p z) (sym is) (at xs))) in
-      let s = run_parts nodes xs _ _ _ _ _ whole in
-      let m = s.3 in
-      let np : m.0 ≡ n = some_is (sym m.1.live ∙ pn) in
-      let dc : m.2.0 ≡ d = some_is (sym m.2.1.live ∙ cd) in
-      let low : Below n.lo d.lo = subst (λ (z : Node). Below n.lo z.lo) dc (subst (λ k. Below n.lo k) m.2.1.lo_is (subst (λ (z : Node). Below z.lo m.0.hi) np (rises_on nodes (c ∷ ys) m.0 None [] c (inl refl) m.1.rises m.2))) in
+      let whole : Run nodes (xs ++ (p ∷ (c ∷ ys))) (head (w.chain (place t h))) [] None [] = subst (λ z. Run nodes z (head (w.chain (place t h))) [] None []) is (chain_run (place t h) p (subst (λ z. In p z) (sym is) (In-right xs _ p (inl refl)))) in
+      let s = parted (place t h) p n xs (c ∷ ys) is pn in
+      let low : Below n.lo d.lo = subst (λ (z : Node). Below n.lo z.lo) (some_is (sym s.2.1.live ∙ cd)) (subst (λ k. Below n.lo k) s.2.1.lo_is (rises_on nodes (c ∷ ys) n None [] c (inl refl) s.1 s.2)) in
       let ka : (k : Key) × In (k, p) (later (pointers a.content)) = (l, ap') in
       let kb = f.child _ r b j rb c bc in
       let ia = f.pointer t h q a i qa ka.0 p (later_in a.content ka.0 p ka.1) in
@@ -190,10 +195,6 @@ module _ {nodes : Nodes} {roots : Tree → Option ℕ} {w : Forest} (f : WellFor
           | inr o ↦ absurd (below_irrefl d.lo (below-trans d.lo a.lo d.lo (below_upto-trans d.lo b.hi a.lo (under _ _ _ o.0 wb) o.1) (below-trans a.lo n.lo d.lo la low)))
         ]
       ]
-    where
-      at : (zs : List ℕ) → In p (zs ++ (p ∷ (c ∷ ys)))
-      at [] = inl refl
-      at (z ∷ zs) = inr (at zs)
 
   -- they are not both merging children
   pub not_both_children : (t : Tree) (h : ℕ) (xs ys : List ℕ) (p c : ℕ) (n d : Node) → w.chain (place t h) ≡ xs ++ (p ∷ (c ∷ ys)) → nodes p ≡ Some n → nodes c ≡ Some d → n.merging ≡ false → d.merging ≡ true

@@ -20,7 +20,7 @@ use Rattle.tree_laws.specs.Forest.{first_key, first_child, later, Holds, IsNodeA
 use Rattle.tree_laws.specs.Snapshot.{IsOrphan}
 use Rattle.tree_laws.specs.theory.PageLaws.{Unseen, CapLaw, IntentionLaw, ConfirmLaw}
 use Rattle.tree_laws.proofs.Order.{below_irrefl}
-use Rattle.tree_laws.proofs.Replace.{not_both}
+use Rattle.tree_laws.proofs.Replace.{not_both, place_below}
 use Rattle.tree_laws.proofs.Split.{pointer_like}
 use Rattle.tree_laws.proofs.Cover.{holds_at, later_in, later_above}
 use Rattle.tree_laws.proofs.Reflag.{Reflags, after, reflagged_kept, reflagged_keeps, reflagged_contents, reflagged_sized, reflagged_grows}
@@ -229,7 +229,7 @@ module _ (nodes : Nodes) (roots : Tree → Option ℕ) (w : Forest) (f : WellFor
     child = λ d e. none_some e;
     pointer = λ u g at k d j.
         let o = sub_in c es k d j in
-        let same : place t h ≡ place u g = lower t h u g at in
+        let same : place t h ≡ place u g = place_below t u h g at in
         let a : IsPointer nodes w n u g k d = subst (λ (z : Place). IsPointer nodes w n z.tree z.height k d) same (own k d o.0) in (
           record {
             node = a.node;
@@ -241,9 +241,6 @@ module _ (nodes : Nodes) (roots : Tree → Option ℕ) (w : Forest) (f : WellFor
           home_other d o.1 ∙ a.homed,
         );
   }
-    where
-      lower : (t : Tree) (h : ℕ) (u : Tree) (g : ℕ) → place t (suc h) ≡ place u (suc g) → place t h ≡ place u g
-      lower t h u g e = let a : t ≡ u = ap (λ (z : Place). z.tree) e in let b : suc h ≡ suc g = ap (λ (z : Place). z.height) e in let d : h ≡ g = omega arith in λ i. place (a i) (d i)
 
   pub unlinked : (u : Unseen [] nodes (put_node nodes p dropped) roots w (Unit {0})) × IsOrphan u.after c
   unlinked = (record { after = after parts f; kept = reflagged_kept parts f; same = reflagged_contents parts f (sym (ap pairs index)); keeps = reflagged_keeps parts f []; sized = λ e. reflagged_sized parts f (λ d b e. none_some e); grows = λ e. reflagged_grows parts f }, λ y e. none_some (sym home_c ∙ e))

@@ -1,5 +1,5 @@
 -- A pointer goes into an index.
-use Rattle.std.proofs.Common.{◌≡◌, ℕ, suc, ◌≤◌, false, List, [], ◌∷◌, ◌++◌, length, Option, Some, None, Less, Equal, Greater, sym, refl, ap, ◌∙◌, subst, inl, inr, ◌⊎◌, arith}
+use Rattle.std.proofs.Common.{◌≡◌, ℕ, suc, ◌≤◌, false, List, [], ◌∷◌, ◌++◌, length, Option, Some, None, Less, Equal, Greater, sym, refl, ap, ◌∙◌, subst, inl, inr, ◌⊎◌}
 use Rattle.std.specs.FinMap.Entries.{put, by_order, is_sorted-put}
 use Rattle.sled_nodes.proofs.Basics.{none_some, some_is, key_total, key_same}
 use Rattle.sled_store.specs.In.{In}
@@ -10,10 +10,10 @@ use Rattle.sled_store.specs.theory.Facts.{put_here}
 use Rattle.sled_nodes.specs.declared.node.Data.TheVariants.{Index}
 use Rattle.sled_nodes.specs.declared.node.Node.{Node}
 use Rattle.tree_laws.specs.theory.Action.{put_node}
-use Rattle.tree_laws.specs.Forest.{IsNodeAt, later, first_key, first_child, Holds, Forest, Place, place, IsPointer, WellFormed, node_pairs, Tree}
+use Rattle.tree_laws.specs.Forest.{IsNodeAt, later, first_key, first_child, Holds, Forest, place, IsPointer, WellFormed, node_pairs, Tree}
 use Rattle.tree_laws.specs.theory.PageLaws.{IsOpenAt, Unseen, PostLaw}
 use Rattle.tree_laws.proofs.Pairs.{above}
-use Rattle.tree_laws.proofs.Replace.{not_both, replaced_kept, replaced_keeps, pairs_kept}
+use Rattle.tree_laws.proofs.Replace.{not_both, place_below, replaced_kept, replaced_keeps, pairs_kept}
 use Rattle.tree_laws.proofs.Cover.{holds_at}
 use Rattle.tree_laws.proofs.Leaf.{with_content, in_place, in_place_sized, in_place_grows, each_put}
 use Rattle.tree_laws.proofs.Split.{pointer_like}
@@ -61,14 +61,11 @@ module _ (nodes : Nodes) (roots : Tree → Option ℕ) (w : Forest) (f : WellFor
     | inr a ↦ record {
       node = d;
       live = ap nodes a.0 ∙ there;
-      homed = ap w.home a.0 ∙ home ∙ ap Some (lower t h u g at);
+      homed = ap w.home a.0 ∙ home ∙ ap Some (place_below t u h g at);
       key = sym a.1;
       merged = λ v. not_both d.merging up v;
     }
   ]
-    where
-      lower : (t : Tree) (h : ℕ) (u : Tree) (g : ℕ) → place t (suc h) ≡ place u (suc g) → place t h ≡ place u g
-      lower t h u g e = let a : t ≡ u = ap (λ (z : Place). z.tree) e in let b : suc h ≡ suc g = ap (λ (z : Place). z.height) e in let d : h ≡ g = omega arith in λ i. place (a i) (d i)
 
   sound : IsNodeAt (suc h) (with_content n (Index (put key_cmp d.lo q es)))
   sound = record { holds = (is_sorted-put key_cmp key_total d.lo q es holds.0, each_put (Within n.lo n.hi) d.lo q es within holds.1, first.0) }

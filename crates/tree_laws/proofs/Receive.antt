@@ -1,6 +1,6 @@
 -- The merge of a capped page into its left sibling.
 use Rattle.std.proofs.Common.{◌+◌, arith, ◌≡◌, ℕ, suc, ◌≤◌, true, false, List, [], ◌∷◌, ◌++◌, Option, Some, None, sym, refl, ap, ◌∙◌, subst, inl, inr, ◌⊎◌, append_assoc}
-use Rattle.sled_nodes.proofs.Basics.{some_is}
+use Rattle.sled_nodes.proofs.Basics.{none_some, some_is}
 use Rattle.sled_store.specs.In.{In}
 use Rattle.sled_nodes.specs.Node.{pairs, pointers, count}
 use Rattle.sled_nodes.specs.Order.{Key, Below}
@@ -16,23 +16,18 @@ use Rattle.tree_laws.proofs.Update.{put_chain, chain_here, chain_there}
 use Rattle.tree_laws.proofs.Sizes.{replaced_sized, replaced_grows}
 use Rattle.tree_laws.proofs.Replace.{same_place, Replaces, replaced_kept, replaced_keeps, pairs_of, pairs_kept, behind_first}
 use Rattle.tree_laws.proofs.Split.{halves_count, halves_pairs, halves_pointers, halves_first, pointer_like}
-use Rattle.tree_laws.proofs.Cover.{chain_run, not_both_children, holds_at}
+use Rattle.tree_laws.proofs.Cover.{chain_run, parted, not_both_children, holds_at}
 
 module _ {nodes : Nodes} {roots : Tree → Option ℕ} {w : Forest} (f : WellFormed nodes roots w) where
   -- the pages around a page of a chain and its successor
   pub followed : (x : Place) (p c : ℕ) (n : Node) → In p (w.chain x) → nodes p ≡ Some n → n.next ≡ Some c → (xs : List ℕ) × (ys : List ℕ) × (w.chain x ≡ xs ++ (p ∷ (c ∷ ys)))
   followed x p c n i live is =
       let s = In_split (w.chain x) p i in
-      let whole : Run nodes (s.0 ++ (p ∷ s.1)) (head (w.chain x)) [] None [] = subst (λ z. Run nodes z (head (w.chain x)) [] None []) s.2 (chain_run f x p i) in
-      let r = run_parts nodes s.0 (p ∷ s.1) _ _ _ _ whole in
-      go s.0 s.1 s.2 r.3.0 r.3.2 (ap (λ (z : Node). z.next) (some_is (sym r.3.1.live ∙ live)) ∙ is)
+      go s.0 s.1 s.2 (parted f x p n s.0 s.1 s.2 live).2
     where
-      go : (xs zs : List ℕ) → w.chain x ≡ xs ++ (p ∷ zs) → (m : Node) → Run nodes zs m.next m.hi None [] → m.next ≡ Some c → (xs : List ℕ) × (ys : List ℕ) × (w.chain x ≡ xs ++ (p ∷ (c ∷ ys)))
-      go xs [] e m r g = absurd (no (sym r.0 ∙ g))
-        where
-          no : None ≡ Some c → ⊥
-          no h = cc
-      go xs (z ∷ zs) e m r g = (xs, zs, e ∙ ap (λ k. xs ++ (p ∷ (k ∷ zs))) (some_is (sym r.1.here ∙ g)))
+      go : (xs zs : List ℕ) → w.chain x ≡ xs ++ (p ∷ zs) → Run nodes zs n.next n.hi None [] → (xs : List ℕ) × (ys : List ℕ) × (w.chain x ≡ xs ++ (p ∷ (c ∷ ys)))
+      go xs [] e r = none_some (sym r.0 ∙ is)
+      go xs (z ∷ zs) e r = (xs, zs, e ∙ ap (λ k. xs ++ (p ∷ (k ∷ zs))) (some_is (sym r.1.here ∙ is)))
 
 module _ (nodes : Nodes) (roots : Tree → Option ℕ) (w : Forest) (f : WellFormed nodes roots w) (x : Place) (p c : ℕ) (n d both : Node) (o : IsOpenAt nodes w x p n) (next : n.next ≡ Some c) (there : nodes c ≡ Some d) (capped : d.merging ≡ true) (s : IsReceived x.height n d both) where
   i : In p (w.chain x)
@@ -104,12 +99,9 @@ module _ (nodes : Nodes) (roots : Tree → Option ℕ) (w : Forest) (f : WellFor
     merging_child = s.merging_child;
     sound = s.sound;
     first = sym (halves_first x.height n.lo n.hi _ _ _ s.halves (holds_at f x p n i live));
-    child = λ e h. absurd (none_some (sym (s.merging_child ∙ free) ∙ h));
+    child = λ e h. none_some (sym (s.merging_child ∙ free) ∙ h);
     pointer = pointer;
   }
-    where
-      none_some : {e : ℕ} → None ≡ Some e → ⊥
-      none_some h = cc
 
   same_pairs : pairs_of (put_node nodes p both) (p ∷ []) ≡ pairs_of nodes (p ∷ (c ∷ []))
   same_pairs =
