@@ -18,6 +18,8 @@ use Rattle.tree_laws.specs.Forest.{Tree, Place, place, head, first_child, Run}
 use Rattle.sled_store.specs.Store.{IsRoots}
 use Rattle.sled_store.proofs.Lists.{map_in}
 use Rattle.tree_laws.specs.Crashes.{IsValid}
+use Rattle.tree_laws.specs.theory.Laws.{no_forest}
+use Rattle.tree_laws.proofs.Empty.{no_trees, no_sizes}
 use Rattle.tree_laws.proofs.Matching.{itself}
 use Rattle.tree_check.specs.declared.levels.Level.{Level}
 use Rattle.tree_check.specs.theory.Tree.{IsPointerTo, IsAtHeight, IsTreeFrom}
@@ -184,17 +186,9 @@ walk_ends s root tree above old new w = record { chain = w.chain; is = w.is; top
 -- no tree at all
 pub verify_first : (s : State) (levels : Levels) → ((p : ℕ) → level_of levels p ≡ None) → Verifies s [] 0 levels
 verify_first s levels empty = record {
-  forest = record { chain = λ x. []; home = λ p. None };
-  formed = record {
-    homed = λ x p i. absurd i;
-    page = λ x p e. none_some e;
-    run = λ x. inl refl;
-    pointer = λ t h p n i. absurd i;
-    child = λ x p n i. absurd i;
-    down = λ t h p n e. none_some e;
-    top = λ t h. refl;
-  };
-  sized = record { fits = λ x p n e. none_some e; child = λ x p c n d i. absurd i };
+  forest = no_forest;
+  formed = no_trees _ _ (λ t. refl);
+  sized = no_sizes _;
   seen = λ p x e. none_some e;
   below = λ p z e. none_some (sym (empty p) ∙ e);
 }
