@@ -2,7 +2,7 @@
 use Rattle.std.proofs.Common.{◌≡◌, ◌≢◌, ℕ, zero, suc, Bool, true, false, T, ◌&&◌, List, [], ◌∷◌, ◌++◌, Option, Some, None, Ordering, Less, Equal, Greater, is_lt, sym, refl, ap, ◌∙◌, subst, inl, inr, ◌⊎◌}
 use Rattle.std.specs.FinMap.Entries.{below_all}
 use Rattle.std.specs.List.{AllByRecursion}
-use Rattle.sled_nodes.proofs.Basics.{some_is, same_or_not}
+use Rattle.sled_nodes.proofs.Basics.{some_is, same_or_not, none_some}
 use Rattle.sled_store.specs.In.{In}
 use Rattle.sled_nodes.specs.Node.{Within, pointers}
 use Rattle.sled_nodes.specs.Order.{Key, key_cmp, Below, UpTo}
@@ -74,10 +74,7 @@ later_above h lo hi (Index (e ∷ es)) s k d i = subst (λ z. Below z k) (some_i
 -- an index's first pointer has its lo
 pub first_pointer : (h : ℕ) (lo hi : Key) (c : Data) → Holds (suc h) lo hi c → (d : ℕ) × In (lo, d) (pointers c)
 first_pointer h lo hi (Leaf es) s = absurd s
-first_pointer h lo hi (Index []) s = absurd (no s.2)
-  where
-    no : None ≡ Some lo → ⊥
-    no e = cc
+first_pointer h lo hi (Index []) s = none_some s.2
 first_pointer h lo hi (Index (e ∷ es)) s = (e.1, inl (same (some_is s.2)))
   where
     same : e.0 ≡ lo → (lo, e.1) ≡ e

@@ -3,7 +3,7 @@ use Rattle.std.proofs.Common.{◌≡◌, ◌≢◌, ℕ, zero, suc, ◌<◌, ◌
 use Rattle.std.specs.List.{AllByRecursion, IsDistinct, list_any}
 use Rattle.std.proofs.lemmas.Map.Steps.{length-le_from_distinct_below}
 use Rattle.std.proofs.lemmas.Bool.Decides.{nat_tests}
-use Rattle.sled_nodes.proofs.Basics.{none_some, some_is}
+use Rattle.sled_nodes.proofs.Basics.{none_some, some_is, false_true}
 use Rattle.sled_store.specs.In.{In}
 use Rattle.sled_nodes.specs.Node.{pointers}
 use Rattle.sled_nodes.specs.Order.{Key, Below}
@@ -38,10 +38,7 @@ distinct (p ∷ ps) d = (each ps d.0, distinct ps d.1)
         test off = grind (arith, nat_tests)
 
 any_in : (q : ℕ) (ps : List ℕ) → list_any (eqb q) ps ≡ true → In q ps
-any_in q [] e = absurd (apart e)
-  where
-    apart : false ≡ true → ⊥
-    apart f = cc
+any_in q [] e = false_true e
 any_in q (p ∷ ps) e = go (eqb q p) refl e (any_in q ps)
   where
     same : eqb q p ≡ true → q ≡ p

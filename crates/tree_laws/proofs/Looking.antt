@@ -2,7 +2,7 @@
 use Rattle.std.proofs.Common.{◌≡◌, ◌≢◌, ℕ, zero, suc, ◌+◌, ◌<◌, ◌≤◌, Bool, true, false, List, [], ◌∷◌, ◌++◌, length, length-append, Option, Some, None, MatchOption, sym, refl, ap, ◌∙◌, subst, inl, inr, append_assoc, nat_eq, arith}
 use Rattle.std.specs.List.{list_any}
 use Rattle.std.specs.declared.ops.Bound.{Bound}
-use Rattle.sled_nodes.proofs.Basics.{none_some, some_is}
+use Rattle.sled_nodes.proofs.Basics.{none_some, some_is, true_false}
 use Rattle.sled_nodes.specs.Among.{IsPointer, is_up_to}
 use Rattle.sled_store.specs.In.{In}
 use Rattle.sled_nodes.specs.Node.{pointers}
@@ -218,10 +218,7 @@ last_in {bound} {es} {c} {b} k = (
 )
   where
     go : (xs : List (Key × ℕ)) → nat_eq (length xs) 0 ≡ false → In (k.key, c) (later (xs ++ (k.key, c) ∷ k.last.after))
-    go [] off = absurd (apart off)
-      where
-        apart : true ≡ false → ⊥
-        apart e = cc
+    go [] off = true_false off
     go (x ∷ xs) off = In-right xs ((k.key, c) ∷ k.last.after) (k.key, c) (inl refl)
 
 -- a clean path from a page of a level has a page of each level from there on

@@ -3,7 +3,7 @@ use Rattle.std.proofs.Common.{◌≢◌, ◌≡◌, ℕ, zero, suc, ◌≤◌, c
 use Rattle.std.specs.List.{AllByRecursion}
 use Rattle.std.specs.Ordering.{eq_by_cmp}
 use Rattle.std.specs.FinMap.Entries.{find, is_sorted, below_all}
-use Rattle.sled_nodes.proofs.Basics.{some_is, left_of, right_of, both_of}
+use Rattle.sled_nodes.proofs.Basics.{some_is, left_of, right_of, both_of, none_some}
 use Rattle.sled_store.specs.In.{In}
 use Rattle.sled_nodes.specs.Node.{pairs, pointers}
 use Rattle.sled_nodes.specs.Order.{Key, key_cmp, Below, UpTo}
@@ -104,14 +104,8 @@ sorted_law nodes roots w f t = elim (f.run (place t 0)) [
 -- where a chain begins decides it
 one_run : (nodes : Nodes) (ps qs : List ℕ) (from : Option ℕ) (lo hi lo' hi' : Key) → Run nodes ps from lo None hi → Run nodes qs from lo' None hi' → ps ≡ qs
 one_run nodes [] [] from lo hi lo' hi' r s = refl
-one_run nodes [] (q ∷ qs) from lo hi lo' hi' r s = absurd (no (sym r.0 ∙ s.1.here))
-  where
-    no : None ≡ Some q → ⊥
-    no e = cc
-one_run nodes (p ∷ ps) [] from lo hi lo' hi' r s = absurd (no (sym s.0 ∙ r.1.here))
-  where
-    no : None ≡ Some p → ⊥
-    no e = cc
+one_run nodes [] (q ∷ qs) from lo hi lo' hi' r s = none_some (sym r.0 ∙ s.1.here)
+one_run nodes (p ∷ ps) [] from lo hi lo' hi' r s = none_some (sym s.0 ∙ r.1.here)
 one_run nodes (p ∷ ps) (q ∷ qs) from lo hi lo' hi' r s =
     let e : p ≡ q = some_is (sym r.1.here ∙ s.1.here) in
     let n : s.0 ≡ r.0 = some_is (sym s.1.live ∙ ap nodes (sym e) ∙ r.1.live) in
@@ -137,10 +131,7 @@ module _ {nodes : Nodes} {roots : Tree → Option ℕ} {w : Forest} (f : WellFor
         where
           go : (c : Data) → Holds (suc h) n.lo n.hi c → (d : ℕ) × (first_child (pointers c) ≡ Some d)
           go (Leaf es) s = absurd s
-          go (Index []) s = absurd (no s.2)
-            where
-              no : None ≡ Some n.lo → ⊥
-              no e = cc
+          go (Index []) s = none_some s.2
           go (Index (e ∷ es)) s = (e.1, refl)
 
   empty_level : (t : Tree) (g h : ℕ) → w.chain (place t g) ≡ [] → g ≤ h → w.chain (place t h) ≡ []
