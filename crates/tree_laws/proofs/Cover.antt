@@ -143,11 +143,11 @@ module _ {nodes : Nodes} {roots : Tree → Option ℕ} {w : Forest} (f : WellFor
         ]
       ]
 
-  -- a page of the chain below begins where an index does, if its merging child begins further on
-  boundary : (t : Tree) (h r : ℕ) (b : Node) → In r (w.chain (place t (suc h))) → nodes r ≡ Some b → (c : ℕ) → b.merging_child ≡ Some c → (d : Node) → nodes c ≡ Some d → Below b.lo d.lo
-      → (z : ℕ) × (e : Node) × In z (w.chain (place t h)) × (nodes z ≡ Some e) × (e.lo ≡ b.lo)
-  boundary t h r b j rb c bc d cd low =
-      let p = first_pointer h _ _ _ (holds_at _ r b j rb) in
+  -- where an index begins a page of the level below does
+  pub begins : (t : Tree) (h r : ℕ) (b : Node) → In r (w.chain (place t (suc h))) → nodes r ≡ Some b → (z : ℕ) × (e : Node) × In z (w.chain (place t h)) × (nodes z ≡ Some e) × (e.lo ≡ b.lo)
+  begins t h r b j rb =
+      let s = holds_at (place t (suc h)) r b j rb in
+      let p = first_pointer h b.lo b.hi b.content s in
       let i = f.pointer t h r b j rb b.lo p.0 p.1 in
       let g = f.page (place t h) p.0 i.homed in
       let same : g.0 ≡ i.node = some_is (sym g.1.live ∙ i.live) in (
@@ -156,8 +156,10 @@ module _ {nodes : Nodes} {roots : Tree → Option ℕ} {w : Forest} (f : WellFor
         elim g.1.stands [
           | inl a ↦ a
           | inr m ↦
-              let k : c ≡ p.0 = some_is (sym bc ∙ i.merged (subst (λ (z : Node). z.merging ≡ true) same m)) in
-              absurd (below_irrefl b.lo (subst (λ l. Below b.lo l) (ap (λ (z : Node). z.lo) (some_is (sym cd ∙ ap nodes k ∙ i.live)) ∙ i.key) low))
+              let k = f.child (place t (suc h)) r b j rb p.0 (i.merged (subst (λ (z : Node). z.merging ≡ true) same m)) in
+              let o = f.pointer t h r b j rb k.0 p.0 (later_in b.content k.0 p.0 k.1) in
+              let e : k.0 ≡ b.lo = sym o.key ∙ ap (λ (z : Node). z.lo) (some_is (sym o.live ∙ i.live)) ∙ i.key in
+              absurd (below_irrefl b.lo (subst (λ z. Below b.lo z) e (later_above h b.lo b.hi b.content s k.0 p.0 k.1)))
         ],
         i.live,
         i.key,
@@ -187,7 +189,7 @@ module _ {nodes : Nodes} {roots : Tree → Option ℕ} {w : Forest} (f : WellFor
         | inr off ↦ elim (run_order nodes _ _ _ _ _ (chain_run _ q i) q r a b i j off qa rb) [
           | inl o ↦
               let high : Below n.lo b.lo = below_upto-trans n.lo a.hi b.lo (under _ _ _ o.0 wa) o.1 in
-              let z = boundary t h r b j rb c bc d cd lb in
+              let z = begins t h r b j rb in
               absurd (between (place t h) xs ys p c n d whole pn cd z.0 z.1 (subst (λ l. In z.0 l) is z.2) z.3 (subst (λ k. Below n.lo k) (sym z.4) high) (subst (λ k. Below k d.lo) (sym z.4) lb))
           | inr o ↦ absurd (below_irrefl d.lo (below-trans d.lo a.lo d.lo (below_upto-trans d.lo b.hi a.lo (under _ _ _ o.0 wb) o.1) (below-trans a.lo n.lo d.lo la low)))
         ]

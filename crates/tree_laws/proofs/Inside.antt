@@ -1,5 +1,5 @@
 -- A page lies within the bounds of the index above that covers its beginning.
-use Rattle.std.proofs.Common.{◌≡◌, ◌≢◌, ℕ, suc, true, List, [], ◌∷◌, ◌++◌, Option, Some, None, sym, ap, ◌∙◌, subst, inl, inr, ◌⊎◌}
+use Rattle.std.proofs.Common.{◌≡◌, ◌≢◌, ℕ, suc, List, [], ◌∷◌, ◌++◌, Option, Some, None, sym, ap, ◌∙◌, subst, inl, inr, ◌⊎◌}
 use Rattle.sled_nodes.proofs.Basics.{none_some, some_is}
 use Rattle.sled_store.specs.In.{In}
 use Rattle.sled_nodes.specs.Node.{Within}
@@ -11,31 +11,9 @@ use Rattle.tree_laws.specs.theory.PageLaws.{InsideLaw, ReachedLaw}
 use Rattle.tree_laws.proofs.Order.{upto-refl, upto-below, upto_cases, upto-trans, below_irrefl, below-trans, below_upto-trans}
 use Rattle.tree_laws.proofs.Pairs.{under}
 use Rattle.tree_laws.proofs.Runs.{In_split, In-right}
-use Rattle.tree_laws.proofs.Cover.{chain_run, parted, holds_at, first_pointer, later_in, later_above, run_order, one_cover}
+use Rattle.tree_laws.proofs.Cover.{begins, chain_run, parted, run_order, one_cover}
 
 module _ {nodes : Nodes} {roots : Tree → Option ℕ} {w : Forest} (f : WellFormed nodes roots w) where
-  -- where an index begins a page of the level below does
-  pub begins : (t : Tree) (h r : ℕ) (b : Node) → In r (w.chain (place t (suc h))) → nodes r ≡ Some b → (z : ℕ) × (e : Node) × In z (w.chain (place t h)) × (nodes z ≡ Some e) × (e.lo ≡ b.lo)
-  begins t h r b j rb =
-      let s = holds_at f (place t (suc h)) r b j rb in
-      let p = first_pointer h b.lo b.hi b.content s in
-      let i = f.pointer t h r b j rb b.lo p.0 p.1 in
-      let g = f.page (place t h) p.0 i.homed in
-      let same : g.0 ≡ i.node = some_is (sym g.1.live ∙ i.live) in (
-        p.0,
-        i.node,
-        elim g.1.stands [
-          | inl a ↦ a
-          | inr m ↦
-              let k = f.child (place t (suc h)) r b j rb p.0 (i.merged (subst (λ (z : Node). z.merging ≡ true) same m)) in
-              let o = f.pointer t h r b j rb k.0 p.0 (later_in b.content k.0 p.0 k.1) in
-              let e : k.0 ≡ b.lo = sym o.key ∙ ap (λ (z : Node). z.lo) (some_is (sym o.live ∙ i.live)) ∙ i.key in
-              absurd (below_irrefl b.lo (subst (λ z. Below b.lo z) e (later_above h b.lo b.hi b.content s k.0 p.0 k.1)))
-        ],
-        i.live,
-        i.key,
-      )
-
   -- a page with an upper bound has a page behind it that begins there
   pub behind : (x : Place) (p : ℕ) (n : Node) → In p (w.chain x) → nodes p ≡ Some n → (n.hi ≡ []) ⊎ ((z : ℕ) × (e : Node) × In z (w.chain x) × (nodes z ≡ Some e) × (e.lo ≡ n.hi) × (n.next ≡ Some z))
   behind x p n i live =
