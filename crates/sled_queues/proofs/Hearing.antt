@@ -59,33 +59,26 @@ pub brought_all : (ts : List Turn) (q : Queue) (r : Queue) → r.tree ≡ q.tree
 brought_all [] q r a b = refl
 brought_all (t ∷ ts) q r a b = ap (λ l. l ++ brought r ts) (brought_same t q r a b) ∙ ap (λ l. brought_at q t ++ l) (brought_all ts q r a b)
 
+-- a turn changes no more of a queue than its backlog
+turned_keeps : {A : Type 0} (of : Queue → A) → ((q : Queue) (l : Backlog) → of (record q { backlog = l }) ≡ of q) → (n : ℕ) (t : Turn) (q : Queue) → of (turned n t q) ≡ of q
+turned_keeps of keeps n (Comes tree e) q = go (matches tree e q)
+  where
+    go : (b : Bool) → of (cond b (record q { backlog = comes e q.backlog }) q) ≡ of q
+    go true = keeps q _
+    go false = refl
+turned_keeps of keeps n (Takes m) q = go (nat_eq n m)
+  where
+    go : (b : Bool) → of (cond b (without_next q) q) ≡ of q
+    go true = keeps q _
+    go false = refl
+turned_keeps of keeps n (Watches m tree prefix) q = refl
+turned_keeps of keeps n (Ends m) q = refl
+
 pub turned_tree : (n : ℕ) (t : Turn) (q : Queue) → (turned n t q).tree ≡ q.tree
-turned_tree n (Comes tree e) q = go (matches tree e q)
-  where
-    go : (b : Bool) → (cond b (record q { backlog = comes e q.backlog }) q).tree ≡ q.tree
-    go true = refl
-    go false = refl
-turned_tree n (Takes m) q = go (nat_eq n m)
-  where
-    go : (b : Bool) → (cond b (without_next q) q).tree ≡ q.tree
-    go true = refl
-    go false = refl
-turned_tree n (Watches m tree prefix) q = refl
-turned_tree n (Ends m) q = refl
+turned_tree = turned_keeps (λ q. q.tree) (λ q l. refl)
 
 pub turned_prefix : (n : ℕ) (t : Turn) (q : Queue) → (turned n t q).prefix ≡ q.prefix
-turned_prefix n (Comes tree e) q = go (matches tree e q)
-  where
-    go : (b : Bool) → (cond b (record q { backlog = comes e q.backlog }) q).prefix ≡ q.prefix
-    go true = refl
-    go false = refl
-turned_prefix n (Takes m) q = go (nat_eq n m)
-  where
-    go : (b : Bool) → (cond b (without_next q) q).prefix ≡ q.prefix
-    go true = refl
-    go false = refl
-turned_prefix n (Watches m tree prefix) q = refl
-turned_prefix n (Ends m) q = refl
+turned_prefix = turned_keeps (λ q. q.prefix) (λ q l. refl)
 
 drop_end : (n : ℕ) (xs ys : List Event) → n ≤ length xs → drop n (xs ++ ys) ≡ drop n xs ++ ys
 drop_end zero xs ys l = refl

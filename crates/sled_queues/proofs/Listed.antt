@@ -2,6 +2,8 @@
 use Rattle.std.proofs.Common.{◌≡◌, ◌≢◌, ℕ, ◌+◌, ◌<◌, ◌≤◌, Bool, true, false, cond, nat_eq, nat_le, ◌||◌, ◌&&◌, ◌⊎◌, inl, inr, List, [], ◌∷◌, ◌++◌, length, drop, min, Option, Some, None, option_map, sym, refl, ap, ◌∙◌, subst, arith}
 use Rattle.std.proofs.Math.Path.{fun_ext}
 use mathlib.Core.Bool.{true≢false}
+use Rattle.std.specs.BTreeMap.{BTreeMap, get}
+use Rattle.std.specs.Ordering.{nat_cmp}
 use Rattle.std.specs.Str.{bytes_eq}
 use Rattle.std.proofs.lemmas.Bool.{eq-eqb, ne_eqb, eqb-true, leb-true, leb-false}
 use Rattle.std.proofs.lemmas.List.{length-append}
@@ -14,7 +16,7 @@ use Rattle.sled_model.specs.Event.{key_of_event}
 use Rattle.sled_model.specs.State.{matches}
 use Rattle.sled_model.specs.declared.event.Event.{Event}
 use Rattle.sled_queues.specs.Values.{WaitingValue, QueuesValue, Waitings, queue_at}
-use Rattle.sled_queues.specs.Queues.{queue_of, AreQueues, Becomes, prepared_in, prepared, committed_in, committed, cancelled_in, cancelled, taken_in, without_next_of}
+use Rattle.sled_queues.specs.Queues.{queue_of, AreQueues, Becomes, prepared_in, prepared, committed_in, cancelled_in, taken_in, without_next_of}
 use Rattle.sled_queues.specs.Tells.{waits_for, IsWatched, is_watched_as}
 use Rattle.sled_queues.specs.Lists.{is_in, Once, watches, AreListed, ArePending}
 use Rattle.sled_queues.specs.theory.Lists.{without, waits_in, has_some, changed_at, changed_in, gains}
@@ -80,25 +82,6 @@ all_changed f ps a b h is n = is n ∙ go (a n) refl (is_in n ps) refl
     go None e false k = refl
     go (Some w) e false k = ap Some (sym (h n w e k))
 
--- nothing is prepared any more
-none_pending : (f : WaitingValue → WaitingValue) (a b : Waitings) → ((w : WaitingValue) → (f w).coming ≡ []) → ((n : ℕ) → b n ≡ option_map f (a n)) → ArePending b []
-none_pending f a b none is = record {
-  rest = λ n w e out. let v = was f (a n) w (sym (is n) ∙ e) in ap (λ (z : WaitingValue). z.coming) v.2 ∙ none v.0;
-}
-
--- what is prepared is committed
-same_committed : (w : WaitingValue) → w.coming ≡ [] → committed_in w ≡ w
-same_committed w calm = ap (λ l. record w { backlog = come_all l w.backlog; coming = [] }) calm ∙ ap (λ l. record w { coming = l }) (sym calm)
-
-pub commits : (ps : List ℕ) (a b : Waitings) → ArePending a ps → ((n : ℕ) → b n ≡ changed_in committed_in ps a n) → b ≡ committed a
-commits ps a b h is = fun_ext (all_changed committed_in ps a b (λ n w e out. same_committed w (h.rest n w e out)) is)
-
-pub committed_listed : (a b : Waitings) (lists : ℕ → Key → List ℕ) → b ≡ committed a → AreListed a lists → AreListed b lists
-committed_listed a b lists e l = changed_listed (λ n. committed_in) a b lists (λ n w. refl) (λ n w. refl) (λ n. at_number b (committed a) n e) l
-
-pub committed_pending : (a b : Waitings) → b ≡ committed a → ArePending b []
-committed_pending a b e = none_pending committed_in a b (λ w. refl) (λ n. at_number b (committed a) n e)
-
 -- an event that comes leaves at most 1024
 drop_one : (xs : List Event) (n : ℕ) → n ≤ length xs → 1 ≤ n → length xs ≤ n → length (drop 1 xs) + 1 ≡ length xs
 drop_one [] n a b c = absurd (omega (arith, a, b))
@@ -122,24 +105,40 @@ come_all_bound : (es : List Event) (q : Backlog) → length q.events ≤ queue_l
 come_all_bound [] q h = h
 come_all_bound (e ∷ es) q h = come_all_bound es (comes e q) (come_bound e q h)
 
-pub committed_queues : (a b : QueuesValue) → queue_at b ≡ committed (queue_at a) → b.given ≡ a.given → AreQueues a → AreQueues b
-committed_queues a b e same q = changed_queues (λ n. committed_in) a b (λ n w there h. come_all_bound w.coming w.backlog h) (λ n. at_number (queue_at b) (committed (queue_at a)) n e) same q
+-- what a queue becomes where what is prepared is committed or dropped: no more is prepared in it
+pub record Settles (f : WaitingValue → WaitingValue) : Type 0 where
+  pub calm : (w : WaitingValue) → w.coming ≡ [] → f w ≡ w
+  pub none : (w : WaitingValue) → (f w).coming ≡ []
+  pub tree : (w : WaitingValue) → (f w).tree ≡ w.tree
+  pub prefix : (w : WaitingValue) → (f w).prefix ≡ w.prefix
+  pub bound : (w : WaitingValue) → waiting w ≤ queue_limit → waiting (f w) ≤ queue_limit
 
--- .. or dropped
-same_cancelled : (w : WaitingValue) → w.coming ≡ [] → cancelled_in w ≡ w
-same_cancelled w calm = ap (λ l. record w { coming = l }) (sym calm)
+pub commits : Settles committed_in
+commits = record {
+  calm = λ w calm. ap (λ l. record w { backlog = come_all l w.backlog; coming = [] }) calm ∙ ap (λ l. record w { coming = l }) (sym calm);
+  none = λ w. refl;
+  tree = λ w. refl;
+  prefix = λ w. refl;
+  bound = λ w h. come_all_bound w.coming w.backlog h;
+}
 
-pub cancels : (ps : List ℕ) (a b : Waitings) → ArePending a ps → ((n : ℕ) → b n ≡ changed_in cancelled_in ps a n) → b ≡ cancelled a
-cancels ps a b h is = fun_ext (all_changed cancelled_in ps a b (λ n w e out. same_cancelled w (h.rest n w e out)) is)
+pub cancels : Settles cancelled_in
+cancels = record { calm = λ w calm. ap (λ l. record w { coming = l }) (sym calm); none = λ w. refl; tree = λ w. refl; prefix = λ w. refl; bound = λ w h. h }
 
-pub cancelled_listed : (a b : Waitings) (lists : ℕ → Key → List ℕ) → b ≡ cancelled a → AreListed a lists → AreListed b lists
-cancelled_listed a b lists e l = changed_listed (λ n. cancelled_in) a b lists (λ n w. refl) (λ n w. refl) (λ n. at_number b (cancelled a) n e) l
+module _ {f : WaitingValue → WaitingValue} (s : Settles f) (old new : BTreeMap ℕ WaitingValue) (ps qs : List ℕ) (same : ps ≡ qs) (pending : ArePending (get nat_cmp old) qs) (is : (n : ℕ) → get nat_cmp new n ≡ changed_in f ps (get nat_cmp old) n) where
+  settled_at : (n : ℕ) → get nat_cmp new n ≡ option_map f (get nat_cmp old n)
+  settled_at = all_changed f ps (get nat_cmp old) (get nat_cmp new) (λ n w e out. s.calm w (pending.rest n w e (ap (is_in n) (sym same) ∙ out))) is
 
-pub cancelled_pending : (a b : Waitings) → b ≡ cancelled a → ArePending b []
-cancelled_pending a b e = none_pending cancelled_in a b (λ w. refl) (λ n. at_number b (cancelled a) n e)
+  pub settled : get nat_cmp new ≡ (λ n. option_map f (get nat_cmp old n))
+  settled = fun_ext settled_at
 
-pub cancelled_queues : (a b : QueuesValue) → queue_at b ≡ cancelled (queue_at a) → b.given ≡ a.given → AreQueues a → AreQueues b
-cancelled_queues a b e same q = changed_queues (λ n. cancelled_in) a b (λ n w there h. h) (λ n. at_number (queue_at b) (cancelled (queue_at a)) n e) same q
+  -- what always holds of queues holds of them
+  pub settled_keeps : (given : ℕ) (lists : ℕ → Key → List ℕ) (rest : List ℕ) → AreQueues (record { queues = old.entries; given = given }) → AreListed (get nat_cmp old) lists → AreQueues (record { queues = new.entries; given = given }) × AreListed (get nat_cmp new) lists × ArePending (get nat_cmp new) rest
+  settled_keeps given lists rest q l = (
+    changed_queues (λ n. f) (record { queues = old.entries; given = given }) (record { queues = new.entries; given = given }) (λ n w there h. s.bound w h) settled_at refl q,
+    changed_listed (λ n. f) (get nat_cmp old) (get nat_cmp new) lists (λ n. s.tree) (λ n. s.prefix) settled_at l,
+    record { rest = λ n w e out. let v = was f (get nat_cmp old n) w (sym (settled_at n) ∙ e) in ap (λ (z : WaitingValue). z.coming) v.2 ∙ s.none v.0 },
+  )
 
 -- an event is prepared in the queues of those that are listed at the beginnings of its key
 pub prepares : (tree : ℕ) (e : Event) (ns : List ℕ) (a b : Waitings) → ((n : ℕ) → is_in n ns ≡ waits_in tree (key_of_event e) (a n)) → ((n : ℕ) → b n ≡ changed_in (gains e) ns a n) → b ≡ prepared tree e a

@@ -3,7 +3,7 @@ use Rattle.std.proofs.Common.{◌≡◌, ◌≢◌, ℕ, zero, suc, ◌≤◌, B
 use Rattle.std.specs.Str.{bytes_eq}
 use Rattle.std.specs.Bool.{Decides}
 use Rattle.std.proofs.lemmas.Slice.Eq.{bytes_eq-Decides}
-use Rattle.sled_nodes.proofs.Basics.{some_is}
+use Rattle.sled_nodes.proofs.Basics.{some_is, false_true}
 use Rattle.sled_store.specs.In.{In}
 use Rattle.sled_nodes.specs.Node.{pointers, count}
 use Rattle.sled_nodes.specs.Order.{Key}
@@ -41,10 +41,7 @@ module _ {nodes : Nodes} {roots new : Tree → Option ℕ} {w : Forest} {t : Tre
     where
       go : (o : Bool) → Decides o (t ≡ t) → cond o (chain h) (w.chain (place t h)) ≡ chain h
       go true d = refl
-      go false d = absurd (no (d.1 refl))
-        where
-          no : false ≡ true → ⊥
-          no e = cc
+      go false d = false_true (d.1 refl)
 
   there : (x : Place) → x.tree ≢ t → planted.chain x ≡ w.chain x
   there x off = go (bytes_eq x.tree t) (bytes_eq-Decides x.tree t)

@@ -1,5 +1,5 @@
 -- A tree, pages by pages, and tree by tree.
-use Rattle.std.proofs.Common.{Vec, Global, ◌≡◌, ◌≢◌, ℕ, zero, suc, ◌+◌, ◌-◌, ◌≤◌, ◌<◌, Bool, true, false, cond, nat_eq, List, [], ◌∷◌, length, get_or, take, Option, Some, None, MatchOption, sym, refl, ap, ◌∙◌, subst, inl, inr, ◌⊎◌, arith}
+use Rattle.std.proofs.Common.{Vec, Global, ◌≡◌, ◌≢◌, ℕ, zero, suc, ◌+◌, ◌-◌, ◌≤◌, ◌<◌, Bool, true, false, cond, nat_eq, List, [], ◌∷◌, length, get_or, take, Option, Some, None, sym, refl, ap, ◌∙◌, subst, inl, inr, ◌⊎◌, arith}
 use Rattle.std.proofs.lemmas.Bool.{eqb-true}
 use Rattle.std.specs.BTreeSet.{BTreeSet, contains, IsEmpty}
 use Rattle.std.specs.BTreeMap.{is_at}
@@ -14,10 +14,12 @@ use Rattle.sled_nodes.specs.Order.{Key, key_cmp}
 use Rattle.sled_store.specs.State.{State, Nodes, nodes_of}
 use Rattle.sled_nodes.specs.declared.node.Node.{Node}
 use Rattle.sled_store.specs.declared.page.View.{View}
-use Rattle.tree_laws.specs.Forest.{Tree, Place, place, head, first_child, Run}
+use Rattle.tree_laws.specs.Forest.{WellFormed, Tree, Place, head, first_child, Run}
 use Rattle.sled_store.specs.Store.{IsRoots}
 use Rattle.sled_store.proofs.Lists.{map_in}
 use Rattle.tree_laws.specs.Crashes.{IsValid}
+use Rattle.tree_laws.specs.theory.Laws.{no_forest}
+use Rattle.tree_laws.proofs.Empty.{no_trees, no_sizes}
 use Rattle.tree_laws.proofs.Matching.{itself}
 use Rattle.tree_check.specs.declared.levels.Level.{Level}
 use Rattle.tree_check.specs.theory.Tree.{IsPointerTo, IsAtHeight, IsTreeFrom}
@@ -184,17 +186,9 @@ walk_ends s root tree above old new w = record { chain = w.chain; is = w.is; top
 -- no tree at all
 pub verify_first : (s : State) (levels : Levels) → ((p : ℕ) → level_of levels p ≡ None) → Verifies s [] 0 levels
 verify_first s levels empty = record {
-  forest = record { chain = λ x. []; home = λ p. None };
-  formed = record {
-    homed = λ x p i. absurd i;
-    page = λ x p e. none_some e;
-    run = λ x. inl refl;
-    pointer = λ t h p n i. absurd i;
-    child = λ x p n i. absurd i;
-    down = λ t h p n e. none_some e;
-    top = λ t h. refl;
-  };
-  sized = record { fits = λ x p n e. none_some e; child = λ x p c n d i. absurd i };
+  forest = no_forest;
+  formed = no_trees _ _ (λ t. refl);
+  sized = no_sizes _;
   seen = λ p x e. none_some e;
   below = λ p z e. none_some (sym (empty p) ∙ e);
 }
@@ -238,16 +232,7 @@ verify_more s roots i e levels new less sorted is v t = record {
 pub verify_ends : (s : State) (roots : List (Key × ℕ)) (n : ℕ) (levels : Levels) → length roots ≤ n → ((u : Tree) → s.roots u ≡ find key_cmp u roots) → Verifies s (take n roots) n levels → IsValid s
 verify_ends s roots n levels all is v = record {
   forest = v.forest;
-  formed = record {
-    homed = v.formed.homed;
-    page = v.formed.page;
-    run = v.formed.run;
-    pointer = v.formed.pointer;
-    child = v.formed.child;
-    down = v.formed.down;
-    top = λ u. subst (λ o. MatchOption o ((h : ℕ) → v.forest.chain (place u h) ≡ []) (λ r. (h : ℕ) × (head (v.forest.chain (place u h)) ≡ Some r) × (v.forest.chain (place u (suc h)) ≡ [])))
-        (ap (find key_cmp u) (take_all roots n all) ∙ sym (is u)) (v.formed.top u);
-  };
+  formed = subst (λ (names : Tree → Option ℕ). WellFormed (nodes_of s) names v.forest) (λ i u. (ap (find key_cmp u) (take_all roots n all) ∙ sym (is u)) i) v.formed;
   sized = v.sized;
 }
   where

@@ -5,7 +5,7 @@ use Rattle.std.specs.Str.{bytes_eq}
 use Rattle.std.specs.Bool.{Decides}
 use Rattle.std.proofs.lemmas.Slice.Eq.{bytes_eq-Decides}
 use Rattle.std.proofs.lemmas.Bool.Decides.{nat_tests}
-use Rattle.sled_nodes.proofs.Basics.{some_is}
+use Rattle.sled_nodes.proofs.Basics.{some_is, false_true, none_some}
 use Rattle.sled_store.specs.In.{In}
 use Rattle.sled_nodes.specs.Node.{pointers, count}
 use Rattle.sled_nodes.specs.Order.{Key}
@@ -45,10 +45,7 @@ each_in P (ps ∷ levels) zero p e i = all_in (P 0) ps p e.0 i
 each_in P (ps ∷ levels) (suc h) p e i = each_in (λ h. P (suc h)) levels h p e.1 i
 
 home_in : (t : Tree) (P : ℕ → ℕ → Type 0) (homes : List (ℕ × ℕ)) (p : ℕ) (x : Place) → AllByRecursion (λ e. P e.0 e.1) homes → option_map (place t) (height_of homes p) ≡ Some x → (h : ℕ) × (x ≡ place t h) × P p h
-home_in t P [] p x a e = absurd (none e)
-  where
-    none : None ≡ Some x → ⊥
-    none e = cc
+home_in t P [] p x a e = none_some e
 home_in t P (d ∷ homes) p x a e = go (nat_eq d.0 p) refl e (home_in t P homes p x a.1)
   where
     same : nat_eq d.0 p ≡ true → d.0 ≡ p
@@ -90,10 +87,7 @@ module _ {nodes : Nodes} {roots : Tree → Option ℕ} {t : Tree} {r : ℕ} {lev
     where
       go : (o : Bool) → Decides o (t ≡ t) → cond o (level levels h) [] ≡ level levels h
       go true d = refl
-      go false d = absurd (no (d.1 refl))
-        where
-          no : false ≡ true → ⊥
-          no e = cc
+      go false d = false_true (d.1 refl)
 
   chain_there : (x : Place) → x.tree ≢ t → w.chain x ≡ []
   chain_there x off = go (bytes_eq x.tree t) (bytes_eq-Decides x.tree t)

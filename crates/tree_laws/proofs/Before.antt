@@ -1,6 +1,7 @@
 -- The pointer before the merging child's, and the pointer that a bound leads to.
 use Rattle.std.proofs.Common.{◌≡◌, ◌≢◌, ℕ, suc, Bool, true, false, ◌||◌, nat_eq, List, [], ◌∷◌, ◌++◌, Some, sym, refl, ap, ◌∙◌, subst, inl, inr, append_assoc, arith}
-use Rattle.std.proofs.lemmas.Bool.{eqb-true}
+use Rattle.std.proofs.lemmas.Bool.{eqb-true, or_from}
+use Rattle.std.proofs.lemmas.List.Recursion.{or_push}
 use Rattle.std.proofs.lemmas.Bool.Decides.{nat_tests}
 use Rattle.std.specs.List.{list_any}
 use Rattle.sled_nodes.proofs.Basics.{none_some, some_is}
@@ -23,19 +24,7 @@ other_child : (c d : ℕ) → d ≢ c → nat_eq d c ≡ false
 other_child c d e = grind (arith, nat_tests)
 
 any_append : {X : Type 0} (test : X → Bool) (xs : List X) (y : X) → list_any test xs ≡ false → test y ≡ false → list_any test (xs ++ y ∷ []) ≡ false
-any_append test [] y p q = ap (λ b. b || false) q
-any_append test (x ∷ xs) y p q = go (test x) (list_any test xs) (list_any test (xs ++ y ∷ [])) p (any_append test xs y (second (test x) (list_any test xs) p) q)
-  where
-    second : (a b : Bool) → (a || b) ≡ false → b ≡ false
-    second true b e = absurd (apart e)
-      where
-        apart : true ≡ false → ⊥
-        apart e = cc
-    second false b e = e
-
-    go : (a b c : Bool) → (a || b) ≡ false → c ≡ false → (a || c) ≡ false
-    go true b c e f = e
-    go false b c e f = f
+any_append test xs y p q = or_push (list_any test) test refl (λ x xs. refl) xs y ∙ or_from _ _ p q
 
 -- where a later pointer leads to c, and those up to here do not, there is one just before the first to c
 find_before : (k : Key) (c : ℕ) (front : List (Key × ℕ)) (p : Key × ℕ) (rest : List (Key × ℕ)) → list_any (λ e. nat_eq e.1 c) (front ++ p ∷ []) ≡ false → In (k, c) rest → (b : ℕ) × IsBefore c (front ++ p ∷ rest) b

@@ -2,7 +2,7 @@
 use Rattle.std.proofs.Common.{◌≡◌, ◌≢◌, ℕ, zero, suc, Bool, true, false, T, ◌&&◌, List, [], ◌∷◌, ◌++◌, Option, Some, None, Ordering, Less, Equal, Greater, is_lt, sym, refl, ap, ◌∙◌, subst, inl, inr, ◌⊎◌}
 use Rattle.std.specs.FinMap.Entries.{below_all}
 use Rattle.std.specs.List.{AllByRecursion}
-use Rattle.sled_nodes.proofs.Basics.{some_is, same_or_not}
+use Rattle.sled_nodes.proofs.Basics.{some_is, same_or_not, none_some}
 use Rattle.sled_store.specs.In.{In}
 use Rattle.sled_nodes.specs.Node.{Within, pointers}
 use Rattle.sled_nodes.specs.Order.{Key, key_cmp, Below, UpTo}
@@ -13,7 +13,7 @@ use Rattle.sled_nodes.specs.declared.node.Node.{Node}
 use Rattle.tree_laws.specs.Forest.{later, Holds, Forest, Place, place, Run, IsPointer, WellFormed, head, Tree}
 use Rattle.tree_laws.proofs.Order.{below-trans, below_irrefl, below_upto-trans}
 use Rattle.tree_laws.proofs.Pairs.{under}
-use Rattle.tree_laws.proofs.Runs.{rises_on, run_from, run_to, run_parts, In_cases}
+use Rattle.tree_laws.proofs.Runs.{In-right, rises_on, run_from, run_to, run_parts, In_cases}
 use Rattle.tree_laws.proofs.Replace.{place_is, not_both}
 
 -- of two pages of a run, one ends at or below where the other begins
@@ -74,10 +74,7 @@ later_above h lo hi (Index (e ∷ es)) s k d i = subst (λ z. Below z k) (some_i
 -- an index's first pointer has its lo
 pub first_pointer : (h : ℕ) (lo hi : Key) (c : Data) → Holds (suc h) lo hi c → (d : ℕ) × In (lo, d) (pointers c)
 first_pointer h lo hi (Leaf es) s = absurd s
-first_pointer h lo hi (Index []) s = absurd (no s.2)
-  where
-    no : None ≡ Some lo → ⊥
-    no e = cc
+first_pointer h lo hi (Index []) s = none_some s.2
 first_pointer h lo hi (Index (e ∷ es)) s = (e.1, inl (same (some_is s.2)))
   where
     same : e.0 ≡ lo → (lo, e.1) ≡ e
@@ -93,6 +90,14 @@ module _ {nodes : Nodes} {roots : Tree → Option ℕ} {w : Forest} (f : WellFor
 
   pub holds_at : (x : Place) (p : ℕ) (n : Node) → In p (w.chain x) → nodes p ≡ Some n → Holds x.height n.lo n.hi n.content
   holds_at x p n i live = let h = f.page x p (f.homed x p i) in subst (λ (z : Node). Holds x.height z.lo z.hi z.content) (some_is (sym h.1.live ∙ live)) h.1.sound.holds
+
+  -- the runs before and behind a page of a chain
+  pub parted : (x : Place) (p : ℕ) (n : Node) (xs ys : List ℕ) → w.chain x ≡ xs ++ (p ∷ ys) → nodes p ≡ Some n → Run nodes xs (head (w.chain x)) [] (Some p) n.lo × ((n.next ≡ None) ⊎ Below n.lo n.hi) × Run nodes ys n.next n.hi None []
+  parted x p n xs ys e live =
+      let from : Option ℕ = head (w.chain x) in
+      let r = run_parts nodes xs (p ∷ ys) _ _ _ _ (subst (λ z. Run nodes z from [] None []) e (chain_run x p (subst (λ z. In p z) (sym e) (In-right xs (p ∷ ys) p (inl refl))))) in
+      subst (λ (z : Node). Run nodes xs from [] (Some p) z.lo × ((z.next ≡ None) ⊎ Below z.lo z.hi) × Run nodes ys z.next z.hi None []) (some_is (sym r.3.1.live ∙ live))
+      (subst (λ g. Run nodes xs from [] g r.3.0.lo) r.3.1.here (subst (λ k. Run nodes xs from [] r.0 k) r.3.1.lo_is r.2), r.3.1.rises, r.3.2)
 
   -- of the pages of a chain one covers a key
   pub one_cover : (x : Place) (p q : ℕ) (n m : Node) (k : Key) → In p (w.chain x) → In q (w.chain x) → nodes p ≡ Some n → nodes q ≡ Some m → Within n.lo n.hi k → Within m.lo m.hi k → p ≡ q
@@ -138,11 +143,11 @@ module _ {nodes : Nodes} {roots : Tree → Option ℕ} {w : Forest} (f : WellFor
         ]
       ]
 
-  -- a page of the chain below begins where an index does, if its merging child begins further on
-  boundary : (t : Tree) (h r : ℕ) (b : Node) → In r (w.chain (place t (suc h))) → nodes r ≡ Some b → (c : ℕ) → b.merging_child ≡ Some c → (d : Node) → nodes c ≡ Some d → Below b.lo d.lo
-      → (z : ℕ) × (e : Node) × In z (w.chain (place t h)) × (nodes z ≡ Some e) × (e.lo ≡ b.lo)
-  boundary t h r b j rb c bc d cd low =
-      let p = first_pointer h _ _ _ (holds_at _ r b j rb) in
+  -- where an index begins a page of the level below does
+  pub begins : (t : Tree) (h r : ℕ) (b : Node) → In r (w.chain (place t (suc h))) → nodes r ≡ Some b → (z : ℕ) × (e : Node) × In z (w.chain (place t h)) × (nodes z ≡ Some e) × (e.lo ≡ b.lo)
+  begins t h r b j rb =
+      let s = holds_at (place t (suc h)) r b j rb in
+      let p = first_pointer h b.lo b.hi b.content s in
       let i = f.pointer t h r b j rb b.lo p.0 p.1 in
       let g = f.page (place t h) p.0 i.homed in
       let same : g.0 ≡ i.node = some_is (sym g.1.live ∙ i.live) in (
@@ -151,8 +156,10 @@ module _ {nodes : Nodes} {roots : Tree → Option ℕ} {w : Forest} (f : WellFor
         elim g.1.stands [
           | inl a ↦ a
           | inr m ↦
-              let k : c ≡ p.0 = some_is (sym bc ∙ i.merged (subst (λ (z : Node). z.merging ≡ true) same m)) in
-              absurd (below_irrefl b.lo (subst (λ l. Below b.lo l) (ap (λ (z : Node). z.lo) (some_is (sym cd ∙ ap nodes k ∙ i.live)) ∙ i.key) low))
+              let k = f.child (place t (suc h)) r b j rb p.0 (i.merged (subst (λ (z : Node). z.merging ≡ true) same m)) in
+              let o = f.pointer t h r b j rb k.0 p.0 (later_in b.content k.0 p.0 k.1) in
+              let e : k.0 ≡ b.lo = sym o.key ∙ ap (λ (z : Node). z.lo) (some_is (sym o.live ∙ i.live)) ∙ i.key in
+              absurd (below_irrefl b.lo (subst (λ z. Below b.lo z) e (later_above h b.lo b.hi b.content s k.0 p.0 k.1)))
         ],
         i.live,
         i.key,
@@ -162,12 +169,9 @@ module _ {nodes : Nodes} {roots : Tree → Option ℕ} {w : Forest} (f : WellFor
   pub one_later : (t : Tree) (h : ℕ) (xs ys : List ℕ) (p c : ℕ) (n d : Node) → w.chain (place t h) ≡ xs ++ (p ∷ (c ∷ ys)) → nodes p ≡ Some n → nodes c ≡ Some d
       → (q r : ℕ) (a b : Node) (l : Key) → In q (w.chain (place t (suc h))) → In r (w.chain (place t (suc h))) → nodes q ≡ Some a → nodes r ≡ Some b → In (l, p) (later (pointers a.content)) → b.merging_child ≡ Some c → q ≡ r
   one_later t h xs ys p c n d is pn cd q r a b l i j qa rb ap' bc =
-      let whole : Run nodes (xs ++ (p ∷ (c ∷ ys))) (head (w.chain (place t h))) [] None [] = subst (λ z. Run nodes z (head (w.chain (place t h))) [] None []) is (chain_run (place t h) p (subst (λ z. In p z) (sym is) (at xs))) in
-      let s = run_parts nodes xs _ _ _ _ _ whole in
-      let m = s.3 in
-      let np : m.0 ≡ n = some_is (sym m.1.live ∙ pn) in
-      let dc : m.2.0 ≡ d = some_is (sym m.2.1.live ∙ cd) in
-      let low : Below n.lo d.lo = subst (λ (z : Node). Below n.lo z.lo) dc (subst (λ k. Below n.lo k) m.2.1.lo_is (subst (λ (z : Node). Below z.lo m.0.hi) np (rises_on nodes (c ∷ ys) m.0 None [] c (inl refl) m.1.rises m.2))) in
+      let whole : Run nodes (xs ++ (p ∷ (c ∷ ys))) (head (w.chain (place t h))) [] None [] = subst (λ z. Run nodes z (head (w.chain (place t h))) [] None []) is (chain_run (place t h) p (subst (λ z. In p z) (sym is) (In-right xs _ p (inl refl)))) in
+      let s = parted (place t h) p n xs (c ∷ ys) is pn in
+      let low : Below n.lo d.lo = subst (λ (z : Node). Below n.lo z.lo) (some_is (sym s.2.1.live ∙ cd)) (subst (λ k. Below n.lo k) s.2.1.lo_is (rises_on nodes (c ∷ ys) n None [] c (inl refl) s.1 s.2)) in
       let ka : (k : Key) × In (k, p) (later (pointers a.content)) = (l, ap') in
       let kb = f.child _ r b j rb c bc in
       let ia = f.pointer t h q a i qa ka.0 p (later_in a.content ka.0 p ka.1) in
@@ -185,15 +189,11 @@ module _ {nodes : Nodes} {roots : Tree → Option ℕ} {w : Forest} (f : WellFor
         | inr off ↦ elim (run_order nodes _ _ _ _ _ (chain_run _ q i) q r a b i j off qa rb) [
           | inl o ↦
               let high : Below n.lo b.lo = below_upto-trans n.lo a.hi b.lo (under _ _ _ o.0 wa) o.1 in
-              let z = boundary t h r b j rb c bc d cd lb in
+              let z = begins t h r b j rb in
               absurd (between (place t h) xs ys p c n d whole pn cd z.0 z.1 (subst (λ l. In z.0 l) is z.2) z.3 (subst (λ k. Below n.lo k) (sym z.4) high) (subst (λ k. Below k d.lo) (sym z.4) lb))
           | inr o ↦ absurd (below_irrefl d.lo (below-trans d.lo a.lo d.lo (below_upto-trans d.lo b.hi a.lo (under _ _ _ o.0 wb) o.1) (below-trans a.lo n.lo d.lo la low)))
         ]
       ]
-    where
-      at : (zs : List ℕ) → In p (zs ++ (p ∷ (c ∷ ys)))
-      at [] = inl refl
-      at (z ∷ zs) = inr (at zs)
 
   -- they are not both merging children
   pub not_both_children : (t : Tree) (h : ℕ) (xs ys : List ℕ) (p c : ℕ) (n d : Node) → w.chain (place t h) ≡ xs ++ (p ∷ (c ∷ ys)) → nodes p ≡ Some n → nodes c ≡ Some d → n.merging ≡ false → d.merging ≡ true

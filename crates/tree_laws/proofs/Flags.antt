@@ -13,38 +13,27 @@ use Rattle.sled_store.specs.Update.{put_at}
 use Rattle.sled_store.specs.theory.Facts.{put_here, put_elsewhere}
 use Rattle.sled_nodes.specs.declared.node.Data.TheVariants.{Leaf, Index}
 use Rattle.sled_nodes.specs.declared.node.Data.{Data}
-use Rattle.sled_nodes.specs.declared.link.Link.TheVariants.{ParentMergeIntention, ParentMergeConfirm}
+use Rattle.sled_nodes.specs.declared.link.Link.TheVariants.{ParentMergeConfirm}
 use Rattle.sled_nodes.specs.declared.node.Node.{Node}
 use Rattle.tree_laws.specs.theory.Action.{put_node}
-use Rattle.tree_laws.specs.Forest.{first_key, first_child, later, Holds, IsNodeAt, Forest, Place, place, IsPointer, WellFormed, Tree}
+use Rattle.tree_laws.specs.Forest.{first_key, first_child, later, Holds, Forest, Place, place, IsPointer, WellFormed, Tree}
 use Rattle.tree_laws.specs.Snapshot.{IsOrphan}
 use Rattle.tree_laws.specs.theory.PageLaws.{Unseen, CapLaw, IntentionLaw, ConfirmLaw}
 use Rattle.tree_laws.proofs.Order.{below_irrefl}
-use Rattle.tree_laws.proofs.Replace.{not_both}
+use Rattle.tree_laws.proofs.Replace.{not_both, place_below}
 use Rattle.tree_laws.proofs.Split.{pointer_like}
 use Rattle.tree_laws.proofs.Cover.{holds_at, later_in, later_above}
-use Rattle.tree_laws.proofs.Reflag.{Reflags, after, reflagged_kept, reflagged_keeps, reflagged_contents, reflagged_sized, reflagged_grows}
-
-sound_at : {nodes : Nodes} {roots : Tree → Option ℕ} {w : Forest} (f : WellFormed nodes roots w) (x : Place) (p : ℕ) (n : Node) → In p (w.chain x) → nodes p ≡ Some n → IsNodeAt x.height n
-sound_at f x p n i live = let h = f.page x p (f.homed x p i) in subst (λ (z : Node). IsNodeAt x.height z) (some_is (sym h.1.live ∙ live)) h.1.sound
+use Rattle.tree_laws.proofs.Reflag.{Reflags, reflagged}
 
 pub cap_law : CapLaw
 cap_law nodes roots w f x p n o q d j up is =
-    let i = o.chained in
-    let live = o.live in
-    let not_merging = o.is_open.not_merging in
     let free = o.is_open.free in
-    let r : Reflags nodes (put_node nodes p (record n { merging = true })) w w.home x p n (record n { merging = true }) = record {
-      chained = i;
-      was = live;
-      now = put_here nodes p _;
-      others = λ q. put_elsewhere nodes p q _;
-      lo = refl;
-      hi = refl;
-      next = refl;
-      sound = let s = sound_at f x p n i live in record { holds = s.holds };
+    let r : Reflags nodes w w.home x p n true n.merging_child n.content = record {
+      chained = o.chained;
+      was = o.live;
+      holds = holds_at f x p n o.chained o.live;
       smaller = le_refl _;
-      not_merging = not_merging;
+      not_merging = o.is_open.not_merging;
       calm = λ t. free;
       parent = λ t. (q, d, j, up, is);
       comes = λ z y e. e;
@@ -52,9 +41,9 @@ cap_law nodes roots w f x p n o q d j up is =
       keeps_child = λ c y h e. e;
       first = refl;
       child = λ c e. none_some (sym free ∙ e);
-      pointer = λ t h at k c m. let o = f.pointer t h p n (subst (λ z. In p (w.chain z)) at i) live k c m in (pointer_like nodes w n _ t h k c refl o, o.homed);
+      pointer = λ t h at k c m. let i = f.pointer t h p n (subst (λ z. In p (w.chain z)) at o.chained) o.live k c m in (pointer_like nodes w n _ t h k c refl i, i.homed);
     } in
-    record { after = after r f; kept = reflagged_kept r f; same = reflagged_contents r f refl; keeps = reflagged_keeps r f []; sized = λ e. reflagged_sized r f (λ c d e. none_some (sym free ∙ e)); grows = λ e. reflagged_grows r f }
+    reflagged r f refl (λ u c d e. none_some (sym free ∙ e))
 
 intended_some : (t : Tree) (h : ℕ) (lo hi : Key) (c : Data) (d : ℕ) (before : Option ℕ) → Holds (suc h) lo hi c → after_intention c d before ≡ Some d
 intended_some t h lo hi (Leaf es) d before s = absurd s
@@ -62,21 +51,15 @@ intended_some t h lo hi (Index es) d before s = refl
 
 pub intention_law : IntentionLaw
 intention_law nodes roots w f t h p c n k o j =
-    let i = o.chained in
-    let live = o.live in
     let not_merging = o.is_open.not_merging in
     let free = o.is_open.free in
-    let m : Node = after_link (ParentMergeIntention c) n in
-    let child_is : m.merging_child ≡ Some c = intended_some t h n.lo n.hi n.content c n.merging_child (holds_at f (place t (suc h)) p n i live) in
-    let r : Reflags nodes (put_node nodes p m) w w.home (place t (suc h)) p n m = record {
-      chained = i;
-      was = live;
-      now = put_here nodes p _;
-      others = λ q. put_elsewhere nodes p q _;
-      lo = refl;
-      hi = refl;
-      next = refl;
-      sound = let s = sound_at f (place t (suc h)) p n i live in record { holds = s.holds };
+    let holds = holds_at f (place t (suc h)) p n o.chained o.live in
+    let child_now = after_intention n.content c n.merging_child in
+    let child_is : child_now ≡ Some c = intended_some t h n.lo n.hi n.content c n.merging_child holds in
+    let r : Reflags nodes w w.home (place t (suc h)) p n n.merging child_now n.content = record {
+      chained = o.chained;
+      was = o.live;
+      holds = holds;
       smaller = le_refl _;
       not_merging = not_merging;
       calm = λ u. not_both n.merging not_merging u;
@@ -87,18 +70,10 @@ intention_law nodes roots w f t h p c n k o j =
       first = refl;
       child = λ d e. (k, subst (λ z. In (k, z) (later (pointers n.content))) (some_is (sym child_is ∙ e)) j);
       pointer = λ u g at l d b.
-          let o = f.pointer u g p n (subst (λ z. In p (w.chain z)) at i) live l d b in (
-            record {
-              node = o.node;
-              live = o.live;
-              homed = o.homed;
-              key = o.key;
-              merged = λ v. none_some (sym free ∙ o.merged v);
-            },
-            o.homed,
-          );
+          let i = f.pointer u g p n (subst (λ z. In p (w.chain z)) at o.chained) o.live l d b in
+          (record { node = i.node; live = i.live; homed = i.homed; key = i.key; merged = λ v. none_some (sym free ∙ i.merged v) }, i.homed);
     } in
-    record { after = after r f; kept = reflagged_kept r f; same = reflagged_contents r f refl; keeps = reflagged_keeps r f []; sized = λ small. reflagged_sized r f (λ d b e at. small b (ap nodes (some_is (sym child_is ∙ e)) ∙ at)); grows = λ small. reflagged_grows r f }
+    reflagged r f refl (λ small d b e at. small b (ap nodes (some_is (sym child_is ∙ e)) ∙ at))
 
 -- what a filter of pointers keeps
 sub_in : (c : ℕ) (es : List (Key × ℕ)) (k : Key) (d : ℕ) → In (k, d) (unpointed c es) → In (k, d) es × (d ≢ c)
@@ -205,16 +180,11 @@ module _ (nodes : Nodes) (roots : Tree → Option ℕ) (w : Forest) (f : WellFor
   unfolding home
   home_other d off = put_elsewhere w.home c d None off
 
-  parts : Reflags nodes (put_node nodes p dropped) w home (place t (suc h)) p n dropped
+  parts : Reflags nodes w home (place t (suc h)) p n n.merging None (Index (unpointed c es))
   parts = record {
     chained = i;
     was = live;
-    now = put_here nodes p _;
-    others = λ q. put_elsewhere nodes p q _;
-    lo = refl;
-    hi = refl;
-    next = refl;
-    sound = record { holds = holds_unpointed h n.lo n.hi c es holds first_off };
+    holds = holds_unpointed h n.lo n.hi c es holds first_off;
     smaller = subst (λ z. length (unpointed c es) ≤ count z) (sym index) (length_unpointed c es);
     not_merging = not_merging;
     calm = λ u. refl;
@@ -229,7 +199,7 @@ module _ (nodes : Nodes) (roots : Tree → Option ℕ) (w : Forest) (f : WellFor
     child = λ d e. none_some e;
     pointer = λ u g at k d j.
         let o = sub_in c es k d j in
-        let same : place t h ≡ place u g = lower t h u g at in
+        let same : place t h ≡ place u g = place_below t u h g at in
         let a : IsPointer nodes w n u g k d = subst (λ (z : Place). IsPointer nodes w n z.tree z.height k d) same (own k d o.0) in (
           record {
             node = a.node;
@@ -241,12 +211,9 @@ module _ (nodes : Nodes) (roots : Tree → Option ℕ) (w : Forest) (f : WellFor
           home_other d o.1 ∙ a.homed,
         );
   }
-    where
-      lower : (t : Tree) (h : ℕ) (u : Tree) (g : ℕ) → place t (suc h) ≡ place u (suc g) → place t h ≡ place u g
-      lower t h u g e = let a : t ≡ u = ap (λ (z : Place). z.tree) e in let b : suc h ≡ suc g = ap (λ (z : Place). z.height) e in let d : h ≡ g = omega arith in λ i. place (a i) (d i)
 
   pub unlinked : (u : Unseen [] nodes (put_node nodes p dropped) roots w (Unit {0})) × IsOrphan u.after c
-  unlinked = (record { after = after parts f; kept = reflagged_kept parts f; same = reflagged_contents parts f (sym (ap pairs index)); keeps = reflagged_keeps parts f []; sized = λ e. reflagged_sized parts f (λ d b e. none_some e); grows = λ e. reflagged_grows parts f }, λ y e. none_some (sym home_c ∙ e))
+  unlinked = (reflagged parts f (sym (ap pairs index)) (λ u d b e. none_some e), λ y e. none_some (sym home_c ∙ e))
 
 -- an index's content
 index_is : (h : ℕ) (lo hi : Key) (c : Data) → Holds (suc h) lo hi c → (es : List (Key × ℕ)) × (c ≡ Index es)

@@ -3,11 +3,11 @@ use Rattle.std.proofs.Common.{◌≡◌, ◌≢◌, ℕ, zero, suc, ◌<◌, ◌
 use Rattle.std.specs.List.{AllByRecursion, IsDistinct, list_any}
 use Rattle.std.proofs.lemmas.Map.Steps.{length-le_from_distinct_below}
 use Rattle.std.proofs.lemmas.Bool.Decides.{nat_tests}
-use Rattle.sled_nodes.proofs.Basics.{none_some, some_is}
+use Rattle.sled_nodes.proofs.Basics.{none_some, some_is, false_true}
 use Rattle.sled_store.specs.In.{In}
 use Rattle.sled_nodes.specs.Node.{pointers}
 use Rattle.sled_nodes.specs.Order.{Key, Below}
-use Rattle.sled_store.specs.State.{Nodes, nodes_of}
+use Rattle.sled_store.specs.State.{State, Nodes, nodes_of}
 use Rattle.sled_nodes.specs.declared.node.Data.{Data}
 use Rattle.sled_nodes.specs.declared.node.Data.TheVariants.{Leaf, Index}
 use Rattle.sled_nodes.specs.declared.node.Node.{Node}
@@ -38,10 +38,7 @@ distinct (p ∷ ps) d = (each ps d.0, distinct ps d.1)
         test off = grind (arith, nat_tests)
 
 any_in : (q : ℕ) (ps : List ℕ) → list_any (eqb q) ps ≡ true → In q ps
-any_in q [] e = absurd (apart e)
-  where
-    apart : false ≡ true → ⊥
-    apart f = cc
+any_in q [] e = false_true e
 any_in q (p ∷ ps) e = go (eqb q p) refl e (any_in q ps)
   where
     same : eqb q p ≡ true → q ≡ p
@@ -144,24 +141,25 @@ module _ {nodes : Nodes} {roots : Tree → Option ℕ} {w : Forest} (f : WellFor
         let a = firsts t h p e in
         subst (λ z. z ≤ n) a.1 (few_different a.0 n a.2 (λ q i. let b = a.3 q i in homed_below q _ b.2))
 
+-- the numbers of pages are below the bound of all
+pub nodes_below : (s : State) → ((p : ℕ) (g : Page) → s.pages p ≡ Some g → p < 2 ^ 64) → (p : ℕ) (d : Node) → nodes_of s p ≡ Some d → p < page_numbers
+nodes_below s below p d e = subst (λ n. p < n) (sym page_numbers_is) (look (s.pages p) refl e)
+  where
+    look : (o : Option Page) → s.pages p ≡ o → option_map (λ (g : Page). g.node) o ≡ Some d → p < 2 ^ 64
+    look None a b = none_some b
+    look (Some g) a b = below p g a
+
 pub contents_law : ContentsLaw
 contents_law s w f below t = go (s.roots t) (f.top t)
   where
-    nodes_below : (p : ℕ) (d : Node) → nodes_of s p ≡ Some d → p < page_numbers
-    nodes_below p d e = subst (λ n. p < n) (sym page_numbers_is) (look (s.pages p) refl e)
-      where
-        look : (o : Option Page) → s.pages p ≡ o → option_map (λ (g : Page). g.node) o ≡ Some d → p < 2 ^ 64
-        look None a b = none_some b
-        look (Some g) a b = below p g a
-
     go : (o : Option ℕ) → MatchOption o ((h : ℕ) → w.chain (place t h) ≡ []) (λ r. (h : ℕ) × (head (w.chain (place t h)) ≡ Some r) × (w.chain (place t (suc h)) ≡ []))
         → option_map (pairs_under (nodes_of s)) o ≡ option_map (λ _. contents (nodes_of s) w t) o
     go None m = refl
     go (Some r) m =
-        let fits = levels_few f page_numbers nodes_below t m.0 r m.1 in
+        let fits = levels_few f page_numbers (nodes_below s below) t m.0 r m.1 in
         let first = leads_down f t m.0 page_numbers r (under m.0 page_numbers fits) m.1 in
         let i = head_in _ _ first in
-        ap Some (ap (along page_numbers (nodes_of s)) (sym first) ∙ along_run page_numbers (nodes_of s) (w.chain (place t 0)) _ [] [] (chain_few f page_numbers nodes_below (place t 0)) (chain_run f (place t 0) _ i))
+        ap Some (ap (along page_numbers (nodes_of s)) (sym first) ∙ along_run page_numbers (nodes_of s) (w.chain (place t 0)) _ [] [] (chain_few f page_numbers (nodes_below s below) (place t 0)) (chain_run f (place t 0) _ i))
       where
         under : (h n : ℕ) → suc h ≤ n → h ≤ n
         under h n l = omega arith

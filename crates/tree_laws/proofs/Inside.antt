@@ -1,52 +1,28 @@
 -- A page lies within the bounds of the index above that covers its beginning.
-use Rattle.std.proofs.Common.{◌≡◌, ◌≢◌, ℕ, suc, true, List, [], ◌∷◌, ◌++◌, Option, Some, None, sym, ap, ◌∙◌, subst, inl, inr, ◌⊎◌}
-use Rattle.sled_nodes.proofs.Basics.{some_is}
+use Rattle.std.proofs.Common.{◌≡◌, ◌≢◌, ℕ, suc, List, [], ◌∷◌, ◌++◌, Option, Some, None, sym, ap, ◌∙◌, subst, inl, inr, ◌⊎◌}
+use Rattle.sled_nodes.proofs.Basics.{none_some, some_is}
 use Rattle.sled_store.specs.In.{In}
 use Rattle.sled_nodes.specs.Node.{Within}
 use Rattle.sled_nodes.specs.Order.{Below}
 use Rattle.sled_store.specs.State.{Nodes}
 use Rattle.sled_nodes.specs.declared.node.Node.{Node}
-use Rattle.tree_laws.specs.Forest.{Forest, Place, place, Run, WellFormed, head, Tree}
+use Rattle.tree_laws.specs.Forest.{Forest, Place, place, Run, WellFormed, Tree}
 use Rattle.tree_laws.specs.theory.PageLaws.{InsideLaw, ReachedLaw}
 use Rattle.tree_laws.proofs.Order.{upto-refl, upto-below, upto_cases, upto-trans, below_irrefl, below-trans, below_upto-trans}
 use Rattle.tree_laws.proofs.Pairs.{under}
-use Rattle.tree_laws.proofs.Runs.{In_split, In-right, run_parts}
-use Rattle.tree_laws.proofs.Cover.{chain_run, holds_at, first_pointer, later_in, later_above, run_order, one_cover}
+use Rattle.tree_laws.proofs.Runs.{In_split, In-right}
+use Rattle.tree_laws.proofs.Cover.{begins, chain_run, parted, run_order, one_cover}
 
 module _ {nodes : Nodes} {roots : Tree → Option ℕ} {w : Forest} (f : WellFormed nodes roots w) where
-  -- where an index begins a page of the level below does
-  pub begins : (t : Tree) (h r : ℕ) (b : Node) → In r (w.chain (place t (suc h))) → nodes r ≡ Some b → (z : ℕ) × (e : Node) × In z (w.chain (place t h)) × (nodes z ≡ Some e) × (e.lo ≡ b.lo)
-  begins t h r b j rb =
-      let s = holds_at f (place t (suc h)) r b j rb in
-      let p = first_pointer h b.lo b.hi b.content s in
-      let i = f.pointer t h r b j rb b.lo p.0 p.1 in
-      let g = f.page (place t h) p.0 i.homed in
-      let same : g.0 ≡ i.node = some_is (sym g.1.live ∙ i.live) in (
-        p.0,
-        i.node,
-        elim g.1.stands [
-          | inl a ↦ a
-          | inr m ↦
-              let k = f.child (place t (suc h)) r b j rb p.0 (i.merged (subst (λ (z : Node). z.merging ≡ true) same m)) in
-              let o = f.pointer t h r b j rb k.0 p.0 (later_in b.content k.0 p.0 k.1) in
-              let e : k.0 ≡ b.lo = sym o.key ∙ ap (λ (z : Node). z.lo) (some_is (sym o.live ∙ i.live)) ∙ i.key in
-              absurd (below_irrefl b.lo (subst (λ z. Below b.lo z) e (later_above h b.lo b.hi b.content s k.0 p.0 k.1)))
-        ],
-        i.live,
-        i.key,
-      )
-
   -- a page with an upper bound has a page behind it that begins there
   pub behind : (x : Place) (p : ℕ) (n : Node) → In p (w.chain x) → nodes p ≡ Some n → (n.hi ≡ []) ⊎ ((z : ℕ) × (e : Node) × In z (w.chain x) × (nodes z ≡ Some e) × (e.lo ≡ n.hi) × (n.next ≡ Some z))
   behind x p n i live =
       let s = In_split (w.chain x) p i in
-      let whole : Run nodes (s.0 ++ (p ∷ s.1)) (head (w.chain x)) [] None [] = subst (λ z. Run nodes z (head (w.chain x)) [] None []) s.2 (chain_run f x p i) in
-      let r = run_parts nodes s.0 (p ∷ s.1) _ _ _ _ whole in
-      go s.0 s.1 s.2 r.3.0 (some_is (sym r.3.1.live ∙ live)) r.3.2
+      go s.0 s.1 s.2 (parted f x p n s.0 s.1 s.2 live).2
     where
-      go : (xs zs : List ℕ) → w.chain x ≡ xs ++ (p ∷ zs) → (m : Node) → m ≡ n → Run nodes zs m.next m.hi None [] → (n.hi ≡ []) ⊎ ((z : ℕ) × (e : Node) × In z (w.chain x) × (nodes z ≡ Some e) × (e.lo ≡ n.hi) × (n.next ≡ Some z))
-      go xs [] e m is r = inl (ap (λ (z : Node). z.hi) (sym is) ∙ r.1)
-      go xs (z ∷ zs) e m is r = inr (z, r.0, subst (λ c. In z c) (sym e) (In-right xs (p ∷ (z ∷ zs)) z (inr (inl (λ i. z)))), r.1.live, sym r.1.lo_is ∙ ap (λ (z : Node). z.hi) is, ap (λ (z : Node). z.next) (sym is) ∙ r.1.here)
+      go : (xs zs : List ℕ) → w.chain x ≡ xs ++ (p ∷ zs) → Run nodes zs n.next n.hi None [] → (n.hi ≡ []) ⊎ ((z : ℕ) × (e : Node) × In z (w.chain x) × (nodes z ≡ Some e) × (e.lo ≡ n.hi) × (n.next ≡ Some z))
+      go xs [] e r = inl r.1
+      go xs (z ∷ zs) e r = inr (z, r.0, subst (λ c. In z c) (sym e) (In-right xs (p ∷ (z ∷ zs)) z (inr (inl (λ i. z)))), r.1.live, sym r.1.lo_is, r.1.here)
 
 pub inside_law : InsideLaw
 inside_law nodes roots w f t h p q n m i pn j qm begin k here = (
@@ -73,17 +49,12 @@ inside_law nodes roots w f t h p q n m i pn j qm begin k here = (
 pub covers_itself : {nodes : Nodes} {roots : Tree → Option ℕ} {w : Forest} (f : WellFormed nodes roots w) (x : Place) (p : ℕ) (n : Node) → In p (w.chain x) → nodes p ≡ Some n → Within n.lo n.hi n.lo
 covers_itself {nodes = nodes} {w = w} f x p n i live =
     let s = In_split (w.chain x) p i in
-    let whole : Run nodes (s.0 ++ (p ∷ s.1)) (head (w.chain x)) [] None [] = subst (λ z. Run nodes z (head (w.chain x)) [] None []) s.2 (chain_run f x p i) in
-    let r = run_parts nodes s.0 (p ∷ s.1) _ _ _ _ whole in
-    let is : r.3.0 ≡ n = some_is (sym r.3.1.live ∙ live) in
-    (upto-refl n.lo, subst (λ (z : Node). (z.hi ≡ []) ⊎ Below z.lo z.hi) is (elim r.3.1.rises [ inl e ↦ inl (ends s.1 r.3.0 e r.3.2) | inr b ↦ inr b ]))
+    let r = parted f x p n s.0 s.1 s.2 live in
+    (upto-refl n.lo, elim r.1 [ inl e ↦ inl (ends s.1 e r.2) | inr b ↦ inr b ])
   where
-    ends : (zs : List ℕ) (m : Node) → m.next ≡ None → Run nodes zs m.next m.hi None [] → m.hi ≡ []
-    ends [] m e r = r.1
-    ends (z ∷ zs) m e r = absurd (none (sym e ∙ r.1.here))
-      where
-        none : None ≡ Some z → ⊥
-        none g = cc
+    ends : (zs : List ℕ) → n.next ≡ None → Run nodes zs n.next n.hi None [] → n.hi ≡ []
+    ends [] e r = r.1
+    ends (z ∷ zs) e r = none_some (sym e ∙ r.1.here)
 
 pub reached_law : ReachedLaw
 reached_law nodes roots w f x p c n d i live there low far off j = elim far [

@@ -15,13 +15,14 @@ use Rattle.sled_nodes.specs.declared.node.Node.{Node}
 use Rattle.tree_laws.specs.theory.Action.{put_node}
 use Rattle.tree_laws.specs.Forest.{IsSized, first_child, later, Holds, IsNodeAt, Forest, Place, place, IsPointer, WellFormed, contents, node_pairs, Tree}
 use Rattle.tree_laws.specs.theory.Snapshot.{GrowsByReceiving, KeepsNodes}
+use Rattle.tree_laws.specs.theory.PageLaws.{Unseen}
 use Rattle.tree_laws.specs.theory.Laws.{IsAt, Changed, SetLaw, DelLaw}
 use Rattle.tree_laws.proofs.Order.{below_upto-trans}
 use Rattle.tree_laws.proofs.Pairs.{each_weaker, put-middle, without-middle}
 use Rattle.tree_laws.proofs.Runs.{In_split}
 use Rattle.tree_laws.proofs.Sizes.{replaced_sized, replaced_grows}
 use Rattle.tree_laws.proofs.Cover.{holds_at}
-use Rattle.tree_laws.proofs.Replace.{Replaces, replaced_kept, replaced_keeps, pairs_of, pairs_else, pairs_old, pairs_new, pairs_low, pairs_high}
+use Rattle.tree_laws.proofs.Replace.{Replaces, replaced_kept, replaced_keeps, pairs_kept, pairs_of, pairs_else, pairs_old, pairs_new, pairs_low, pairs_high}
 
 abbrev pub with_content : Node → Data → Node
 with_content n c = record n { content = c }
@@ -70,6 +71,16 @@ module _ (nodes : Nodes) (roots : Tree → Option ℕ) (w : Forest) (f : WellFor
 
   pub in_place_grows : count c ≤ 17 → GrowsByReceiving nodes (put_node nodes p (with_content n c)) w
   in_place_grows fits = replaced_grows in_place f (inr (inl fits))
+
+  pub in_place_unseen : pairs c ≡ pairs n.content → Unseen [] nodes (put_node nodes p (with_content n c)) roots w (count c ≤ 17)
+  in_place_unseen same = record {
+    after = w;
+    kept = in_place_kept;
+    same = pairs_kept in_place f (ap (λ z. node_pairs z ++ []) (put_here nodes p (Some (with_content n c))) ∙ ap (λ l. l ++ []) same ∙ sym (ap (λ z. node_pairs z ++ []) live));
+    keeps = in_place_keeps;
+    sized = in_place_sized;
+    grows = in_place_grows;
+  }
 
   -- a page that only loses entries
   pub in_place_shrinks : count c ≤ count n.content → IsSized nodes w → IsSized (put_node nodes p (with_content n c)) w

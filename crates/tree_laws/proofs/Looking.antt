@@ -1,8 +1,8 @@
 -- The reading walk, which repairs nothing, and how many pages it may look at.
-use Rattle.std.proofs.Common.{◌≡◌, ◌≢◌, ℕ, zero, suc, ◌+◌, ◌<◌, ◌≤◌, ◌^◌, Bool, true, false, List, [], ◌∷◌, ◌++◌, length, length-append, Option, Some, None, MatchOption, option_map, sym, refl, ap, ◌∙◌, subst, inl, inr, append_assoc, nat_eq, ◌||◌, arith}
+use Rattle.std.proofs.Common.{◌≡◌, ◌≢◌, ℕ, zero, suc, ◌+◌, ◌<◌, ◌≤◌, Bool, true, false, List, [], ◌∷◌, ◌++◌, length, length-append, Option, Some, None, MatchOption, sym, refl, ap, ◌∙◌, subst, inl, inr, append_assoc, nat_eq, arith}
 use Rattle.std.specs.List.{list_any}
 use Rattle.std.specs.declared.ops.Bound.{Bound}
-use Rattle.sled_nodes.proofs.Basics.{none_some, some_is}
+use Rattle.sled_nodes.proofs.Basics.{none_some, some_is, true_false}
 use Rattle.sled_nodes.specs.Among.{IsPointer, is_up_to}
 use Rattle.sled_store.specs.In.{In}
 use Rattle.sled_nodes.specs.Node.{pointers}
@@ -10,20 +10,20 @@ use Rattle.sled_nodes.specs.Order.{Key}
 use Rattle.sled_store.specs.State.{Nodes, nodes_of}
 use Rattle.sled_nodes.specs.declared.node.Node.{Node}
 use Rattle.sled_nodes.specs.declared.node.Data.TheVariants.{Leaf, Index}
-use Rattle.sled_store.specs.declared.page.Page.{Page}
 use Rattle.tree_laws.specs.Forest.{Tree, Forest, Place, place, head, first_child, Holds, Run, WellFormed, later}
 use Rattle.tree_laws.specs.Contents.{page_numbers, next_of, first_of}
 use Rattle.tree_laws.specs.Paths.{NeedsNoRepair, CleanFrom, length_along, pages_under, pages_below, IsAhead}
 use Rattle.tree_laws.specs.theory.PathLaws.{PointerInLaw, NextInLaw, AheadLaw, CleanStepLaw, LastPointerLaw}
 use Rattle.tree_laws.specs.theory.Laws.{PagesLaw, CleanLaw}
-use Rattle.tree_laws.proofs.Runs.{In_split, In-right, run_parts}
-use Rattle.tree_laws.proofs.Replace.{head_in}
-use Rattle.tree_laws.proofs.Cover.{chain_run}
+use Rattle.tree_laws.proofs.Runs.{In_split, In-right}
+use Rattle.std.proofs.lemmas.Bool.{or_parts}
+use Rattle.tree_laws.proofs.Replace.{head_in, not_both}
+use Rattle.tree_laws.proofs.Cover.{chain_run, parted}
 use Rattle.tree_laws.proofs.Inside.{behind}
 use Rattle.tree_laws.proofs.Reading.{child_of}
 use Rattle.tree_laws.proofs.Cover.{holds_at}
 use Rattle.tree_laws.proofs.Known.{root_in, leaf_in, index_high}
-use Rattle.tree_laws.proofs.Fuel.{page_numbers_is, chain_few, levels_few, leaf_first}
+use Rattle.tree_laws.proofs.Fuel.{nodes_below, chain_few, levels_few, leaf_first}
 
 module _ {nodes : Nodes} {roots : Tree → Option ℕ} {w : Forest} (f : WellFormed nodes roots w) where
   -- where a pointer that is not to the merging child leads stands in the chain below
@@ -42,15 +42,13 @@ module _ {nodes : Nodes} {roots : Tree → Option ℕ} {w : Forest} (f : WellFor
   pub next_in : (x : Place) (p q : ℕ) (n : Node) → In p (w.chain x) → nodes p ≡ Some n → n.next ≡ Some q → (d : Node) × In q (w.chain x) × (nodes q ≡ Some d) × (d.lo ≡ n.hi)
   next_in x p q n i live next =
       let s = In_split (w.chain x) p i in
-      let whole : Run nodes (s.0 ++ (p ∷ s.1)) (head (w.chain x)) [] None [] = subst (λ z. Run nodes z (head (w.chain x)) [] None []) s.2 (chain_run f x p i) in
-      let r = run_parts nodes s.0 (p ∷ s.1) _ _ _ _ whole in
-      go s.0 s.1 s.2 r.3.0 (some_is (sym r.3.1.live ∙ live)) r.3.2
+      go s.0 s.1 s.2 (parted f x p n s.0 s.1 s.2 live).2
     where
-      go : (xs zs : List ℕ) → w.chain x ≡ xs ++ (p ∷ zs) → (m : Node) → m ≡ n → Run nodes zs m.next m.hi None [] → (d : Node) × In q (w.chain x) × (nodes q ≡ Some d) × (d.lo ≡ n.hi)
-      go xs [] e m is r = none_some (sym r.0 ∙ ap (λ (z : Node). z.next) is ∙ next)
-      go xs (z ∷ zs) e m is r =
-          let same : z ≡ q = some_is (sym r.1.here ∙ ap (λ (z : Node). z.next) is ∙ next) in
-          (r.0, subst (λ l. In q l) (sym e) (In-right xs (p ∷ (z ∷ zs)) q (inr (inl (sym same)))), ap nodes (sym same) ∙ r.1.live, sym r.1.lo_is ∙ ap (λ (z : Node). z.hi) is)
+      go : (xs zs : List ℕ) → w.chain x ≡ xs ++ (p ∷ zs) → Run nodes zs n.next n.hi None [] → (d : Node) × In q (w.chain x) × (nodes q ≡ Some d) × (d.lo ≡ n.hi)
+      go xs [] e r = none_some (sym r.0 ∙ next)
+      go xs (z ∷ zs) e r =
+          let same : z ≡ q = some_is (sym r.1.here ∙ next) in
+          (r.0, subst (λ l. In q l) (sym e) (In-right xs (p ∷ (z ∷ zs)) q (inr (inl (sym same)))), ap nodes (sym same) ∙ r.1.live, sym r.1.lo_is)
 
   -- a page with an upper bound has a next page
   pub next_some : (x : Place) (p : ℕ) (n : Node) → In p (w.chain x) → nodes p ≡ Some n → n.hi ≢ [] → (q : ℕ) × (n.next ≡ Some q)
@@ -73,16 +71,12 @@ module _ {nodes : Nodes} {roots : Tree → Option ℕ} {w : Forest} (f : WellFor
 
   -- a step to the next page leaves one page less ahead
   pub ahead_next : (t : Tree) (h p q n : ℕ) (d : Node) → IsAhead w t h p n → nodes p ≡ Some d → d.next ≡ Some q → (k : ℕ) × (k < n) × IsAhead w t h q k
-  ahead_next t h p q n d a live next =
-      let i : In p (w.chain (place t h)) = subst (λ l. In p l) (sym a.is) (In-right a.before (p ∷ a.behind) p (inl refl)) in
-      let whole : Run nodes (a.before ++ (p ∷ a.behind)) (head (w.chain (place t h))) [] None [] = subst (λ z. Run nodes z (head (w.chain (place t h))) [] None []) a.is (chain_run f (place t h) p i) in
-      let r = run_parts nodes a.before (p ∷ a.behind) _ _ _ _ whole in
-      go a.behind a.is a.count r.3.0 (some_is (sym r.3.1.live ∙ live)) r.3.2
+  ahead_next t h p q n d a live next = go a.behind a.is a.count (parted f (place t h) p d a.before a.behind a.is live).2
     where
-      go : (ys : List ℕ) → w.chain (place t h) ≡ a.before ++ (p ∷ ys) → n ≡ length (p ∷ ys) + pages_below w t h → (m : Node) → m ≡ d → Run nodes ys m.next m.hi None [] → (k : ℕ) × (k < n) × IsAhead w t h q k
-      go [] e c m is r = none_some (sym r.0 ∙ ap (λ (z : Node). z.next) is ∙ next)
-      go (y ∷ ys) e c m is r =
-          let same : y ≡ q = some_is (sym r.1.here ∙ ap (λ (z : Node). z.next) is ∙ next) in (
+      go : (ys : List ℕ) → w.chain (place t h) ≡ a.before ++ (p ∷ ys) → n ≡ length (p ∷ ys) + pages_below w t h → Run nodes ys d.next d.hi None [] → (k : ℕ) × (k < n) × IsAhead w t h q k
+      go [] e c r = none_some (sym r.0 ∙ next)
+      go (y ∷ ys) e c r =
+          let same : y ≡ q = some_is (sym r.1.here ∙ next) in (
             length (y ∷ ys) + pages_below w t h,
             less (length (y ∷ ys)) (pages_below w t h) c,
             record { before = a.before ++ (p ∷ []); behind = ys; is = e ∙ ap (λ z. a.before ++ (p ∷ (z ∷ ys))) same ∙ sym (append_assoc a.before (p ∷ []) (q ∷ ys)); count = refl },
@@ -144,32 +138,14 @@ module _ {nodes : Nodes} {roots : Tree → Option ℕ} {w : Forest} (f : WellFor
 pub pages_law : PagesLaw
 pages_law s w f below t root is =
     let m = subst (λ o. MatchOption o ((h : ℕ) → w.chain (place t h) ≡ []) (λ r. (h : ℕ) × (head (w.chain (place t h)) ≡ Some r) × (w.chain (place t (suc h)) ≡ []))) is (f.top t) in
-    (m.0, head_in _ root m.1, ap (pages_under page_numbers (nodes_of s)) is ∙ under_count f nodes_below t m.0 page_numbers root (levels_few f page_numbers nodes_below t m.0 root m.1) m.1)
-  where
-    nodes_below : (p : ℕ) (d : Node) → nodes_of s p ≡ Some d → p < page_numbers
-    nodes_below p d e = subst (λ n. p < n) (sym page_numbers_is) (look (s.pages p) refl e)
-      where
-        look : (o : Option Page) → s.pages p ≡ o → option_map (λ (g : Page). g.node) o ≡ Some d → p < 2 ^ 64
-        look None a b = none_some b
-        look (Some g) a b = below p g a
+    (m.0, head_in _ root m.1, ap (pages_under page_numbers (nodes_of s)) is ∙ under_count f (nodes_below s below) t m.0 page_numbers root (levels_few f page_numbers (nodes_below s below) t m.0 root m.1) m.1)
 
 -- clean paths
 
 -- who passes is not among those of whom none does
 none_in : {X P : Type 0} (passes : X → Bool) (xs ys : List X) (x : X) → passes x ≡ true → list_any passes (xs ++ x ∷ ys) ≡ false → P
-none_in passes [] ys x p e = absurd (apart (passes x) (list_any passes ys) p e)
-  where
-    apart : (a b : Bool) → a ≡ true → (a || b) ≡ false → ⊥
-    apart true b p e = cc
-    apart false b p e = cc
-none_in passes (z ∷ xs) ys x p e = none_in passes xs ys x p (second (passes z) (list_any passes (xs ++ x ∷ ys)) e)
-  where
-    second : (a b : Bool) → (a || b) ≡ false → b ≡ false
-    second true b e = absurd (apart e)
-      where
-        apart : true ≡ false → ⊥
-        apart e = cc
-    second false b e = e
+none_in passes [] ys x p e = not_both (passes x) (or_parts (passes x) (list_any passes ys) e).0 p
+none_in passes (z ∷ xs) ys x p e = none_in passes xs ys x p (or_parts (passes z) (list_any passes (xs ++ x ∷ ys)) e).1
 
 cons_first : {X : Type 0} {x y : X} {xs ys : List X} → x ∷ xs ≡ y ∷ ys → x ≡ y
 cons_first e = cc
@@ -242,10 +218,7 @@ last_in {bound} {es} {c} {b} k = (
 )
   where
     go : (xs : List (Key × ℕ)) → nat_eq (length xs) 0 ≡ false → In (k.key, c) (later (xs ++ (k.key, c) ∷ k.last.after))
-    go [] off = absurd (apart off)
-      where
-        apart : true ≡ false → ⊥
-        apart e = cc
+    go [] off = true_false off
     go (x ∷ xs) off = In-right xs ((k.key, c) ∷ k.last.after) (k.key, c) (inl refl)
 
 -- a clean path from a page of a level has a page of each level from there on

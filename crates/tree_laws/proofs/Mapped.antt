@@ -1,13 +1,14 @@
 -- What steps do to the contents of all trees, as a function of the state, and to what a crash may leave.
-use Rattle.std.proofs.Common.{◌≡◌, ℕ, suc, [], Option, Some, None, MatchOption, option_map, sym, refl, ap, ◌∙◌, subst, inl}
+use Rattle.std.proofs.Common.{◌≡◌, ℕ, [], Option, Some, None, option_map, sym, refl, ap, ◌∙◌}
 use Rattle.sled_nodes.proofs.Basics.{none_some}
 use Rattle.sled_nodes.specs.declared.node.Data.TheVariants.{Leaf}
 use Rattle.sled_store.specs.theory.Facts.{put_name_here, put_name_elsewhere}
-use Rattle.tree_laws.specs.Forest.{Tree, Forest, place, head, contents}
+use Rattle.tree_laws.specs.Forest.{Tree, Forest, contents}
 use Rattle.tree_laws.specs.Contents.{trees_of}
 use Rattle.tree_laws.specs.Snapshot.{Snapshot, snapshot_of, nodes_at, HasForest}
-use Rattle.tree_laws.specs.theory.Laws.{no_forest, IsAlone, after_creation, after_drop}
+use Rattle.tree_laws.specs.theory.Laws.{IsAlone, after_creation, after_drop}
 use Rattle.tree_laws.specs.theory.MapLaws.{MapLaw, QuietLaw, ChangedLaw, QuietCrashLaw, WellLaw, PlantsLaw, DropsLaw, NewLaw}
+use Rattle.tree_laws.proofs.Empty.{no_trees, no_sizes}
 use Rattle.tree_laws.proofs.Roots.{plant_law, drop_law}
 use Rattle.tree_laws.proofs.States.{planted_law, dropped_law}
 use Rattle.tree_laws.proofs.Fuel.{contents_law}
@@ -104,15 +105,7 @@ new_law m pages roots numbers = (
     rooted = λ t n e. none_some (sym (numbers t) ∙ e);
     given = λ t n e. none_some (sym (numbers t) ∙ e);
     apart = λ t u n e. none_some (sym (numbers t) ∙ e);
-    formed = record {
-      homed = λ x p i. absurd i;
-      page = λ x p e. none_some e;
-      run = λ x. inl refl;
-      pointer = λ t h p n i. absurd i;
-      child = λ x p n i. absurd i;
-      down = λ t h p n e. none_some e;
-      top = λ t. subst (λ o. MatchOption o ((h : ℕ) → no_forest.chain (place t h) ≡ []) (λ r. (h : ℕ) × (head (no_forest.chain (place t h)) ≡ Some r) × (no_forest.chain (place t (suc h)) ≡ []))) (sym (roots t)) (λ h. refl);
-    };
+    formed = no_trees _ _ roots;
   },
-  record { fits = λ x p n e. none_some e; child = λ x p c n d i. absurd i },
+  no_sizes _,
 )

@@ -5,7 +5,7 @@ use Rattle.std.specs.declared.cmp.Ordering.{Ordering}
 use Rattle.std.specs.declared.ops.Bound.{Bound}
 use Rattle.std.specs.declared.ops.Bound.TheVariants.{Included, Excluded, Unbounded}
 use Rattle.std.proofs.lemmas.Cmp.{upto, tied_itself}
-use Rattle.sled_nodes.proofs.Basics.{key_total, key_same}
+use Rattle.sled_nodes.proofs.Basics.{key_total, key_same, true_false}
 use Rattle.sled_nodes.specs.Order.{Key, key_cmp, Below, UpTo}
 use Rattle.sled_nodes.specs.Among.{is_up_to}
 use Rattle.sled_nodes.specs.Node.{Covers}
@@ -75,10 +75,7 @@ within_below (Excluded k) a b p q = below_upto-trans a k b (less (key_cmp a k) p
     go Less e r = cc
     go Equal e r = ap is_gt r
     go Greater e r = ap is_gt r
-within_below Unbounded a b p q = absurd (apart q)
-  where
-    apart : true ≡ false → ⊥
-    apart e = cc
+within_below Unbounded a b p q = true_false q
 
 -- at a key, what lies under the aim is what covers the key
 pub covers_under : (key : Key) (n : Node) → Covers n key → LiesUnder (Included key) n

@@ -1,21 +1,20 @@
 -- A pointer goes into an index.
-use Rattle.std.proofs.Common.{◌≡◌, ℕ, suc, ◌≤◌, false, List, [], ◌∷◌, ◌++◌, length, Option, Some, None, Less, Equal, Greater, sym, refl, ap, ◌∙◌, subst, inl, inr, ◌⊎◌, arith}
+use Rattle.std.proofs.Common.{◌≡◌, ℕ, suc, ◌≤◌, false, List, [], ◌∷◌, length, Option, Some, Less, Equal, Greater, sym, refl, ap, ◌∙◌, subst, inl, inr, ◌⊎◌}
 use Rattle.std.specs.FinMap.Entries.{put, by_order, is_sorted-put}
 use Rattle.sled_nodes.proofs.Basics.{none_some, some_is, key_total, key_same}
 use Rattle.sled_store.specs.In.{In}
 use Rattle.sled_nodes.specs.Node.{Within, pairs, pointers}
 use Rattle.sled_nodes.specs.Order.{Key, key_cmp, Below}
 use Rattle.sled_store.specs.State.{Nodes}
-use Rattle.sled_store.specs.theory.Facts.{put_here}
 use Rattle.sled_nodes.specs.declared.node.Data.TheVariants.{Index}
 use Rattle.sled_nodes.specs.declared.node.Node.{Node}
 use Rattle.tree_laws.specs.theory.Action.{put_node}
-use Rattle.tree_laws.specs.Forest.{IsNodeAt, later, first_key, first_child, Holds, Forest, Place, place, IsPointer, WellFormed, node_pairs, Tree}
+use Rattle.tree_laws.specs.Forest.{IsNodeAt, later, first_key, first_child, Holds, Forest, place, IsPointer, WellFormed, Tree}
 use Rattle.tree_laws.specs.theory.PageLaws.{IsOpenAt, Unseen, PostLaw}
 use Rattle.tree_laws.proofs.Pairs.{above}
-use Rattle.tree_laws.proofs.Replace.{not_both, replaced_kept, replaced_keeps, pairs_kept}
+use Rattle.tree_laws.proofs.Replace.{not_both, place_below}
 use Rattle.tree_laws.proofs.Cover.{holds_at}
-use Rattle.tree_laws.proofs.Leaf.{with_content, in_place, in_place_sized, in_place_grows, each_put}
+use Rattle.tree_laws.proofs.Leaf.{with_content, in_place_unseen, each_put}
 use Rattle.tree_laws.proofs.Split.{pointer_like}
 
 put_in : (k : Key) (q : ℕ) (es : List (Key × ℕ)) (l : Key) (d : ℕ) → In (l, d) (put key_cmp k q es) → In (l, d) es ⊎ ((d ≡ q) × (l ≡ k))
@@ -37,38 +36,23 @@ first_on lo k q (a ∷ es) b e =
     )
 
 module _ (nodes : Nodes) (roots : Tree → Option ℕ) (w : Forest) (f : WellFormed nodes roots w) (t : Tree) (h p q : ℕ) (n d : Node) (es : List (Key × ℕ)) (o : IsOpenAt nodes w (place t (suc h)) p n) (index : n.content ≡ Index es) (home : w.home q ≡ Some (place t h)) (there : nodes q ≡ Some d) (up : d.merging ≡ false) (low : Below n.lo d.lo) (within : Within n.lo n.hi d.lo) where
-  i : In p (w.chain (place t (suc h)))
-  i = o.chained
-
-  live : nodes p ≡ Some n
-  live = o.live
-
-  not_merging : n.merging ≡ false
-  not_merging = o.is_open.not_merging
-
-  free : n.merging_child ≡ None
-  free = o.is_open.free
-
   holds : Holds (suc h) n.lo n.hi (Index es)
-  holds = subst (λ z. Holds (suc h) n.lo n.hi z) index (holds_at f (place t (suc h)) p n i live)
+  holds = subst (λ z. Holds (suc h) n.lo n.hi z) index (holds_at f (place t (suc h)) p n o.chained o.live)
 
   first : (first_key (put key_cmp d.lo q es) ≡ Some n.lo) × (first_child (put key_cmp d.lo q es) ≡ first_child es)
   first = first_on n.lo d.lo q es low holds.2
 
   pointer : (u : Tree) (g : ℕ) → place t (suc h) ≡ place u (suc g) → (k : Key) (c : ℕ) → In (k, c) (put key_cmp d.lo q es) → IsPointer nodes w (with_content n (Index (put key_cmp d.lo q es))) u g k c
   pointer u g at k c j = elim (put_in d.lo q es k c j) [
-    | inl a ↦ pointer_like nodes w n _ u g k c refl (f.pointer u g p n (subst (λ z. In p (w.chain z)) at i) live k c (subst (λ z. In (k, c) (pointers z)) (sym index) a))
+    | inl a ↦ pointer_like nodes w n _ u g k c refl (f.pointer u g p n (subst (λ z. In p (w.chain z)) at o.chained) o.live k c (subst (λ z. In (k, c) (pointers z)) (sym index) a))
     | inr a ↦ record {
       node = d;
       live = ap nodes a.0 ∙ there;
-      homed = ap w.home a.0 ∙ home ∙ ap Some (lower t h u g at);
+      homed = ap w.home a.0 ∙ home ∙ ap Some (place_below t u h g at);
       key = sym a.1;
       merged = λ v. not_both d.merging up v;
     }
   ]
-    where
-      lower : (t : Tree) (h : ℕ) (u : Tree) (g : ℕ) → place t (suc h) ≡ place u (suc g) → place t h ≡ place u g
-      lower t h u g e = let a : t ≡ u = ap (λ (z : Place). z.tree) e in let b : suc h ≡ suc g = ap (λ (z : Place). z.height) e in let d : h ≡ g = omega arith in λ i. place (a i) (d i)
 
   sound : IsNodeAt (suc h) (with_content n (Index (put key_cmp d.lo q es)))
   sound = record { holds = (is_sorted-put key_cmp key_total d.lo q es holds.0, each_put (Within n.lo n.hi) d.lo q es within holds.1, first.0) }
@@ -78,16 +62,8 @@ module _ (nodes : Nodes) (roots : Tree → Option ℕ) (w : Forest) (f : WellFor
 
   posted : Unseen [] nodes (put_node nodes p (with_content n (Index (put key_cmp d.lo q es)))) roots w (length (put key_cmp d.lo q es) ≤ 17)
   posted =
-      let child : (c : ℕ) → n.merging_child ≡ Some c → (k : Key) × In (k, c) (later (put key_cmp d.lo q es)) = λ c e. none_some (sym free ∙ e) in
-      let r = in_place nodes roots w f (place t (suc h)) p n (Index (put key_cmp d.lo q es)) i live not_merging sound first_on_node child pointer in
-      record {
-        after = w;
-        kept = replaced_kept r f;
-        same = pairs_kept r f (ap (λ z. node_pairs z ++ []) (put_here nodes p (Some (with_content n (Index (put key_cmp d.lo q es))))) ∙ sym (ap (λ z. node_pairs z ++ []) live ∙ ap (λ z. pairs z ++ []) index));
-        keeps = replaced_keeps r f [] (λ z e. e);
-        sized = in_place_sized nodes roots w f (place t (suc h)) p n (Index (put key_cmp d.lo q es)) i live not_merging sound first_on_node child pointer;
-        grows = in_place_grows nodes roots w f (place t (suc h)) p n (Index (put key_cmp d.lo q es)) i live not_merging sound first_on_node child pointer;
-      }
+      let child : (c : ℕ) → n.merging_child ≡ Some c → (k : Key) × In (k, c) (later (put key_cmp d.lo q es)) = λ c e. none_some (sym o.is_open.free ∙ e) in
+      in_place_unseen nodes roots w f (place t (suc h)) p n (Index (put key_cmp d.lo q es)) o.chained o.live o.is_open.not_merging sound first_on_node child pointer (sym (ap pairs index))
 
 pub post_law : PostLaw
 post_law = posted

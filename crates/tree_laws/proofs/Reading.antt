@@ -3,9 +3,9 @@ use Rattle.std.proofs.Common.{◌≢◌, ◌≡◌, ℕ, zero, suc, ◌≤◌, c
 use Rattle.std.specs.List.{AllByRecursion}
 use Rattle.std.specs.Ordering.{eq_by_cmp}
 use Rattle.std.specs.FinMap.Entries.{find, is_sorted, below_all}
-use Rattle.sled_nodes.proofs.Basics.{some_is, left_of, right_of, both_of}
+use Rattle.sled_nodes.proofs.Basics.{some_is, left_of, right_of, both_of, none_some}
 use Rattle.sled_store.specs.In.{In}
-use Rattle.sled_nodes.specs.Node.{Within, pairs, pointers}
+use Rattle.sled_nodes.specs.Node.{pairs, pointers}
 use Rattle.sled_nodes.specs.Order.{Key, key_cmp, Below, UpTo}
 use Rattle.sled_store.specs.State.{Nodes}
 use Rattle.sled_nodes.specs.declared.node.Data.{Data}
@@ -14,10 +14,10 @@ use Rattle.sled_nodes.specs.declared.node.Node.{Node}
 use Rattle.tree_laws.specs.Forest.{first_child, Holds, Forest, Place, place, Run, WellFormed, node_pairs, head, Tree}
 use Rattle.tree_laws.specs.theory.Laws.{RangeLaw, FindLaw, SortedLaw, OneLaw}
 use Rattle.tree_laws.proofs.Order.{below_upto-trans}
-use Rattle.tree_laws.proofs.Pairs.{not_below_empty, leaf_within, above, each_weaker, pairs_before, pairs_above, pairs_from, Leaves}
-use Rattle.tree_laws.proofs.Runs.{rises_on, In_split, In-left, In-right, run_parts}
+use Rattle.tree_laws.proofs.Pairs.{not_below_empty, leaf_within, above, each_weaker, pairs_before, pairs_from, Leaves}
+use Rattle.tree_laws.proofs.Runs.{rises_on, In_split, In-left, In-right}
 use Rattle.tree_laws.proofs.Replace.{pairs_of, pairs-three, head_in}
-use Rattle.tree_laws.proofs.Cover.{chain_run, holds_at, child_below, later_in}
+use Rattle.tree_laws.proofs.Cover.{parted, holds_at, child_below, later_in}
 
 find-below : (k : Key) (xs ys : List (Key × Key)) → AllByRecursion (λ e. Below e.0 k) xs → find key_cmp k (xs ++ ys) ≡ find key_cmp k ys
 find-below k [] ys a = refl
@@ -31,24 +31,6 @@ find-above k (m ∷ ms) ys a = ap (λ r. cond (eq_by_cmp key_cmp k m.0) (Some m.
 leaves : {nodes : Nodes} {roots : Tree → Option ℕ} {w : Forest} (f : WellFormed nodes roots w) (t : Tree) (qs : List ℕ) → ((q : ℕ) → In q qs → In q (w.chain (place t 0))) → Leaves nodes qs
 leaves f t qs there q d i live = holds_at f (place t 0) q d (there q i) live
 
-pub find_law : FindLaw
-find_law nodes roots w f t p n k i live within =
-    let s = In_split (w.chain (place t 0)) p i in
-    let whole : Run nodes (s.0 ++ (p ∷ s.1)) (head (w.chain (place t 0))) [] None [] = subst (λ z. Run nodes z (head (w.chain (place t 0))) [] None []) s.2 (chain_run f (place t 0) p i) in
-    let r = run_parts nodes s.0 (p ∷ s.1) _ _ _ _ whole in
-    let is : r.3.0 ≡ n = some_is (sym r.3.1.live ∙ live) in
-    let in_xs : (q : ℕ) → In q s.0 → In q (w.chain (place t 0)) = λ q j. subst (λ c. In q c) (sym s.2) (In-left s.0 (p ∷ s.1) q j) in
-    let in_ys : (q : ℕ) → In q s.1 → In q (w.chain (place t 0)) = λ q j. subst (λ c. In q c) (sym s.2) (In-right s.0 (p ∷ s.1) q (inr j)) in
-    let early : Run nodes s.0 (head (w.chain (place t 0))) [] (Some p) r.1 = subst (λ g. Run nodes s.0 (head (w.chain (place t 0))) [] g r.1) r.3.1.here r.2 in
-    let key : r.1 ≡ n.lo = r.3.1.lo_is ∙ ap (λ (z : Node). z.lo) is in
-    let low : AllByRecursion (λ e. Below e.0 k) (pairs_of nodes s.0) =
-    each_weaker (λ e. Below e.0 r.1) (λ e. Below e.0 k) (λ e h. below_upto-trans e.0 r.1 k h (subst (λ z. UpTo z k) (sym key) within.0)) _ (pairs_before nodes s.0 _ p _ _ (leaves f t s.0 in_xs) early) in
-    let high : AllByRecursion (λ e. Below k e.0) (pairs_of nodes s.1) =
-    pairs_above nodes r.3.0 s.1 _ _ k (leaves f t s.1 in_ys) r.3.1.rises r.3.2 (subst (λ (z : Node). Within z.lo z.hi k) (sym is) within) in
-    ap (λ c. find key_cmp k (pairs_of nodes c)) s.2 ∙ ap (find key_cmp k) (pairs-three nodes s.0 (p ∷ []) s.1)
-    ∙ find-below k (pairs_of nodes s.0) _ low ∙ find-above k (pairs_of nodes (p ∷ [])) (pairs_of nodes s.1) high
-    ∙ ap (find key_cmp k) (ap (λ z. node_pairs z ++ []) live ∙ append-nil (pairs n.content))
-
 -- what lies behind a page is at or above its end
 behind_end : (nodes : Nodes) (n : Node) (ys : List ℕ) (hi : Key) → Leaves nodes ys → (n.next ≡ None) ⊎ Below n.lo n.hi → Run nodes ys n.next n.hi None hi → AllByRecursion (λ e. (n.hi ≢ []) × UpTo n.hi e.0) (pairs_of nodes ys)
 behind_end nodes n [] hi s o r = tt
@@ -59,20 +41,23 @@ behind_end nodes n (q ∷ qs) hi s o r =
 pub range_law : RangeLaw
 range_law nodes roots w f t p n i live =
     let s = In_split (w.chain (place t 0)) p i in
-    let whole : Run nodes (s.0 ++ (p ∷ s.1)) (head (w.chain (place t 0))) [] None [] = subst (λ z. Run nodes z (head (w.chain (place t 0))) [] None []) s.2 (chain_run f (place t 0) p i) in
-    let r = run_parts nodes s.0 (p ∷ s.1) _ _ _ _ whole in
-    let is : r.3.0 ≡ n = some_is (sym r.3.1.live ∙ live) in
+    let r = parted f (place t 0) p n s.0 s.1 s.2 live in
     let in_xs : (q : ℕ) → In q s.0 → In q (w.chain (place t 0)) = λ q j. subst (λ c. In q c) (sym s.2) (In-left s.0 (p ∷ s.1) q j) in
-    let in_ys : (q : ℕ) → In q s.1 → In q (w.chain (place t 0)) = λ q j. subst (λ c. In q c) (sym s.2) (In-right s.0 (p ∷ s.1) q (inr j)) in
-    let early : Run nodes s.0 (head (w.chain (place t 0))) [] (Some p) r.1 = subst (λ g. Run nodes s.0 (head (w.chain (place t 0))) [] g r.1) r.3.1.here r.2 in
-    let key : r.1 ≡ n.lo = r.3.1.lo_is ∙ ap (λ (z : Node). z.lo) is in (
+    let in_ys : (q : ℕ) → In q s.1 → In q (w.chain (place t 0)) = λ q j. subst (λ c. In q c) (sym s.2) (In-right s.0 (p ∷ s.1) q (inr j)) in (
       pairs_of nodes s.0,
       pairs_of nodes s.1,
       ap (pairs_of nodes) s.2 ∙ pairs-three nodes s.0 (p ∷ []) s.1 ∙ ap (λ z. pairs_of nodes s.0 ++ (z ++ pairs_of nodes s.1)) (ap (λ z. node_pairs z ++ []) live ∙ append-nil (pairs n.content)),
-      subst (λ k. AllByRecursion (λ e. Below e.0 k) (pairs_of nodes s.0)) key (pairs_before nodes s.0 _ p _ _ (leaves f t s.0 in_xs) early),
+      pairs_before nodes s.0 _ p _ _ (leaves f t s.0 in_xs) r.0,
       leaf_within n.lo n.hi n.content (holds_at f (place t 0) p n i live),
-      subst (λ (z : Node). AllByRecursion (λ e. (z.hi ≢ []) × UpTo z.hi e.0) (pairs_of nodes s.1)) is (behind_end nodes r.3.0 s.1 [] (leaves f t s.1 in_ys) r.3.1.rises r.3.2),
+      behind_end nodes n s.1 [] (leaves f t s.1 in_ys) r.1 r.2,
     )
+
+pub find_law : FindLaw
+find_law nodes roots w f t p n k i live within =
+    let r = range_law nodes roots w f t p n i live in
+    let low = each_weaker (λ e. Below e.0 n.lo) (λ e. Below e.0 k) (λ e h. below_upto-trans e.0 n.lo k h within.0) _ r.3 in
+    let high = each_weaker (λ e. (n.hi ≢ []) × UpTo n.hi e.0) (λ e. Below k e.0) (λ e u. elim within.1 [ inl none ↦ absurd (u.0 none) | inr b ↦ below_upto-trans k n.hi e.0 b u.1 ]) _ r.5 in
+    ap (find key_cmp k) r.2 ∙ find-below k r.0 _ low ∙ find-above k (pairs n.content) r.1 high
 
 all_above : {X : Type 0} (a : Key) (ys : List (Key × X)) → AllByRecursion (λ e. Below a e.0) ys → T (below_all key_cmp a ys)
 all_above a [] h = tt
@@ -119,14 +104,8 @@ sorted_law nodes roots w f t = elim (f.run (place t 0)) [
 -- where a chain begins decides it
 one_run : (nodes : Nodes) (ps qs : List ℕ) (from : Option ℕ) (lo hi lo' hi' : Key) → Run nodes ps from lo None hi → Run nodes qs from lo' None hi' → ps ≡ qs
 one_run nodes [] [] from lo hi lo' hi' r s = refl
-one_run nodes [] (q ∷ qs) from lo hi lo' hi' r s = absurd (no (sym r.0 ∙ s.1.here))
-  where
-    no : None ≡ Some q → ⊥
-    no e = cc
-one_run nodes (p ∷ ps) [] from lo hi lo' hi' r s = absurd (no (sym s.0 ∙ r.1.here))
-  where
-    no : None ≡ Some p → ⊥
-    no e = cc
+one_run nodes [] (q ∷ qs) from lo hi lo' hi' r s = none_some (sym r.0 ∙ s.1.here)
+one_run nodes (p ∷ ps) [] from lo hi lo' hi' r s = none_some (sym s.0 ∙ r.1.here)
 one_run nodes (p ∷ ps) (q ∷ qs) from lo hi lo' hi' r s =
     let e : p ≡ q = some_is (sym r.1.here ∙ s.1.here) in
     let n : s.0 ≡ r.0 = some_is (sym s.1.live ∙ ap nodes (sym e) ∙ r.1.live) in
@@ -152,10 +131,7 @@ module _ {nodes : Nodes} {roots : Tree → Option ℕ} {w : Forest} (f : WellFor
         where
           go : (c : Data) → Holds (suc h) n.lo n.hi c → (d : ℕ) × (first_child (pointers c) ≡ Some d)
           go (Leaf es) s = absurd s
-          go (Index []) s = absurd (no s.2)
-            where
-              no : None ≡ Some n.lo → ⊥
-              no e = cc
+          go (Index []) s = none_some s.2
           go (Index (e ∷ es)) s = (e.1, refl)
 
   empty_level : (t : Tree) (g h : ℕ) → w.chain (place t g) ≡ [] → g ≤ h → w.chain (place t h) ≡ []

@@ -1,10 +1,9 @@
 -- Laws that are false.
 use Rattle.std.proofs.Common.{◌≡◌, ◌≢◌, ℕ, ◌<◌, ◌≤◌, ◌^◌, true, false, [], ◌∷◌, Some, None, sym, refl, ap, ◌∙◌, subst, inl, inr, arith}
 use Rattle.sled_nodes.proofs.Basics.{none_some, some_is, same_or_not}
-use Rattle.sled_store.specs.In.{In}
 use Rattle.sled_nodes.specs.Image.{root_in}
 use Rattle.sled_nodes.specs.Node.{count, Within, after_link}
-use Rattle.sled_nodes.specs.Order.{Key, key_cmp}
+use Rattle.sled_nodes.specs.Order.{key_cmp}
 use Rattle.sled_store.specs.State.{Nodes, nodes_of}
 use Rattle.sled_store.specs.Update.{put_at, put_name}
 use Rattle.sled_store.specs.theory.Facts.{put_elsewhere}
@@ -14,13 +13,14 @@ use Rattle.sled_store.specs.declared.page.Page.{Page}
 use Rattle.tree_laws.specs.Action.{IsSplit}
 use Rattle.tree_laws.specs.theory.Action.{put_node, IsReceived}
 use Rattle.tree_laws.specs.theory.FalseLaws.{SetOfMany, ReceiveOfAny, SplitToAny, ReplaceOfStray, FalseLaws}
-use Rattle.tree_laws.specs.Forest.{Forest, Place, place, IsNodeAt, WellFormed}
+use Rattle.tree_laws.specs.Forest.{Forest, place, IsNodeAt}
 use Rattle.tree_laws.specs.theory.Images.{Pages, image, selves, key, leaf, merging, one_tree, other_tree, root, left, right, over, both, all_in_one, intended}
 use Rattle.tree_laws.specs.theory.Laws.{no_forest}
 use Rattle.tree_laws.specs.Snapshot.{Snapshot, HasForest}
 use Rattle.tree_laws.specs.theory.Snapshot.{KeepsNodes}
 use Rattle.tree_laws.proofs.Accepted.{forest_of, IsForest, formed, sized}
-use Rattle.tree_laws.proofs.Faulty.{run_on, run_at, homed_is, index_first}
+use Rattle.tree_laws.proofs.Empty.{no_trees}
+use Rattle.tree_laws.proofs.Faulty.{trees_apart, homed_is, second_in, index_first}
 use Rattle.tree_laws.proofs.Pictures.{leaf_stands, open_home, index_stands, pointer_open, rooted, alone, left_sound, whole_sound, both_sound, left_below, intended_forest, eight, two_few}
 use Rattle.tree_laws.proofs.Roots.{plant_law}
 
@@ -82,7 +82,7 @@ receive_of_any law =
     let f = r.0.kept in
     let t = f.top one_tree in
     let i = index_first f one_tree t.0 3 (merging 2 (over both)) both t.1 refl refl in
-    let c = f.pointer one_tree i.0 3 (merging 2 (over both)) i.2 refl (key 8) 2 (inr (inl refl)) in
+    let c = i.4 (key 8) 2 (inr (inl refl)) in
     elim (homed_is f (place one_tree i.0) 2 right c.homed refl).stands [ inl a ↦ r.1 (place one_tree i.0) a | inr e ↦ cc ]
 
 -- two empty leaves of a tree, and one of no tree
@@ -114,10 +114,6 @@ all_within : Within [] [] (key 8)
 unfolding key_cmp
 all_within = (refl, inl refl)
 
-abbrev byte : Key → ℕ
-byte [] = 0
-byte (b ∷ bs) = b
-
 split_to_any : SplitToAny → ⊥
 split_to_any law =
     let nodes : Nodes = nodes_of (image apart (root 1)) in
@@ -127,15 +123,9 @@ split_to_any law =
     let r = law nodes (put_name (root_in (root 1)) other_tree (Some 4)) p.0.after p.0.kept (place other_tree 0) 4 2 empty begin end (record { chained = p.2; live = refl; is_open = record { not_merging = refl; free = refl } }) refl off is in
     let f = r.0.kept in
     let t = f.top one_tree in
-    let a = run_on _ _ 1 begin [] refl (run_at f (place one_tree t.0) 1 t.1) in
-    let b = run_on _ a.0 2 end (key 8) refl a.4 in
-    let here : In 2 (r.0.after.chain (place one_tree t.0)) = subst (λ c. In 2 c) (sym a.1) (inr (subst (λ c. In 2 c) (sym b.1) (inl refl))) in
-    let e : place one_tree t.0 ≡ place other_tree 0 = some_is (sym (f.homed _ 2 here) ∙ f.homed _ 2 r.1) in
-    no (ap (λ (z : Place). byte z.tree) e)
+    let here = second_in f (place one_tree t.0) 1 2 begin end t.1 refl refl refl in
+    trees_apart t.0 0 (some_is (sym (f.homed _ 2 here) ∙ f.homed _ 2 r.1))
   where
-    no : ◌≡◌ {A = ℕ} 97 98 → ⊥
-    no e = omega arith
-
     off : ◌≢◌ {A = ℕ} 2 4
     off e = omega arith
 
@@ -161,17 +151,6 @@ lone_page p g e = elim (same_or_not p 1) [
 lone_low : 1 < 2 ^ 64
 lone_low = omega arith
 
-no_trees : (nodes : Nodes) → WellFormed nodes (λ t. None) no_forest
-no_trees nodes = record {
-  homed = λ x p i. absurd i;
-  page = λ x p e. none_some e;
-  run = λ x. inl refl;
-  pointer = λ t h p n i. absurd i;
-  child = λ x p n i. absurd i;
-  down = λ t h p n e. none_some e;
-  top = λ t h. refl;
-}
-
 lone_is : HasForest lone no_forest
 lone_is = record {
   pids = λ p g e. refl;
@@ -181,12 +160,12 @@ lone_is = record {
   rooted = λ t n e. none_some e;
   given = λ t n e. none_some e;
   apart = λ t u n e. none_some e;
-  formed = no_trees _;
+  formed = no_trees _ _ (λ t. refl);
 }
 
 replace_of_stray : ReplaceOfStray → ⊥
 replace_of_stray law =
-    let s = law [] lone no_forest no_forest 1 (page 0) (page 1) lone_is refl refl refl (λ y e. none_some e) (no_trees _) keeps in
+    let s = law [] lone no_forest no_forest 1 (page 0) (page 1) lone_is refl refl refl (λ y e. none_some e) (no_trees _ _ (λ t. refl)) keeps in
     let e = s.goes.own 1 (λ y e. none_some e) (λ i. i) in
     no (ap (λ (z : Page). z.version) (some_is e))
   where

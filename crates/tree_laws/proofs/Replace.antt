@@ -1,5 +1,5 @@
 -- One page of a chain is replaced, with pages that come behind it and pages that go.
-use Rattle.std.proofs.Common.{◌≡◌, ◌≢◌, ℕ, suc, Bool, true, false, List, [], ◌∷◌, ◌++◌, Option, Some, None, MatchOption, sym, refl, ap, ◌∙◌, subst, inl, inr, ◌⊎◌, flat_map}
+use Rattle.std.proofs.Common.{◌≡◌, ◌≢◌, ℕ, suc, Bool, true, false, List, [], ◌∷◌, ◌++◌, Option, Some, None, MatchOption, arith, sym, refl, ap, ◌∙◌, subst, inl, inr, ◌⊎◌, flat_map}
 use Rattle.std.specs.Str.{bytes_eq}
 use Rattle.std.specs.Bool.{Decides}
 use Rattle.std.proofs.lemmas.Slice.Eq.{bytes_eq-Decides}
@@ -27,6 +27,12 @@ same_tree t u = decided (bytes_eq t u) (bytes_eq-Decides t u)
 
 pub place_is : (x y : Place) → x.tree ≡ y.tree → x.height ≡ y.height → x ≡ y
 place_is x y a b = λ i. record { tree = a i; height = b i }
+
+pub place_below : (t u : Tree) (h g : ℕ) → place t (suc h) ≡ place u (suc g) → place t h ≡ place u g
+place_below t u h g e = place_is (place t h) (place u g) (ap (λ (z : Place). z.tree) e) (lower h g (ap (λ (z : Place). z.height) e))
+  where
+    lower : (h g : ℕ) → suc h ≡ suc g → h ≡ g
+    lower h g e = omega arith
 
 pub same_place : (x y : Place) → (x ≡ y) ⊎ (x ≢ y)
 same_place x y =
@@ -97,6 +103,20 @@ pairs_frame nodes new (p ∷ ps) h = let a = ap node_pairs (h p (inl refl)) in l
 pub pairs-three : (nodes : Nodes) (xs ms ys : List ℕ) → pairs_of nodes (xs ++ (ms ++ ys)) ≡ pairs_of nodes xs ++ (pairs_of nodes ms ++ pairs_of nodes ys)
 pairs-three nodes xs ms ys = flat_map-append _ xs (ms ++ ys) ∙ ap (λ z. pairs_of nodes xs ++ z) (flat_map-append _ ms ys)
 
+-- two chains that differ only behind p have the same pages elsewhere
+in_other : (q : ℕ) (xs gone added ys : List ℕ) (p : ℕ) (c d : List ℕ) → c ≡ xs ++ (p ∷ (gone ++ ys)) → d ≡ xs ++ (p ∷ (added ++ ys)) → In q d → In q c ⊎ In q added
+in_other q xs gone added ys p c d a b i =
+    elim (In_cases xs _ q (subst (λ c. In q c) b i)) [
+      | inl j ↦ inl (put (In-left xs _ q j))
+      | inr j ↦ elim j [
+        | inl e ↦ inl (put (In-right xs _ q (inl e)))
+        | inr k ↦ elim (In_cases added ys q k) [ inl l ↦ inr l | inr l ↦ inl (put (In-right xs _ q (inr (In-right gone ys q l)))) ]
+      ]
+    ]
+  where
+    put : In q (xs ++ (p ∷ (gone ++ ys))) → In q c
+    put = subst (λ c. In q c) (sym a)
+
 module _ {nodes new : Nodes} {roots : Tree → Option ℕ} {w v : Forest} {x : Place} {p : ℕ} {n m : Node} {xs gone added ys : List ℕ} (r : Replaces nodes new w v x p n m xs gone added ys) (f : WellFormed nodes roots w) where
   p_in : In p (w.chain x)
   p_in = subst (λ c. In p c) (sym r.before) (In-right xs _ p (inl refl))
@@ -108,26 +128,10 @@ module _ {nodes new : Nodes} {roots : Tree → Option ℕ} {w v : Forest} {x : P
   p_home = f.homed x p p_in
 
   in_new : (q : ℕ) → In q (v.chain x) → In q (w.chain x) ⊎ In q added
-  in_new q i =
-      let put : In q (xs ++ (p ∷ (gone ++ ys))) → In q (w.chain x) = λ j. subst (λ c. In q c) (sym r.before) j in
-      elim (In_cases xs _ q (subst (λ c. In q c) r.after i)) [
-        | inl a ↦ inl (put (In-left xs _ q a))
-        | inr b ↦ elim b [
-          | inl e ↦ inl (put (In-right xs _ q (inl e)))
-          | inr d ↦ elim (In_cases added ys q d) [ inl a ↦ inr a | inr b ↦ inl (put (In-right xs _ q (inr (In-right gone ys q b)))) ]
-        ]
-      ]
+  in_new q = in_other q xs gone added ys p _ _ r.before r.after
 
   in_old : (q : ℕ) → In q (w.chain x) → In q (v.chain x) ⊎ In q gone
-  in_old q i =
-      let put : In q (xs ++ (p ∷ (added ++ ys))) → In q (v.chain x) = λ j. subst (λ c. In q c) (sym r.after) j in
-      elim (In_cases xs _ q (subst (λ c. In q c) r.before i)) [
-        | inl a ↦ inl (put (In-left xs _ q a))
-        | inr b ↦ elim b [
-          | inl e ↦ inl (put (In-right xs _ q (inl e)))
-          | inr d ↦ elim (In_cases gone ys q d) [ inl a ↦ inr a | inr b ↦ inl (put (In-right xs _ q (inr (In-right added ys q b)))) ]
-        ]
-      ]
+  in_old q = in_other q xs added gone ys p _ _ r.after r.before
 
   heads : (y : Place) → head (v.chain y) ≡ head (w.chain y)
   heads y = elim (same_place y x) [

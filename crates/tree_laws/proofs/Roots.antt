@@ -13,28 +13,23 @@ use Rattle.sled_nodes.specs.declared.node.Data.TheVariants.{Leaf, Index}
 use Rattle.sled_nodes.specs.declared.node.Node.{Node}
 use Rattle.tree_laws.specs.Forest.{first_child, later, Holds, IsNodeAt, Forest, Place, place, Run, IsHomed, IsPointer, WellFormed, contents, node_pairs, head, Tree}
 use Rattle.tree_laws.specs.Snapshot.{IsOrphan}
-use Rattle.tree_laws.specs.theory.Laws.{Rooted, HoistLaw, PlantLaw, DropLaw}
+use Rattle.tree_laws.specs.theory.Laws.{IsAlone, Rooted, HoistLaw, PlantLaw, DropLaw}
 use Rattle.tree_laws.proofs.Order.{upto-refl, upto-below}
 use Rattle.tree_laws.proofs.Update.{put_chain, chain_here, chain_there}
 use Rattle.tree_laws.proofs.Replace.{same_tree, same_place, not_both, head_in, pairs_of}
 
 -- a page with no place becomes the one page of an empty level
-pub record Raises (nodes : Nodes) (roots : Tree → Option ℕ) (w : Forest) (t : Tree) (h r : ℕ) (n : Node) : Type 0 where
+pub record Raises (nodes : Nodes) (roots : Tree → Option ℕ) (w : Forest) (t : Tree) (h r : ℕ) (n : Node) (content : Data) : Type 0 where
   pub empty : w.chain (place t h) ≡ []
   pub over : w.chain (place t (suc h)) ≡ []
   pub stray : IsOrphan w r
-  pub live : nodes r ≡ Some n
-  pub lo : n.lo ≡ []
-  pub hi : n.hi ≡ []
-  pub next : n.next ≡ None
-  pub merging : n.merging ≡ false
-  pub merging_child : n.merging_child ≡ None
+  pub alone : IsAlone nodes r n content
   pub sound : IsNodeAt h n
   pub pointer : (g : ℕ) → h ≡ suc g → (k : Key) (c : ℕ) → In (k, c) (pointers n.content) → IsPointer nodes w n t g k c
   pub down : (g : ℕ) → h ≡ suc g → head (w.chain (place t g)) ≡ first_child (pointers n.content)
   pub fits : count n.content ≤ 33
 
-module _ {nodes : Nodes} {roots : Tree → Option ℕ} {w : Forest} {t : Tree} {h r : ℕ} {n : Node} (a : Raises nodes roots w t h r n) (f : WellFormed nodes roots w) where
+module _ {nodes : Nodes} {roots : Tree → Option ℕ} {w : Forest} {t : Tree} {h r : ℕ} {n : Node} {content : Data} (a : Raises nodes roots w t h r n content) (f : WellFormed nodes roots w) where
   x : Place
   x = place t h
 
@@ -75,11 +70,11 @@ module _ {nodes : Nodes} {roots : Tree → Option ℕ} {w : Forest} {t : Tree} {
         let at : place t h ≡ y = some_is (sym r_home ∙ ap raised.home (sym s) ∙ e) in (
           n,
           record {
-            live = ap nodes s ∙ a.live;
+            live = ap nodes s ∙ a.alone.live;
             sound = subst (λ (z : Place). IsNodeAt z.height n) at a.sound;
             stands = inl (subst (λ z. In p (raised.chain z)) at (subst (λ c. In p c) (sym here) (inl s)));
-            calm = λ v. not_both n.merging a.merging v;
-            parent = λ v. not_both n.merging a.merging v;
+            calm = λ v. not_both n.merging a.alone.merging v;
+            parent = λ v. not_both n.merging a.alone.merging v;
           },
         )
     | inr s ↦
@@ -98,12 +93,12 @@ module _ {nodes : Nodes} {roots : Tree → Option ℕ} {w : Forest} {t : Tree} {
   run_on : (y : Place) → (raised.chain y ≡ []) ⊎ Run nodes (raised.chain y) (head (raised.chain y)) [] None []
   run_on y = elim (same_place y (place t h)) [
     | inl e ↦ inr (subst (λ z. Run nodes (raised.chain z) (head (raised.chain z)) [] None []) (sym e) (subst (λ c. Run nodes c (head c) [] None []) (sym here)
-        (n, record { live = a.live; here = refl; lo_is = sym a.lo; rises = inl a.next }, (a.next, a.hi))))
+        (n, record { live = a.alone.live; here = refl; lo_is = sym a.alone.lo; rises = inl a.alone.next }, (a.alone.next, a.alone.hi))))
     | inr e ↦ subst (λ c. (c ≡ []) ⊎ Run nodes c (head c) [] None []) (sym (there y e)) (f.run y)
   ]
 
   is_r : (p : ℕ) (d : Node) → p ≡ r → nodes p ≡ Some d → d ≡ n
-  is_r p d e live = some_is (sym live ∙ ap nodes e ∙ a.live)
+  is_r p d e live = some_is (sym live ∙ ap nodes e ∙ a.alone.live)
 
   tree_is : (u : Tree) (g : ℕ) → place u (suc g) ≡ place t h → (u ≡ t) × (h ≡ suc g)
   tree_is u g e = (ap (λ (z : Place). z.tree) e, sym (ap (λ (z : Place). z.height) e))
@@ -120,7 +115,7 @@ module _ {nodes : Nodes} {roots : Tree → Option ℕ} {w : Forest} {t : Tree} {
   child_new : (y : Place) (p : ℕ) (d : Node) → In p (raised.chain y) → nodes p ≡ Some d → (c : ℕ) → d.merging_child ≡ Some c → (k : Key) × In (k, c) (later (pointers d.content))
   child_new y p d i live c e = elim (split_in y p i) [
     | inl b ↦ f.child y p d b live c e
-    | inr b ↦ none_some (sym (subst (λ (z : Node). z.merging_child ≡ None) (sym (is_r p d b.0 live)) a.merging_child) ∙ e)
+    | inr b ↦ none_some (sym (subst (λ (z : Node). z.merging_child ≡ None) (sym (is_r p d b.0 live)) a.alone.merging_child) ∙ e)
   ]
 
   -- the level below the new one stays, and so does each other
@@ -175,7 +170,7 @@ module _ {nodes : Nodes} {roots : Tree → Option ℕ} {w : Forest} {t : Tree} {
       stood = λ y p d o i live. (d, live, refl, inl (in_on y p i));
       capped = λ p d live v. inl live;
       stray = λ p s o. (refl, λ y e. elim (same_or_not p r) [ inl g ↦ o (inl g) | inr g ↦ s y (sym (put_elsewhere w.home r p (Some (place t h)) g) ∙ e) ]);
-      left = λ y p d live v o i. elim (split_in y p i) [ inl b ↦ o b | inr b ↦ not_both d.merging (subst (λ (z : Node). z.merging ≡ false) (sym (is_r p d b.0 live)) a.merging) v ];
+      left = λ y p d live v o i. elim (split_in y p i) [ inl b ↦ o b | inr b ↦ not_both d.merging (subst (λ (z : Node). z.merging ≡ false) (sym (is_r p d b.0 live)) a.alone.merging) v ];
       wakes = λ y p d e i was not_merging now v. not_both e.merging (subst (λ (z : Node). z.merging ≡ false) (some_is (sym was ∙ now)) not_merging) v;
       child = λ y p c d o i was e. inl (in_on y p i, (d, was, e));
     };
@@ -186,7 +181,7 @@ module _ {nodes : Nodes} {roots : Tree → Option ℕ} {w : Forest} {t : Tree} {
       ];
       child = λ y p c d e i live is there. elim (split_in y p i) [
         | inl b ↦ z.child y p c d e b live is there
-        | inr b ↦ none_some (sym (subst (λ (z : Node). z.merging_child ≡ None) (sym (is_r p d b.0 live)) a.merging_child) ∙ is)
+        | inr b ↦ none_some (sym (subst (λ (z : Node). z.merging_child ≡ None) (sym (is_r p d b.0 live)) a.alone.merging_child) ∙ is)
       ];
     };
   }
@@ -198,7 +193,7 @@ module _ {nodes : Nodes} {roots : Tree → Option ℕ} {w : Forest} {t : Tree} {
   raised_in = subst (λ c. In r c) (sym here) (inl refl)
 
   pub raised_leaf : h ≡ 0 → contents nodes raised t ≡ pairs n.content ++ []
-  raised_leaf e = ap (λ z. pairs_of nodes (raised.chain (place t z))) (sym e) ∙ ap (pairs_of nodes) here ∙ ap (λ z. node_pairs z ++ []) a.live
+  raised_leaf e = ap (λ z. pairs_of nodes (raised.chain (place t z))) (sym e) ∙ ap (pairs_of nodes) here ∙ ap (λ z. node_pairs z ++ []) a.alone.live
 
 module _ {nodes : Nodes} {roots : Tree → Option ℕ} {w : Forest} (f : WellFormed nodes roots w) where
   -- over an empty level there is none
@@ -246,16 +241,11 @@ unfolding raised_rooted
 hoist_law nodes roots w f t h left right r n d root stray il ir live low alone =
     let top = root_top f t h left root il in
     let pl = f.page (place t h) left (f.homed _ left il) in
-    let a : Raises nodes roots w t (suc h) r n = record {
+    let a : Raises nodes roots w t (suc h) r n _ = record {
       empty = top.1;
       over = empty_above f t (suc h) top.1;
       stray = stray;
-      live = alone.live;
-      lo = alone.lo;
-      hi = alone.hi;
-      next = alone.next;
-      merging = alone.merging;
-      merging_child = alone.merging_child;
+      alone = alone;
       sound = record {
         holds = subst (λ c. Holds (suc h) n.lo n.hi c) (sym alone.content) (subst (λ k. Holds (suc h) k n.hi (Index (([], left) ∷ (d.lo, right) ∷ []))) (sym alone.lo)
             (sorted_two d.lo left right low, ((upto-refl [], inl alone.hi), ((upto-below [] d.lo low, inl alone.hi), tt)), refl));
@@ -296,16 +286,11 @@ pub plant_law : PlantLaw
 unfolding raised_rooted
 plant_law nodes roots w f t r n root stray alone =
     let none : (g : ℕ) → w.chain (place t g) ≡ [] = subst (λ o. MatchOption o ((g : ℕ) → w.chain (place t g) ≡ []) (λ q. (g : ℕ) × (head (w.chain (place t g)) ≡ Some q) × (w.chain (place t (suc g)) ≡ []))) root (f.top t) in
-    let a : Raises nodes roots w t 0 r n = record {
+    let a : Raises nodes roots w t 0 r n _ = record {
       empty = none 0;
       over = none 1;
       stray = stray;
-      live = alone.live;
-      lo = alone.lo;
-      hi = alone.hi;
-      next = alone.next;
-      merging = alone.merging;
-      merging_child = alone.merging_child;
+      alone = alone;
       sound = record { holds = subst (λ c. Holds 0 n.lo n.hi c) (sym alone.content) (tt, tt) };
       pointer = λ g e k c j. absurd (heights g e);
       down = λ g e. absurd (heights g e);

@@ -26,24 +26,31 @@ nodes_put f p o = λ i q. at q i
 pub stays_true : (f : ℕ → Bool) (v q : ℕ) → f q ≡ true → put_at f v true q ≡ true
 stays_true f v q e = elim (nat_eq q v) as (λ b. cond b true (f q) ≡ true) [ true ↦ refl | false ↦ e ]
 
+-- where a page is put, each page is that one or was there
+put_cases : (f : ℕ → Option Page) (p : ℕ) (g : Page) (q : ℕ) (h : Page) → put_at f p (Some g) q ≡ Some h → ((q ≡ p) × (h ≡ g)) ⊎ (f q ≡ Some h)
+put_cases f p g q h e = elim (same_or_not q p) [
+  | inl a ↦ inl (a, some_is (sym e ∙ ap (put_at f p (Some g)) a ∙ put_here f p (Some g)))
+  | inr a ↦ inr (sym (put_elsewhere f p q (Some g) a) ∙ e)
+]
+
+page_versions : (m : Snapshot) (w : Forest) → HasForest m w → (p : ℕ) (g : Page) (q : ℕ) (h : Page) → put_at m.state.pages p (Some g) q ≡ Some h → put_at m.versions g.version true h.version ≡ true
+page_versions m w is p g q h e = elim (put_cases m.state.pages p g q h e) [
+  | inl a ↦ ap (λ (z : Page). put_at m.versions g.version true z.version) a.1 ∙ put_here m.versions g.version true
+  | inr a ↦ stays_true m.versions g.version h.version (is.versions q h a)
+]
+
+page_fresh : (m : Snapshot) (p : ℕ) (g : Page) → m.versions g.version ≡ false → (q : ℕ) (h : Page) → put_at m.state.pages p (Some g) q ≡ Some h → (m.state.pages q ≡ Some h) ⊎ (m.versions h.version ≡ false)
+page_fresh m p g fresh q h e = elim (put_cases m.state.pages p g q h e) [ inl a ↦ inr (ap (λ (z : Page). m.versions z.version) a.1 ∙ fresh) | inr a ↦ inl a ]
+
 pub replace_law : ReplaceLaw
 replace_law mine m w v p g new is live not_merging fresh owner formed keeps =
     let s = m.state in
     let same : put_node (nodes_at m) p new.node ≡ nodes_at (after_replacement m p new) = sym (nodes_put s.pages p (Some new)) in
     record {
       is = record {
-        pids = λ q h e. elim (same_or_not q p) [
-          | inl a ↦ ap m.pids a ∙ is.pids p g live
-          | inr a ↦ is.pids q h (sym (put_elsewhere s.pages p q (Some new) a) ∙ e)
-        ];
-        versions = λ q h e. elim (same_or_not q p) [
-          | inl a ↦ ap (λ (z : Page). put_at m.versions new.version true z.version) (some_is (sym e ∙ ap (put_at s.pages p (Some new)) a ∙ put_here s.pages p (Some new))) ∙ put_here m.versions new.version true
-          | inr a ↦ stays_true m.versions new.version h.version (is.versions q h (sym (put_elsewhere s.pages p q (Some new) a) ∙ e))
-        ];
-        below = λ q h e. elim (same_or_not q p) [
-          | inl a ↦ subst (λ z. z < 2 ^ 64) (sym a) (is.below p g live)
-          | inr a ↦ is.below q h (sym (put_elsewhere s.pages p q (Some new) a) ∙ e)
-        ];
+        pids = λ q h e. elim (put_cases s.pages p new q h e) [ inl a ↦ ap m.pids a.0 ∙ is.pids p g live | inr a ↦ is.pids q h a ];
+        versions = page_versions m w is p new;
+        below = λ q h e. elim (put_cases s.pages p new q h e) [ inl a ↦ subst (λ z. z < 2 ^ 64) (sym a.0) (is.below p g live) | inr a ↦ is.below q h a ];
         numbered = is.numbered;
         rooted = is.rooted;
         given = is.given;
@@ -58,10 +65,7 @@ replace_law mine m w v p g new is live not_merging fresh owner formed keeps =
           | inl a ↦ none_some (sym none ∙ ap s.pages a ∙ live)
           | inr a ↦ put_elsewhere s.pages p q (Some new) a ∙ none
         ];
-        fresh = λ q h e. elim (same_or_not q p) [
-          | inl a ↦ inr (ap (λ (z : Page). m.versions z.version) (some_is (sym e ∙ ap (put_at s.pages p (Some new)) a ∙ put_here s.pages p (Some new))) ∙ fresh)
-          | inr a ↦ inl (sym (put_elsewhere s.pages p q (Some new) a) ∙ e)
-        ];
+        fresh = page_fresh m p new fresh;
         lasts = λ t n o e. e;
         dropped = λ t n e no. no;
         loses = λ t e. none_some e;
@@ -124,18 +128,9 @@ allocate_law m w p g is new fresh small =
     let stray : IsOrphan w p = λ x e. let h = is.formed.page x p e in none_some (sym none_node ∙ h.1.live) in (
       record {
         is = record {
-          pids = λ q h e. elim (same_or_not q p) [
-            | inl a ↦ ap (put_at m.pids p true) a ∙ put_here m.pids p true
-            | inr a ↦ stays_true m.pids p q (is.pids q h (sym (put_elsewhere s.pages p q (Some g) a) ∙ e))
-          ];
-          versions = λ q h e. elim (same_or_not q p) [
-            | inl a ↦ ap (λ (z : Page). put_at m.versions g.version true z.version) (some_is (sym e ∙ ap (put_at s.pages p (Some g)) a ∙ put_here s.pages p (Some g))) ∙ put_here m.versions g.version true
-            | inr a ↦ stays_true m.versions g.version h.version (is.versions q h (sym (put_elsewhere s.pages p q (Some g) a) ∙ e))
-          ];
-          below = λ q h e. elim (same_or_not q p) [
-            | inl a ↦ subst (λ z. z < 2 ^ 64) (sym a) small
-            | inr a ↦ is.below q h (sym (put_elsewhere s.pages p q (Some g) a) ∙ e)
-          ];
+          pids = λ q h e. elim (put_cases s.pages p g q h e) [ inl a ↦ ap (put_at m.pids p true) a.0 ∙ put_here m.pids p true | inr a ↦ stays_true m.pids p q (is.pids q h a) ];
+          versions = page_versions m w is p g;
+          below = λ q h e. elim (put_cases s.pages p g q h e) [ inl a ↦ subst (λ z. z < 2 ^ 64) (sym a.0) small | inr a ↦ is.below q h a ];
           numbered = is.numbered;
           rooted = is.rooted;
           given = is.given;
@@ -150,10 +145,7 @@ allocate_law m w p g is new fresh small =
             | inl a ↦ not_both (m.pids p) new (ap m.pids (sym a) ∙ e)
             | inr a ↦ put_elsewhere s.pages p q (Some g) a ∙ no
           ];
-          fresh = λ q h e. elim (same_or_not q p) [
-            | inl a ↦ inr (ap (λ (z : Page). m.versions z.version) (some_is (sym e ∙ ap (put_at s.pages p (Some g)) a ∙ put_here s.pages p (Some g))) ∙ fresh)
-            | inr a ↦ inl (sym (put_elsewhere s.pages p q (Some g) a) ∙ e)
-          ];
+          fresh = page_fresh m p g fresh;
           lasts = λ t n o e. e;
           dropped = λ t n e no. no;
           loses = λ t e. none_some e;

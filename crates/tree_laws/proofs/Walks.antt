@@ -1,5 +1,5 @@
 -- What follows where the walk has read a page.
-use Rattle.std.proofs.Common.{◌≡◌, ◌≢◌, ℕ, suc, ◌≤◌, Bool, true, false, List, [], ◌∷◌, ◌++◌, Option, Some, None, option_map, sym, refl, ap, ◌∙◌, subst, inl, inr, ◌⊎◌}
+use Rattle.std.proofs.Common.{◌≡◌, ◌≢◌, ℕ, suc, ◌≤◌, Bool, true, false, List, [], Option, Some, None, option_map, sym, refl, ap, ◌∙◌, subst, inl, inr}
 use Rattle.std.specs.FinMap.Entries.{find}
 use Rattle.std.specs.declared.ops.Bound.{Bound}
 use Rattle.sled_nodes.proofs.Basics.{none_some, some_is}
@@ -11,7 +11,7 @@ use Rattle.sled_store.specs.State.{Nodes}
 use Rattle.sled_nodes.specs.declared.node.Node.{Node}
 use Rattle.sled_nodes.specs.declared.node.Data.TheVariants.{Leaf, Index}
 use Rattle.sled_store.specs.declared.page.Page.{Page}
-use Rattle.tree_laws.specs.Forest.{Tree, Forest, Place, place, Run, Holds, WellFormed, contents, head, later}
+use Rattle.tree_laws.specs.Forest.{Tree, Forest, Place, place, Holds, WellFormed, contents, later}
 use Rattle.sled_store.specs.declared.page.View.{View}
 use Rattle.tree_laws.specs.Snapshot.{Snapshot, HasForest, nodes_at, StoodInChain, IsOpen, HasRoomForOne, SeenOpen, LiesUnder, IsActing}
 use Rattle.tree_laws.specs.Stages.{parent_of, by_pointer, IsBelowParent, IsReached, IsWalking, IsSplitting, IsPosting, IsHoisting, IsUnder, IsIntending, IsMerging}
@@ -21,8 +21,8 @@ use Rattle.tree_laws.specs.declared.flight.Reached.TheVariants as reached
 use Rattle.tree_laws.specs.declared.flight.Walk.{Walk}
 use Rattle.tree_laws.specs.declared.flight.Posting.TheVariants as posting
 use Rattle.tree_laws.proofs.Order.{upto-below, upto_below-trans, within_below}
-use Rattle.tree_laws.proofs.Runs.{In_split, run_parts}
-use Rattle.tree_laws.proofs.Cover.{chain_run, pointer_within, holds_at}
+use Rattle.tree_laws.proofs.Runs.{In_split}
+use Rattle.tree_laws.proofs.Cover.{parted, pointer_within, holds_at}
 use Rattle.tree_laws.proofs.Inside.{behind}
 use Rattle.tree_laws.proofs.Reading.{find_law}
 use Rattle.tree_laws.proofs.Stable.{now_law}
@@ -32,9 +32,7 @@ use Rattle.tree_laws.proofs.Known.{as_page, stands_here, view_here, seen_here, r
 pub rises_at : {nodes : Nodes} {roots : Tree → Option ℕ} {w : Forest} (f : WellFormed nodes roots w) (x : Place) (p q : ℕ) (n : Node) → In p (w.chain x) → nodes p ≡ Some n → n.next ≡ Some q → Below n.lo n.hi
 rises_at {nodes} {roots} {w} f x p q n i live next =
     let s = In_split (w.chain x) p i in
-    let whole : Run nodes (s.0 ++ (p ∷ s.1)) (head (w.chain x)) [] None [] = subst (λ z. Run nodes z (head (w.chain x)) [] None []) s.2 (chain_run f x p i) in
-    let r = run_parts nodes s.0 (p ∷ s.1) _ _ _ _ whole in
-    elim (subst (λ (z : Node). (z.next ≡ None) ⊎ Below z.lo z.hi) (some_is (sym r.3.1.live ∙ live)) r.3.1.rises) [
+    elim (parted f x p n s.0 s.1 s.2 live).1 [
       | inl e ↦ none_some (sym e ∙ next)
       | inr b ↦ b
     ]

@@ -8,7 +8,7 @@ use Rattle.std.specs.declared.cmp.Ordering.{Ordering}
 use Rattle.std.specs.declared.cmp.Ordering.TheVariants.{Less, Equal, Greater}
 use Rattle.std.specs.declared.ops.Bound.{Bound}
 use Rattle.std.specs.declared.ops.Bound.TheVariants.{Excluded}
-use Rattle.sled_nodes.proofs.Basics.{some_is, true_false, is_less, key_total}
+use Rattle.sled_nodes.proofs.Basics.{true_false, is_less, key_total}
 use Rattle.sled_nodes.specs.Order.{Key, key_cmp, Below, UpTo}
 use Rattle.sled_store.specs.In.{In}
 use Rattle.sled_nodes.specs.Among.{is_up_to, IsLast, IsPredecessor}
@@ -19,11 +19,11 @@ use Rattle.sled_nodes.specs.declared.node.Node.{Node}
 use Rattle.sled_store.specs.declared.page.View.{View}
 use Rattle.sled_nodes.specs.declared.error.Error.{Error}
 use Rattle.sled_nodes.specs.declared.error.Error.TheVariants.{CollectionNotFound, Unsupported, ReportableBug, Io, Corruption, NoMemory, Closed}
-use Rattle.tree_laws.specs.Forest.{Tree, Forest, place, head, Run, WellFormed, contents}
+use Rattle.tree_laws.specs.Forest.{Tree, Forest, place, WellFormed, contents}
 use Rattle.tree_laws.specs.Paths.{tree_pages, pages_below}
-use Rattle.tree_laws.proofs.Cover.{chain_run}
+use Rattle.tree_laws.proofs.Cover.{parted}
 use Rattle.tree_laws.proofs.Order.{upto-trans, below_not_upto, beyond, least}
-use Rattle.tree_laws.proofs.Runs.{In-right, run_parts, run_from, In_cases}
+use Rattle.tree_laws.proofs.Runs.{In-right, run_from, In_cases}
 use Rattle.tree_laws.proofs.Looking.{pages_law}
 use Rattle.tree_laws.proofs.Reading.{range_law}
 use Rattle.tree_reads.specs.Walk.{IsLeafFor, HasTooMany, RefusesWalk, refuses_walk_as, once, for_each}
@@ -135,15 +135,12 @@ chain_at w t p xs ys e = subst (λ l. In p l) (sym e) (In-right xs (p ∷ ys) p 
 -- pages from a place of a chain on begin at or above its lo
 from_here : (nodes : Nodes) (roots : Tree → Option ℕ) (w : Forest) → WellFormed nodes roots w → (t : Tree) (p : ℕ) (n : Node) (xs ys : List ℕ) → w.chain (place t 0) ≡ xs ++ p ∷ ys → nodes p ≡ Some n → (q : ℕ) (m : Node) → In q (p ∷ ys) → nodes q ≡ Some m → UpTo n.lo m.lo
 from_here nodes roots w f t p n xs ys e live q m i there =
-    let r = run_parts nodes xs (p ∷ ys) _ _ _ _ (subst (λ z. Run nodes z (head (w.chain (place t 0))) [] None []) e (chain_run f (place t 0) p (chain_at w t p xs ys e))) in
-    let key : r.1 ≡ n.lo = r.3.1.lo_is ∙ ap (λ (z : Node). z.lo) (some_is (sym r.3.1.live ∙ live)) in
-    subst (λ k. UpTo k m.lo) key (run_from nodes (p ∷ ys) _ _ _ _ r.3 q m i there)
+    let r = parted f (place t 0) p n xs ys e live in
+    run_from nodes (p ∷ ys) (Some p) None n.lo [] (n, record { live = live; here = refl; lo_is = refl; rises = r.1 }, r.2) q m i there
 
 -- the first leaf has no lo
 first_low : (nodes : Nodes) (roots : Tree → Option ℕ) (w : Forest) → WellFormed nodes roots w → (t : Tree) (p : ℕ) (n : Node) (ys : List ℕ) → w.chain (place t 0) ≡ p ∷ ys → nodes p ≡ Some n → n.lo ≡ []
-first_low nodes roots w f t p n ys e live =
-    let r = subst (λ z. Run nodes z (head (w.chain (place t 0))) [] None []) e (chain_run f (place t 0) p (chain_at w t p [] ys e)) in
-    sym (r.1.lo_is ∙ ap (λ (z : Node). z.lo) (some_is (sym r.1.live ∙ live)))
+first_low nodes roots w f t p n ys e live = sym (parted f (place t 0) p n [] ys e live).0.1
 
 pub refuses_more : (of up : ℕ → ℕ) (s : Store) (root : ℕ) (e : Error) → ((w : Forest) → WellFormed (nodes_of (now s)) (now s).roots w → (t : Tree) → (now s).roots t ≡ Some root → of (tree_pages (now s) t) ≤ up (tree_pages (now s) t)) → RefusesWalk of s root e → RefusesWalk up s root e
 refuses_more of up s root e more r = record { is = go e r.is }

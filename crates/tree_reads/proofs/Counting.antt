@@ -10,11 +10,11 @@ use Rattle.sled_store.specs.Store.{Store, now, AreGiven, view_of}
 use Rattle.sled_nodes.specs.declared.node.Node.{Node}
 use Rattle.sled_store.specs.declared.page.Page.{Page}
 use Rattle.sled_store.specs.declared.page.View.{View}
-use Rattle.tree_laws.specs.Forest.{Tree, Forest, place, head, Run, WellFormed, node_pairs}
+use Rattle.tree_laws.specs.Forest.{Tree, Forest, place, Run, WellFormed, node_pairs}
 use Rattle.tree_laws.specs.Paths.{tree_pages}
-use Rattle.tree_laws.proofs.Cover.{chain_run}
+use Rattle.tree_laws.proofs.Cover.{parted}
 use Rattle.tree_laws.proofs.Order.{upto_cases}
-use Rattle.tree_laws.proofs.Runs.{run_parts, run_to}
+use Rattle.tree_laws.proofs.Runs.{run_to}
 use Rattle.tree_laws.proofs.Looking.{next_in}
 use Rattle.tree_laws.proofs.Pairs.{not_below_empty}
 use Rattle.tree_laws.proofs.Viewed.{viewed, gone}
@@ -25,19 +25,12 @@ use Rattle.tree_reads.specs.declared.TheConstants.{MOST_PAGES}
 use Rattle.tree_reads.proofs.Seeking.{node_at}
 use Rattle.tree_reads.proofs.Backing.{chain_at}
 
--- the run of a chain from one of its pages on
-parts : (nodes : Nodes) (roots : Tree → Option ℕ) (w : Forest) → WellFormed nodes roots w → (t : Tree) (p : ℕ) (xs ys : List ℕ) → w.chain (place t 0) ≡ xs ++ p ∷ ys
-    → (mid : Option ℕ) × (key : Key) × Run nodes xs (head (w.chain (place t 0))) [] mid key × Run nodes (p ∷ ys) mid key None []
-parts nodes roots w f t p xs ys e = run_parts nodes xs (p ∷ ys) _ _ _ _ (subst (λ z. Run nodes z (head (w.chain (place t 0))) [] None []) e (chain_run f (place t 0) p (chain_at w t p xs ys e)))
-
 -- nothing stands before a page without a lo
 none_before : (nodes : Nodes) (roots : Tree → Option ℕ) (w : Forest) → WellFormed nodes roots w → (t : Tree) (p : ℕ) (n : Node) (xs ys : List ℕ) → w.chain (place t 0) ≡ xs ++ p ∷ ys → nodes p ≡ Some n → n.lo ≡ [] → xs ≡ []
 none_before nodes roots w f t p n [] ys e live low = refl
 none_before nodes roots w f t p n (x ∷ xs) ys e live low =
-    let r = parts nodes roots w f t p (x ∷ xs) ys e in
-    let early = subst (λ g. Run nodes (x ∷ xs) (head (w.chain (place t 0))) [] g r.1) r.3.1.here r.2 in
-    let key : r.1 ≡ [] = r.3.1.lo_is ∙ ap (λ (z : Node). z.lo) (some_is (sym r.3.1.live ∙ live)) ∙ low in
-    absurd (not_below_empty r.2.0.lo (subst (λ k. Below r.2.0.lo k) key (run_to nodes (x ∷ xs) _ p _ _ early x r.2.0 (inl refl) r.2.1.live)))
+    let r = (parted f (place t 0) p n (x ∷ xs) ys e live).0 in
+    absurd (not_below_empty r.0.lo (subst (λ k. Below r.0.lo k) low (run_to nodes (x ∷ xs) _ p _ _ r x r.0 (inl refl) r.1.live)))
 
 -- the pairs of one page more
 one_more : (f : ℕ → List (Key × Key)) (xs : List ℕ) (p : ℕ) → length (flat_map f (xs ++ p ∷ [])) ≡ length (flat_map f xs) + length (f p)
@@ -74,13 +67,13 @@ module _ (s : State) (root : ℕ) (v : View) (looked total : ℕ) (k : Counts s 
   count_ends m at last = record {
     is = λ w f t is.
         let a = k.is w f t is in
-        let r = parts (nodes_of s) s.roots w f t v.pid a.0 a.1 a.2 in
-        all_here a.0 a.4 ∙ ap (λ z. length (flat_map (λ p. node_pairs (nodes_of s p)) z)) (ap (λ z. a.0 ++ v.pid ∷ z) (sym (none a.1 r.3.0 (some_is (sym r.3.1.live ∙ node_at s v k.read.live)) r.3.2)) ∙ sym a.2);
+        let r = parted f (place t 0) v.pid v.node a.0 a.1 a.2 (node_at s v k.read.live) in
+        all_here a.0 a.4 ∙ ap (λ z. length (flat_map (λ p. node_pairs (nodes_of s p)) z)) (ap (λ z. a.0 ++ v.pid ∷ z) (sym (none a.1 r.2)) ∙ sym a.2);
   }
     where
-      none : (ys : List ℕ) (d : Node) → d ≡ v.node → Run (nodes_of s) ys d.next d.hi None [] → ys ≡ []
-      none [] d e r = refl
-      none (y ∷ ys) d e r = none_some (sym (ap (λ (z : Node). z.next) (e ∙ sym at) ∙ last) ∙ r.1.here)
+      none : (ys : List ℕ) → Run (nodes_of s) ys v.node.next v.node.hi None [] → ys ≡ []
+      none [] r = refl
+      none (y ∷ ys) r = none_some (sym (ap (λ (z : Node). z.next) (sym at) ∙ last) ∙ r.1.here)
 
   pub count_more : (m : Node) → m ≡ v.node → (q : ℕ) (u : View) → m.next ≡ Some q → Some u ≡ view_of q (s.pages q) → Counts s root u (looked + 1) more
   count_more m at q u next read =
@@ -88,14 +81,13 @@ module _ (s : State) (root : ℕ) (v : View) (looked total : ℕ) (k : Counts s 
         read = record { live = ap s.pages x.0 ∙ x.1; below = k.read.below };
         is = λ w f t is.
             let a = k.is w f t is in
-            let r = parts (nodes_of s) s.roots w f t v.pid a.0 a.1 a.2 in
-            let b = behind a.1 r.3.0 (some_is (sym r.3.1.live ∙ node_at s v k.read.live)) r.3.2 in
+            let b = behind a.1 (parted f (place t 0) v.pid v.node a.0 a.1 a.2 (node_at s v k.read.live)).2 in
             (a.0 ++ v.pid ∷ [], b.0, a.2 ∙ ap (λ z. a.0 ++ v.pid ∷ z) (b.1 ∙ ap (λ p. p ∷ b.0) (sym x.0)) ∙ sym (append_assoc a.0 (v.pid ∷ []) (u.pid ∷ b.0)), fewer looked (length a.1) (length b.0) (tree_pages s t) a.3 (ap length b.1), all_here a.0 a.4);
       }
     where
-      behind : (ys : List ℕ) (d : Node) → d ≡ v.node → Run (nodes_of s) ys d.next d.hi None [] → (zs : List ℕ) × (ys ≡ q ∷ zs)
-      behind [] d e r = none_some (sym r.0 ∙ ap (λ (z : Node). z.next) (e ∙ sym at) ∙ next)
-      behind (y ∷ ys) d e r = (ys, ap (λ p. p ∷ ys) (some_is (sym r.1.here ∙ ap (λ (z : Node). z.next) (e ∙ sym at) ∙ next)))
+      behind : (ys : List ℕ) → Run (nodes_of s) ys v.node.next v.node.hi None [] → (zs : List ℕ) × (ys ≡ q ∷ zs)
+      behind [] r = none_some (sym r.0 ∙ ap (λ (z : Node). z.next) (sym at) ∙ next)
+      behind (y ∷ ys) r = (ys, ap (λ p. p ∷ ys) (some_is (sym r.1.here ∙ ap (λ (z : Node). z.next) (sym at) ∙ next)))
 
       fewer : (l b c n : ℕ) → l + b ≤ n → b ≡ suc c → (l + 1) + c ≤ n
       fewer l b c n h e = omega arith

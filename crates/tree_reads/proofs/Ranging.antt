@@ -7,7 +7,7 @@ use Rattle.std.specs.declared.cmp.Ordering.{Ordering}
 use Rattle.std.specs.declared.cmp.Ordering.TheVariants.{Less, Equal, Greater}
 use Rattle.std.specs.declared.ops.Bound.{Bound}
 use Rattle.std.specs.declared.ops.Bound.TheVariants.{Included, Excluded, Unbounded}
-use Rattle.sled_nodes.proofs.Basics.{false_true, not_true, left_of, right_of, is_less, is_greater, key_total, less_of}
+use Rattle.sled_nodes.proofs.Basics.{some_is, false_true, not_true, left_of, right_of, is_less, is_greater, key_total, less_of}
 use Rattle.sled_nodes.specs.Order.{Key, key_cmp, Below}
 use Rattle.sled_store.specs.In.{In}
 use Rattle.sled_nodes.specs.Among.{is_up_to, is_from, IsFirst, IsLast, IsSuccessor, IsPredecessor}
@@ -240,9 +240,6 @@ tested_from r a b lo k key e f g n = sym (ap (is_from lo) g) ∙ sym (ap (λ z. 
 module _ (s : Store) (root : ℕ) (given : AreGiven s) (is : IsRoot (now s) root) where
   abbrev pub pairs : List (Key × Key)
   pairs = pairs_under (nodes_of (now s)) root
-
-  some_is : {X : Type 0} {x y : X} → Some x ≡ Some y → x ≡ y
-  some_is e = cc
 
   pairs_are : pairs ≡ contents (nodes_of (now s)) is.forest is.tree
   pairs_are = some_is (ap (option_map (pairs_under (nodes_of (now s)))) (sym is.is) ∙ contents_law (now s) is.forest is.formed given.numbered is.tree ∙ ap (option_map (λ _. contents (nodes_of (now s)) is.forest is.tree)) is.is)

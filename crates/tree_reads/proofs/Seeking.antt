@@ -10,7 +10,7 @@ use Rattle.sled_nodes.specs.Order.{Key, key_cmp, Below, UpTo}
 use Rattle.sled_store.specs.In.{In}
 use Rattle.sled_nodes.specs.Among.{is_up_to, is_from, IsFirst, IsSuccessor}
 use Rattle.std.specs.FinMap.Entries.{find}
-use Rattle.sled_nodes.proofs.Basics.{none_some, false_true, not_true, first_false, second_false, or_false, is_greater, key_total}
+use Rattle.sled_nodes.proofs.Basics.{none_some, false_true, not_true, first_false, second_false, or_false, is_greater, key_total, true_false}
 use Rattle.sled_nodes.specs.Node.{pairs, value_at, Covers}
 use Rattle.sled_nodes.specs.declared.node.Data.{Data}
 use Rattle.sled_nodes.specs.declared.node.Data.TheVariants.{Leaf, Index}
@@ -118,10 +118,7 @@ further lo k e p q = go (key_cmp e k) refl
     go : (o : Ordering) → key_cmp e k ≡ o → is_gt (key_cmp e k) ≡ false
     go Less b = ap is_gt b
     go Equal b = ap is_gt b
-    go Greater b = absurd (apart (sym (higher lo k e (key_total.antisymm k e ∙ ap ordering_reverse b) p) ∙ q))
-      where
-        apart : true ≡ false → ⊥
-        apart e = cc
+    go Greater b = true_false (sym (higher lo k e (key_total.antisymm k e ∙ ap ordering_reverse b) p) ∙ q)
 
 -- the leaf stays good for the bound that is the key of the first pair, excluded
 pub seeks_on : (s : State) (root : ℕ) (lo : Bound Key) (v : View) (looked : ℕ) → Seeks s root lo v looked → (x : Key) → is_from lo x ≡ true → Seeks s root (Excluded x) v looked
@@ -228,14 +225,8 @@ covered : (key : Key) (n : Node) → IsUnder (Included key) n → Covers n key
 covered key n u = (not_true _ u.begins, elim u.ends [ inl e ↦ inl e | inr o ↦ inr (go (key_cmp n.hi key) refl o) ])
   where
     go : (o : Ordering) → key_cmp n.hi key ≡ o → not (is_gt (key_cmp n.hi key)) ≡ false → Below key n.hi
-    go Less e off = absurd (apart (sym (ap (λ o. not (is_gt o)) e) ∙ off))
-      where
-        apart : true ≡ false → ⊥
-        apart e = cc
-    go Equal e off = absurd (apart (sym (ap (λ o. not (is_gt o)) e) ∙ off))
-      where
-        apart : true ≡ false → ⊥
-        apart e = cc
+    go Less e off = true_false (sym (ap (λ o. not (is_gt o)) e) ∙ off)
+    go Equal e off = true_false (sym (ap (λ o. not (is_gt o)) e) ∙ off)
     go Greater e off = under n.hi key e
 
 -- the value in the leaf under a key is the contents'
