@@ -6,7 +6,6 @@ pub mod Acting
 pub mod Splits
 pub mod Merges
 pub mod Following
-pub mod Families
 pub mod Deciding
 pub mod Known
 pub mod Descending

@@ -1,7 +1,7 @@
 -- The steps of a merge.
 use Rattle.std.proofs.Common.{◌≡◌, ◌≢◌, ℕ, ◌≤◌, ◌⊎◌, true, false, [], ◌∷◌, Option, Some, None, Ok, Err, sym, refl, ap, ◌∙◌, subst, inl}
 use Rattle.sled_nodes.proofs.Basics.{some_is}
-use Rattle.sled_nodes.specs.Order.{Below, UpTo}
+use Rattle.sled_nodes.specs.Order.{Key, Below, UpTo}
 use Rattle.sled_store.specs.In.{In}
 use Rattle.sled_nodes.specs.Halves.{after_receiving}
 use Rattle.sled_nodes.specs.Among.{IsPointerBefore}
@@ -33,7 +33,7 @@ use Rattle.tree_laws.proofs.Viewed.{viewed}
 use Rattle.sled_tree.specs.declared.flight.Next.{Next}
 use Rattle.sled_tree.specs.declared.flight.Next.TheVariants as next
 use Rattle.sled_tree.specs.Stages.{changes_at}
-use Rattle.sled_tree.specs.theory.StageAction.{StageAction, AfterChild, AfterSeek, IsUnchangedNow, owned_next}
+use Rattle.sled_tree.specs.theory.StageAction.{StageAction, AfterRead, IsUnchangedNow, owned_next}
 use Rattle.sled_tree.specs.Follows.{ResumesMerge, resumed}
 use Rattle.sled_tree.proofs.Facts.{moves_on, once_acts, stays, rests, same_here, live_view, leaves_replaced, leaves_read, rid_of_none}
 
@@ -53,56 +53,48 @@ intends j old new a version c = moves_on j old new _ _ (once_acts c.is.2) tt (λ
       leaves_replaced [] [] m a.parent.pid g n did.0 c.is.1 (rid_of_none [] g a.parent.node node k.above.seen.is_open.free) (λ q i. absurd i),
     ))
 
--- what a read of the merging child comes to, as a step
-pub child_read : (j : Course) (s : Store) (a : Merge) (view : View) (n : Next) → Some view ≡ view_of a.child ((now s).pages a.child) → AfterChild j a view n → StageAction j s (stage.Child a) n s
-child_read j s a view n read t = record {
+-- what a read of the page of a stage that owns none comes to, as a step
+pub merge_read : (j : Course) (s : Store) (taken : Stage) (pid : ℕ) (view : View) (n : Next) → owned taken ≡ [] → Some view ≡ view_of pid ((now s).pages pid) → AfterRead j taken pid view n → StageAction j s taken n s
+merge_read j s taken pid view n none read t = record {
   touches = t.touches s;
   is = λ numbers gave w is named k.
-      let r = t.is s numbers gave w is named (viewed a.child ((now s).pages a.child) view read).0 (live_view s a.child view read) k in
-      (w, rests [] (owned_next n) (snapshot_of s numbers gave) w is (λ q i. subst (In q) r.0 i), r.1, leaves_read [] n (now s) w refl);
+      let r = t.is s numbers gave w is named (viewed pid ((now s).pages pid) view read).0 (live_view s pid view read) k in
+      (w, rests (owned taken) (owned_next n) (snapshot_of s numbers gave) w is (λ q i. subst (In q) (r.0 ∙ sym none) i), r.1, leaves_read (owned taken) n (now s) w none);
 }
 
--- what comes after the child, or the search's cursor, was read and leads to a stage
-module _ (j : Course) (view : View) where
-  child_goes : (a : Merge) (b : Stage) → owned b ≡ [] → changes_at j b
-      → ((m : Snapshot) (w : Forest) → HasForest m w → m.numbers j.tree.name ≡ Some j.tree.number → view.pid ≡ a.child → IsUnchangedNow m view → IsStage m w j.tree.name j.tree.number j.aim (stage.Child a) → IsStage m w j.tree.name j.tree.number j.aim b) → AfterChild j a view (next.Go b)
-  child_goes a b none plain known = record {
-    touches = λ s. inl refl;
-    is = λ s numbers gave w is named here live k. (none, ((known (snapshot_of s numbers gave) w is named here live k.0, plain, k.2), same_here (snapshot_of s numbers gave) w));
-  }
-
-  cursor_goes : (a : Seek) (b : Stage) → owned b ≡ [] → changes_at j b
-      → ((m : Snapshot) (w : Forest) → HasForest m w → m.numbers j.tree.name ≡ Some j.tree.number → view.pid ≡ a.cursor → IsUnchangedNow m view → IsStage m w j.tree.name j.tree.number j.aim (stage.Seek a) → IsStage m w j.tree.name j.tree.number j.aim b) → AfterSeek j a view (next.Go b)
-  cursor_goes a b none plain known = record {
-    touches = λ s. inl refl;
-    is = λ s numbers gave w is named here live k. (none, ((known (snapshot_of s numbers gave) w is named here live k.0, plain, k.2), same_here (snapshot_of s numbers gave) w));
-  }
+-- what comes after the page of a stage was read and leads to a stage
+goes : (j : Course) (taken : Stage) (pid : ℕ) (view : View) (b : Stage) → owned b ≡ [] → changes_at j b
+    → ((m : Snapshot) (w : Forest) → HasForest m w → m.numbers j.tree.name ≡ Some j.tree.number → view.pid ≡ pid → IsUnchangedNow m view → IsStage m w j.tree.name j.tree.number j.aim taken → IsStage m w j.tree.name j.tree.number j.aim b) → AfterRead j taken pid view (next.Go b)
+goes j taken pid view b none plain known = record {
+  touches = λ s. inl refl;
+  is = λ s numbers gave w is named here live k. (none, ((known (snapshot_of s numbers gave) w is named here live k.0, plain, k.2), same_here (snapshot_of s numbers gave) w));
+}
 
 -- a page with a merging child was read, whose own merge goes on first
 module _ (view : View) (child : ℕ) (not_merging : view.node.merging ≡ false) (is_child : view.node.merging_child ≡ Some child) where
-  pub child_helps : (j : Course) (a : Merge) (n : Next) → ResumesMerge view child n → AfterChild j a view n
-  child_helps j a n h = subst (AfterChild j a view) (sym h.is) (go h.before h.is_before)
+  helps : (j : Course) (taken : Stage) (pid : ℕ) → ((m : Snapshot) (w : Forest) → IsStage m w j.tree.name j.tree.number j.aim taken → (height : ℕ) × (lo : Key) × StoodInChain m w (place j.tree.name height) j.tree.number lo pid)
+      → (n : Next) → ResumesMerge view child n → AfterRead j taken pid view n
+  helps j taken pid stood n h = subst (AfterRead j taken pid view) (sym h.is) (go h.before h.is_before)
     where
-      go : (before : Option ℕ) → IsPointerBefore child (pointers view.node.content) before → AfterChild j a view (resumed view child before)
-      go None none = child_goes j view a stage.Root refl tt (λ m w is named here live k. tt)
-      go (Some before) b = child_goes j view a _ refl tt (λ m w is named here live k.
-          stood_merges_law m w j.tree.name j.tree.number k.height view k.merging.lo is named (subst (λ p. StoodInChain m w (place j.tree.name k.height) j.tree.number k.merging.lo p) (sym here) k.merging.c_stood) live not_merging child before is_child b)
+      go : (before : Option ℕ) → IsPointerBefore child (pointers view.node.content) before → AfterRead j taken pid view (resumed view child before)
+      go None none = goes j taken pid view stage.Root refl tt (λ m w is named here live k. tt)
+      go (Some before) b = goes j taken pid view _ refl tt (λ m w is named here live k.
+          let at = stood m w k in
+          stood_merges_law m w j.tree.name j.tree.number at.0 view at.1 is named (subst (λ p. StoodInChain m w (place j.tree.name at.0) j.tree.number at.1 p) (sym here) at.2) live not_merging child before is_child b)
 
-  pub cursor_helps : (j : Course) (a : Seek) (n : Next) → ResumesMerge view child n → AfterSeek j a view n
-  cursor_helps j a n h = subst (AfterSeek j a view) (sym h.is) (go h.before h.is_before)
-    where
-      go : (before : Option ℕ) → IsPointerBefore child (pointers view.node.content) before → AfterSeek j a view (resumed view child before)
-      go None none = cursor_goes j view a stage.Root refl tt (λ m w is named here live k. tt)
-      go (Some before) b = cursor_goes j view a _ refl tt (λ m w is named here live k.
-          stood_merges_law m w j.tree.name j.tree.number k.height view k.lo is named (subst (λ p. StoodInChain m w (place j.tree.name k.height) j.tree.number k.lo p) (sym here) k.stood) live not_merging child before is_child b)
+  pub child_helps : (j : Course) (a : Merge) (n : Next) → ResumesMerge view child n → AfterRead j (stage.Child a) a.child view n
+  child_helps j a = helps j (stage.Child a) a.child (λ m w k. (k.height, k.merging.lo, k.merging.c_stood))
+
+  pub cursor_helps : (j : Course) (a : Seek) (n : Next) → ResumesMerge view child n → AfterRead j (stage.Seek a) a.cursor view n
+  cursor_helps j a = helps j (stage.Seek a) a.cursor (λ m w k. (k.height, k.lo, k.stood))
 
 -- the child is merging already, or open
 module _ (j : Course) (a : Merge) (view : View) where
-  pub child_seeks : view.node.merging ≡ true → AfterChild j a view (next.Go (stage.Seek (record { merge = a; version = view.version; node = view.node; cursor = a.before })))
-  child_seeks capped = child_goes j view a _ refl tt (λ m w is named here live k. law.child_seeks m w j.tree.name j.tree.number j.aim a view.version view.node named (ap m.state.pages (sym here) ∙ live) capped k)
+  pub child_seeks : view.node.merging ≡ true → AfterRead j (stage.Child a) a.child view (next.Go (stage.Seek (record { merge = a; version = view.version; node = view.node; cursor = a.before })))
+  child_seeks capped = goes j (stage.Child a) a.child view _ refl tt (λ m w is named here live k. law.child_seeks m w j.tree.name j.tree.number j.aim a view.version view.node named (ap m.state.pages (sym here) ∙ live) capped k)
 
-  pub child_caps : view.node.merging ≡ false → view.node.merging_child ≡ None → AfterChild j a view (next.Go (stage.Cap (record { merge = a; version = view.version; node = view.node })))
-  child_caps not_merging free = child_goes j view a _ refl tt (λ m w is named here live k. law.child_caps m w j.tree.name j.tree.number j.aim a view.version view.node is named (ap m.state.pages (sym here) ∙ live) (record { not_merging = not_merging; free = free }) k)
+  pub child_caps : view.node.merging ≡ false → view.node.merging_child ≡ None → AfterRead j (stage.Child a) a.child view (next.Go (stage.Cap (record { merge = a; version = view.version; node = view.node })))
+  child_caps not_merging free = goes j (stage.Child a) a.child view _ refl tt (λ m w is named here live k. law.child_caps m w j.tree.name j.tree.number j.aim a view.version view.node is named (ap m.state.pages (sym here) ∙ live) (record { not_merging = not_merging; free = free }) k)
 
 -- the child is capped, or was changed, or is gone
 pub caps : (j : Course) (old new : Store) (a : Cap) (version : ℕ) → Changes (after_link ChildMergeCap) a.merge.child a.version old new (Ok version)
@@ -124,34 +116,25 @@ pub cap_stale : (j : Course) (old new : Store) (a : Cap) (present : Option ℕ) 
 cap_stale j old new a present c = subst (λ (s : Store). StageAction j old (stage.Cap a) (next.Go (stage.Child a.merge)) s) (sym c.is.0)
     (stays j old (stage.Cap a) (stage.Child a.merge) (λ q i. i) (λ q i. i) tt (λ m w is named k. cap_late m w j.tree.name j.tree.number j.aim a k))
 
--- what a read of the search's cursor comes to, as a step
-pub cursor_looks : (j : Course) (s : Store) (a : Seek) (view : View) (n : Next) → Some view ≡ view_of a.cursor ((now s).pages a.cursor) → AfterSeek j a view n → StageAction j s (stage.Seek a) n s
-cursor_looks j s a view n read t = record {
-  touches = t.touches s;
-  is = λ numbers gave w is named k.
-      let r = t.is s numbers gave w is named (viewed a.cursor ((now s).pages a.cursor) view read).0 (live_view s a.cursor view read) k in
-      (w, rests [] (owned_next n) (snapshot_of s numbers gave) w is (λ q i. subst (In q) r.0 i), r.1, leaves_read [] n (now s) w refl);
-}
-
 module _ (j : Course) (a : Seek) (view : View) where
   -- the search begins again
-  pub looks_again : AfterSeek j a view (next.Go stage.Root)
-  looks_again = cursor_goes j view a stage.Root refl tt (λ m w is named here live k. tt)
+  pub looks_again : AfterRead j (stage.Seek a) a.cursor view (next.Go stage.Root)
+  looks_again = goes j (stage.Seek a) a.cursor view stage.Root refl tt (λ m w is named here live k. tt)
 
   module _ (not_merging : view.node.merging ≡ false) (free : view.node.merging_child ≡ None) where
-    looks : (b : Stage) → owned b ≡ [] → changes_at j b → ((m : Snapshot) (w : Forest) → Finds m w j.tree.name j.tree.number j.aim a view → IsStage m w j.tree.name j.tree.number j.aim b) → AfterSeek j a view (next.Go b)
-    looks b none plain known = cursor_goes j view a b none plain (λ m w is named here live k. known m w (seek_law m w j.tree.name j.tree.number j.aim a view is named here live (record { not_merging = not_merging; free = free }) k))
+    looks : (b : Stage) → owned b ≡ [] → changes_at j b → ((m : Snapshot) (w : Forest) → Finds m w j.tree.name j.tree.number j.aim a view → IsStage m w j.tree.name j.tree.number j.aim b) → AfterRead j (stage.Seek a) a.cursor view (next.Go b)
+    looks b none plain known = goes j (stage.Seek a) a.cursor view b none plain (λ m w is named here live k. known m w (seek_law m w j.tree.name j.tree.number j.aim a view is named here live (record { not_merging = not_merging; free = free }) k))
 
-    pub looks_further : (q : ℕ) → view.node.hi ≢ [] → Below view.node.hi a.node.lo → view.node.next ≡ Some q → AfterSeek j a view (next.Go (stage.Seek (record { merge = a.merge; version = a.version; node = a.node; cursor = q })))
+    pub looks_further : (q : ℕ) → view.node.hi ≢ [] → Below view.node.hi a.node.lo → view.node.next ≡ Some q → AfterRead j (stage.Seek a) a.cursor view (next.Go (stage.Seek (record { merge = a.merge; version = a.version; node = a.node; cursor = q })))
     looks_further q bounded before next = looks _ refl tt (λ m w f. f.further q bounded before next)
 
-    pub looks_done : (view.node.hi ≡ []) ⊎ UpTo a.node.lo view.node.hi → view.node.next ≢ Some a.merge.child → AfterSeek j a view (next.Go (stage.Confirm (record { parent = a.merge.parent; child = a.merge.child; version = a.version })))
+    pub looks_done : (view.node.hi ≡ []) ⊎ UpTo a.node.lo view.node.hi → view.node.next ≢ Some a.merge.child → AfterRead j (stage.Seek a) a.cursor view (next.Go (stage.Confirm (record { parent = a.merge.parent; child = a.merge.child; version = a.version })))
     looks_done reaches off = looks _ refl tt (λ m w f. f.done reaches off)
 
-    pub looks_receives : view.node.next ≡ Some a.merge.child → count view.node.content ≤ 16 → AfterSeek j a view (next.Go (stage.Receive (record { merge = a.merge; version = a.version; node = a.node; left = view })))
+    pub looks_receives : view.node.next ≡ Some a.merge.child → count view.node.content ≤ 16 → AfterRead j (stage.Seek a) a.cursor view (next.Go (stage.Receive (record { merge = a.merge; version = a.version; node = a.node; left = view })))
     looks_receives next fits = looks _ refl tt (λ m w f. f.receives next (record { fits = fits }))
 
-    pub looks_splits : AfterSeek j a view (next.Go (stage.Split (record { page = view; posting = posting.Nowhere })))
+    pub looks_splits : AfterRead j (stage.Seek a) a.cursor view (next.Go (stage.Split (record { page = view; posting = posting.Nowhere })))
     looks_splits = looks _ refl tt (λ m w f. f.splits)
 
 -- the page before the child receives it, or had changed, or is gone

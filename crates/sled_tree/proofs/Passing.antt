@@ -24,6 +24,7 @@ use Rattle.sled_tree.specs.Change.{decision_at, reply_at}
 use Rattle.sled_tree.specs.theory.Change.{IsLeaf, IsIndex}
 use Rattle.sled_tree.specs.Follows.{EndsWithin}
 use Rattle.sled_tree.specs.Passing.{IsUnchanged, IsAheadOf, IsOnPath, StepsOnPath}
+use Rattle.sled_tree.specs.theory.Stages.{IsElsewhere}
 use Rattle.sled_tree.specs.theory.Passing.{AdvancesOnPath, AdvancesFromPage}
 use Rattle.sled_tree.specs.declared.flight.InFlight.{InFlight}
 use Rattle.sled_tree.specs.Course.{Course, course_of}
@@ -44,8 +45,16 @@ use Rattle.sled_tree.proofs.Arriving.{leaf_is, index_is}
 pub passes_never : (j : Course) (old new : State) (a : Stage) (n : Next) → ((path : List ℕ) → IsOnPath old j a path → ⊥) → AdvancesOnPath j old a n new
 passes_never j old new a n off = record { is = λ path k. absurd (off path k) }
 
-pub passes_nowhere : (j : Course) (old new : State) (taken a : Stage) (n : Next) → taken ≡ a → ((path : List ℕ) → IsOnPath old j a path → ⊥) → AdvancesOnPath j old taken n new
-passes_nowhere j old new taken a n is off = passes_never j old new taken n (λ path k. off path (subst (λ z. IsOnPath old j z path) is k))
+-- no clean path leads to a stage of a repair
+pub passes_elsewhere : (j : Course) (old new : State) (a : Stage) (n : Next) → IsElsewhere a → AdvancesOnPath j old a n new
+passes_elsewhere j old new a n elsewhere = passes_never j old new a n (off a elsewhere)
+  where
+    off : (a : Stage) → IsElsewhere a → (path : List ℕ) → IsOnPath old j a path → ⊥
+    off stage.Root elsewhere path k = elsewhere
+    off (stage.Walk a) elsewhere path k = elsewhere
+    off (stage.Act v) elsewhere path k = elsewhere
+    off (stage.Give a) elsewhere path k = elsewhere
+    off other elsewhere path k = k
 
 -- the page of the path is there
 live_at : (s : State) (aim : Bound Key) (p : ℕ) (first : Bool) (path : List ℕ) → CleanFrom (nodes_of s) aim p first path → s.pages p ≡ None → ⊥

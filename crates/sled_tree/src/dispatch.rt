@@ -7,9 +7,8 @@ ghost use Rattle.sled_tree.specs.theory.StageAction.{StageAction, FlightStep, Fl
 ghost use Rattle.sled_tree.specs.theory.Linking.{StepsBy};
 ghost use Rattle.sled_tree.specs.Follows.{Follows, FollowsOn};
 ghost use Rattle.sled_tree.specs.Passing.{StepsOnPath};
-ghost use Rattle.sled_tree.specs.theory.Passing.{AdvancesOnPath};
 ghost use Rattle.sled_tree.specs.Stages.{IsOnItsWay};
-ghost use Rattle.sled_tree.specs.theory.Stages.{IsOffWalk, IsElsewhere, IsOfMerge};
+ghost use Rattle.sled_tree.specs.theory.Stages.{IsOffWalk, IsElsewhere};
 ghost use Rattle.sled_tree.specs.theory.Walking.{WalksDown};
 
 use crate::act::act;
@@ -33,7 +32,6 @@ fn step_elsewhere<P: Pages>(
 ) -> Next
     requires { IsElsewhere stage }
     ensures moves { StageAction (course job.now aim.now) (P.store pages.old) stage result (P.store pages.new) }
-    ensures passes { AdvancesOnPath (course job.now aim.now) (now (P.store pages.old)) stage result (now (P.store pages.new)) }
     ensures follows { Follows (course job.now aim.now) (P.store pages.old) stage result (P.store pages.new) }
 {
     match stage {
@@ -43,25 +41,13 @@ fn step_elsewhere<P: Pages>(
         Stage::Hoist(pair) => hoist(pages, alloc, job, aim, pair),
         Stage::SwapRoot(root) => swap_root(pages, job, aim, root),
         Stage::Free(own) => free(pages, job, aim, own),
-        _ => step_of_merge(pages, alloc, job, aim, stage),
-    }
-}
-
-// The same, where it is one of a merge.
-fn step_of_merge<P: Pages>(pages: &mut P, alloc: Global, job: &Job, aim: &Aim, stage: Stage) -> Next
-    requires { IsOfMerge stage }
-    ensures moves { StageAction (course job.now aim.now) (P.store pages.old) stage result (P.store pages.new) }
-    ensures passes { AdvancesOnPath (course job.now aim.now) (now (P.store pages.old)) stage result (now (P.store pages.new)) }
-    ensures follows { Follows (course job.now aim.now) (P.store pages.old) stage result (P.store pages.new) }
-{
-    match stage {
         Stage::Intend(merge) => intend(pages, alloc, job, aim, merge),
         Stage::Child(merge) => read_child(pages, alloc, job, aim, merge),
         Stage::Cap(child) => cap(pages, alloc, job, aim, child),
         Stage::Seek(search) => seek(pages, alloc, job, aim, search),
         Stage::Receive(child) => receive(pages, alloc, job, aim, child),
         Stage::Confirm(child) => confirm(pages, job, aim, child),
-        _ => unreachable!(),
+        Stage::Root | Stage::Walk(_) | Stage::Act(_) | Stage::Give(_) => unreachable!(),
     }
 }
 

@@ -7,14 +7,13 @@ ghost use Rattle.std.specs.Prelude.{◌≡◌, ◌↔◌, ◌⊎◌, [], false, 
 ghost use Rattle.sled_nodes.specs.declared.error.Error.TheVariants.{NoMemory};
 ghost use Rattle.sled_nodes.specs.Order.{UpTo};
 ghost use Rattle.sled_tree.specs.Course.{course};
-ghost use Rattle.sled_tree.specs.theory.StageAction.{StageAction};
+ghost use Rattle.sled_tree.specs.theory.StageAction.{AfterRead, StageAction};
 ghost use Rattle.sled_tree.specs.Follows.{ResumesMerge, BeginsMerge, follows_child, follows_cursor, follows_search, follows_met, FollowsPage, OrRefused, follows_intend, follows_cap, follows_receive, follows_confirm};
-ghost use Rattle.sled_tree.specs.theory.StageAction.{AfterChild, AfterSeek};
 ghost use Rattle.sled_tree.specs.declared.flight.Next.TheVariants.{Go};
 ghost use Rattle.tree_laws.specs.declared.flight.Stage.TheVariants as stage;
 
 use crate::flight::{Aim, Job, Next};
-use sled_nodes::{Link, Node, Pid, Result, Shared};
+use sled_nodes::{Link, Node, Pid, Result, Shared, Version};
 use sled_store::{Pages, View};
 use std::alloc::Global;
 use tree_laws::flight::{Cap, Confirm, Merge, Orphan, Posting, Receive, Seek, Split, Stage};
@@ -88,13 +87,11 @@ pub(crate) fn intend<P: Pages>(
             drop(node);
             Next::Go(Stage::Root)
         }
-        Ok(Ok(version)) => {
-            Next::Go(Stage::Child(Merge {
-                parent: View { pid, version, node },
-                child,
-                before,
-            }))
-        }
+        Ok(Ok(version)) => Next::Go(Stage::Child(Merge {
+            parent: View { pid, version, node },
+            child,
+            before,
+        })),
     }
 }
 
@@ -141,18 +138,17 @@ pub(crate) fn read_child<P: Pages>(
 
 // What comes after the merging child was read.
 fn at_child(job: &Job, aim: &Aim, merge: Merge, view: View) -> Next
-    ensures reads { AfterChild (course job.now aim.now) merge view result }
+    ensures reads { AfterRead (course job.now aim.now) (Stage.Child merge) merge.child view result }
     ensures follows { follows_child merge view result }
 {
     let read: &Node = &view.node;
     if read.merging {
         let View { version, node, .. } = view;
-        let cursor = merge.before;
         return Next::Go(Stage::Seek(Seek {
+            cursor: merge.before,
             merge,
             version,
             node,
-            cursor,
         }));
     }
     if let Some(child) = read.merging_child {
@@ -201,15 +197,12 @@ pub(crate) fn cap<P: Pages>(pages: &mut P, alloc: Global, job: &Job, aim: &Aim, 
             drop(node);
             Next::Go(Stage::Child(merge))
         }
-        Ok(Ok(version)) => {
-            let cursor = merge.before;
-            Next::Go(Stage::Seek(Seek {
-                merge,
-                version,
-                node,
-                cursor,
-            }))
-        }
+        Ok(Ok(version)) => Next::Go(Stage::Seek(Seek {
+            cursor: merge.before,
+            merge,
+            version,
+            node,
+        })),
     }
 }
 
@@ -226,6 +219,18 @@ fn reaches(view: &View, seek: &Seek) -> bool
     ensures { IsTrue result ↔ ((view.now.node.hi ≡ []) ⊎ UpTo seek.now.node.lo view.now.node.hi) }
 {
     view.node.hi.len() == 0 || seek.node.lo.as_ref().cmp(view.node.hi.as_ref()).is_le()
+}
+
+// The child was received: its pointer is to go.
+fn to_confirm(merge: Merge, version: Version) -> Next
+    ensures { result ≡ Go (stage.Confirm (record { parent = merge.parent; child = merge.child; version = version })) }
+{
+    let Merge { parent, child, .. } = merge;
+    Next::Go(Stage::Confirm(Confirm {
+        parent,
+        child,
+        version,
+    }))
 }
 
 // Reads the cursor of the search for the page before the merging child.
@@ -248,7 +253,7 @@ pub(crate) fn seek<P: Pages>(pages: &P, alloc: Global, job: &Job, aim: &Aim, see
 
 // What comes after the cursor of the search was read.
 fn at_cursor(job: &Job, aim: &Aim, seek: Seek, view: View) -> Next
-    ensures looks { AfterSeek (course job.now aim.now) seek view result }
+    ensures looks { AfterRead (course job.now aim.now) (Stage.Seek seek) seek.cursor view result }
     ensures follows { follows_cursor seek view result }
 {
     let node: &Node = &view.node;
@@ -268,7 +273,7 @@ fn at_cursor(job: &Job, aim: &Aim, seek: Seek, view: View) -> Next
 fn compare(job: &Job, aim: &Aim, seek: Seek, view: View) -> Next
     requires not_merging { view.node.merging ≡ false }
     requires free { view.node.merging_child ≡ None }
-    ensures looks { AfterSeek (course job.now aim.now) seek view result }
+    ensures looks { AfterRead (course job.now aim.now) (Stage.Seek seek) seek.cursor view result }
     ensures follows { follows_search seek view result }
 {
     if leads_to(&view, &seek) {
@@ -276,7 +281,14 @@ fn compare(job: &Job, aim: &Aim, seek: Seek, view: View) -> Next
     }
     if reaches(&view, &seek) {
         drop(view);
-        return done(seek);
+        let Seek {
+            merge,
+            version,
+            node,
+            ..
+        } = seek;
+        drop(node);
+        return to_confirm(merge, version);
     }
     match view.node.next {
         None => {
@@ -286,7 +298,7 @@ fn compare(job: &Job, aim: &Aim, seek: Seek, view: View) -> Next
         }
         Some(cursor) => {
             drop(view);
-            further(seek, cursor)
+            Next::Go(Stage::Seek(Seek { cursor, ..seek }))
         }
     }
 }
@@ -296,7 +308,7 @@ fn meet(job: &Job, aim: &Aim, seek: Seek, view: View) -> Next
     requires not_merging { view.node.merging ≡ false }
     requires free { view.node.merging_child ≡ None }
     requires leads { view.node.next ≡ Some seek.merge.child }
-    ensures looks { AfterSeek (course job.now aim.now) seek view result }
+    ensures looks { AfterRead (course job.now aim.now) (Stage.Seek seek) seek.cursor view result }
     ensures follows { follows_met seek view result }
 {
     if view.node.should_split() {
@@ -317,43 +329,6 @@ fn meet(job: &Job, aim: &Aim, seek: Seek, view: View) -> Next
         version,
         node,
         left: view,
-    }))
-}
-
-// The child was received before.
-fn done(seek: Seek) -> Next
-    ensures { result ≡ Go (stage.Confirm (record { parent = seek.merge.parent; child = seek.merge.child; version = seek.version })) }
-{
-    let Seek {
-        merge,
-        version,
-        node,
-        ..
-    } = seek;
-    drop(node);
-    let Merge { parent, child, .. } = merge;
-    Next::Go(Stage::Confirm(Confirm {
-        parent,
-        child,
-        version,
-    }))
-}
-
-// The search goes on at the next page.
-fn further(seek: Seek, cursor: Pid) -> Next
-    ensures { result ≡ Go (stage.Seek (record seek { cursor = cursor })) }
-{
-    let Seek {
-        merge,
-        version,
-        node,
-        ..
-    } = seek;
-    Next::Go(Stage::Seek(Seek {
-        merge,
-        version,
-        node,
-        cursor,
     }))
 }
 
@@ -404,12 +379,7 @@ pub(crate) fn receive<P: Pages>(
         })),
         Ok(Ok(_)) => {
             drop(node);
-            let Merge { parent, child, .. } = merge;
-            Next::Go(Stage::Confirm(Confirm {
-                parent,
-                child,
-                version,
-            }))
+            to_confirm(merge, version)
         }
     }
 }

@@ -1,6 +1,6 @@
 -- Steps that keep copies of a reply: where a page that was read decides a call, the call may be refused for want of memory too.
-use Rattle.std.proofs.Common.{◌≡◌, ◌≢◌, ℕ, Bool, false, Option, Some, None, MatchOption, Result, Ok, Err, sym, refl, subst, inl, inr}
-use Rattle.sled_nodes.proofs.Basics.{none_some}
+use Rattle.std.proofs.Common.{◌≡◌, ◌≢◌, ℕ, Bool, false, Option, Some, None, is_none, MatchOption, Result, Ok, Err, sym, refl, ap, ◌∙◌, subst, inl, inr}
+use Rattle.sled_nodes.proofs.Basics.{none_some, true_false}
 use Rattle.sled_nodes.specs.Order.{Key}
 use Rattle.sled_nodes.specs.Ranges.{Range}
 use Rattle.sled_nodes.specs.declared.error.Error.{Error}
@@ -45,8 +45,8 @@ use Rattle.sled_tree.proofs.Facts.{unable, by_these}
 use Rattle.tree_scans.specs.Scans.{ScanStep, Gives, Ends, GoesOn, Walks, Lacks, behind}
 use Rattle.tree_steps.specs.Outcomes.{outcome_of, kept_of}
 use Rattle.tree_steps.specs.theory.Outcomes.{ComesOut}
-use Rattle.tree_steps.specs.theory.Watched.{AdvancesOver, TellsPrepared, links_watched_as}
-use Rattle.tree_steps.proofs.Watching.{short, alone}
+use Rattle.tree_steps.specs.theory.Watched.{TellsPrepared, StepsOver, steps_over_as, links_watched_as}
+use Rattle.tree_steps.proofs.Watching.{short, alone, same_queues}
 
 -- ---- the tables: a line that decides is that of a leaf, and there the call may be refused
 
@@ -209,11 +209,13 @@ module _ (operator : Option Operator) (a b : Store) (f g : InFlight) where
       }
 
   -- a call on a key that is not at its link
-  pub kept_alone : (IsAtLink f.stage → ⊥) → (queues : QueuesValue) → IsCalm (queue_at queues) → (w kept : Went) → StepsBy operator a f w b g → ComesOut w kept → AdvancesOver operator a queues f kept b queues g
-  kept_alone off queues calm w kept steps out = alone operator a b f g queues calm (λ v here. absurd (off (subst IsAtLink (sym here) tt))) kept (elim out [
-    | inl e ↦ subst (λ z. StepsBy operator a f z b g) (sym e) steps
-    | inr t ↦ subst (λ z. StepsBy operator a f z b g) (sym t.3) (lacks t.0 (λ v here. absurd (off (subst IsAtLink (sym here) tt))) (subst (λ z. StepsBy operator a f z b g) t.1 steps))
-  ])
+  pub kept_alone : IsOnKey f.job.call → (IsAtLink f.stage → ⊥) → (queues : QueuesValue) → IsCalm (queue_at queues) → (w kept : Went) → StepsBy operator a f w b g → ComesOut w kept → StepsOver operator a queues f kept b queues g
+  kept_alone on_key off queues calm w kept steps out = record {
+    is = subst (λ o. steps_over_as o operator a queues f kept b queues g) (sym on_key) (alone operator a b f g queues calm (λ v here. absurd (off (subst IsAtLink (sym here) tt))) kept (elim out [
+      | inl e ↦ subst (λ z. StepsBy operator a f z b g) (sym e) steps
+      | inr t ↦ subst (λ z. StepsBy operator a f z b g) (sym t.3) (lacks t.0 (λ v here. absurd (off (subst IsAtLink (sym here) tt))) (subst (λ z. StepsBy operator a f z b g) t.1 steps))
+    ]));
+  }
 
 -- a scan links nothing
 scan_links : (c : Call) (r : Range) → range_of c ≡ Some r → (o : Option Operator) (d : Data) → link_of (decision_at o c d).effect (key_of c) ≡ None
@@ -243,13 +245,18 @@ module _ (a : Store) (f : InFlight) (r : Range) (is : range_of f.job.call ≡ So
   scan_lacks (Walks w b g way begun steps) decided =
       Walks (went.Refused NoMemory) b g way begun (lacks None a b f g reply (λ v at o. scan_links f.job.call r is o v.node.content) (subst (λ z. StepsBy None a f z b g) decided steps))
 
-pub scan_kept : (a b : Store) (f g : InFlight) → (IsOnKey f.job.call → ⊥) → (w kept : Went) → ScanStep (StepsBy None) a f w b g → ComesOut w kept → ScanStep (StepsBy None) a f kept b g
-scan_kept a b f g scan w kept step (inl e) = subst (λ z. ScanStep (StepsBy None) a f z b g) (sym e) step
-scan_kept a b f g scan w kept step (inr (reply, decided, unended, lacking)) = subst (λ z. ScanStep (StepsBy None) a f z b g) (sym lacking) (go (range_of f.job.call) refl)
+pub scan_kept : (operator : Option Operator) (a b : Store) (f g : InFlight) → is_none (range_of f.job.call) ≡ false → (queues : QueuesValue) (w kept : Went) → ScanStep (StepsBy None) a f w b g → ComesOut w kept → StepsOver operator a queues f kept b queues g
+scan_kept operator a b f g scan queues w kept step out = record { is = over (range_of f.job.call) refl }
   where
-    go : (o : Option Range) → range_of f.job.call ≡ o → ScanStep (StepsBy None) a f (went.Refused NoMemory) b g
-    go None is = absurd (scan is)
-    go (Some r) is = scan_lacks a f r is reply unended step decided
+    over : (o : Option Range) → range_of f.job.call ≡ o → steps_over_as o operator a queues f kept b queues g
+    over None is = true_false (sym (ap is_none is) ∙ scan)
+    over (Some r) is = (
+      elim out [
+        | inl e ↦ subst (λ z. ScanStep (StepsBy None) a f z b g) (sym e) step
+        | inr t ↦ subst (λ z. ScanStep (StepsBy None) a f z b g) (sym t.3) (scan_lacks a f r is t.0 t.2 step t.1)
+      ],
+      same_queues queues queues refl,
+    )
 
 -- of a step that decides nothing no reply is kept
 pub keeps_none : (w : Went) → ((reply : Reply) → w ≡ went.Decided reply → ⊥) → None ≡ kept_of (outcome_of w)

@@ -3,7 +3,7 @@
 //! The copies are made before the action that decides the call: where there is no memory for them the step is refused, and no call is
 //! decided. A call that links a change has its reply before the link. Any other is decided by a page that it read, after which nothing
 //! was changed, and so it may still be refused.
-ghost use Rattle.std.specs.Prelude.{◌≡◌, ◌≢◌, ◌<◌, true, false, None, IfOk, IfErr};
+ghost use Rattle.std.specs.Prelude.{◌≡◌, ◌≢◌, ◌<◌, true, false, IfOk, IfErr};
 ghost use Rattle.std.specs.Option.{option_map};
 ghost use Rattle.sled_nodes.specs.declared.error.Error.TheVariants.{NoMemory};
 ghost use Rattle.sled_queues.specs.Values.{queue_at};
@@ -12,8 +12,7 @@ ghost use Rattle.sled_model.specs.State.{IsOnKey};
 ghost use Rattle.sled_model.specs.declared.reply.Reply.TheVariants.{End};
 ghost use Rattle.sled_tree.specs.Stages.{IsOnItsWay};
 ghost use Rattle.sled_tree.specs.theory.Change.{IsOfPair};
-ghost use Rattle.sled_tree.specs.theory.Linking.{IsAtLink, StepsBy};
-ghost use Rattle.tree_scans.specs.Scans.{ScanStep};
+ghost use Rattle.sled_tree.specs.theory.Linking.{IsAtLink};
 ghost use Rattle.tree_steps.specs.Outcomes.{outcome_of, kept_of};
 ghost use Rattle.tree_steps.specs.theory.Outcomes.{ComesOut};
 ghost use Rattle.tree_steps.specs.theory.Watched.{AdvancesOver, StepsOver, TellsPrepared};
@@ -149,37 +148,6 @@ fn is_at_link(flight: &InFlight) -> bool
     matches!(&flight.stage, Stage::Act(_))
 }
 
-// One step of a call on a key that has turns left.
-fn keep_on_key<P: Pages, M: MergeOperator>(
-    pages: &mut P,
-    queues: &mut Queues,
-    alloc: Global,
-    operator: Option<&M>,
-    flight: &mut InFlight,
-) -> Kept
-    requires room { flight.old.turns < MAX_LOOPS }
-    requires way { IsOnItsWay flight.old.stage }
-    requires calm { IsCalm (queue_at queues.old) }
-    ensures steps { AdvancesOver (option_map (λ o. M.meant o.now) operator.entry) (P.store pages.old) queues.old flight.old result.0 (P.store pages.new) queues.new flight.new }
-    ensures kept { result.1 ≡ kept_of (outcome_of result.0) }
-{
-    if is_at_link(flight) {
-        link_kept(pages, queues, alloc, operator, flight)
-    } else {
-        keep(advance(pages, alloc, operator, flight))
-    }
-}
-
-// One step of a scan that has turns left.
-fn keep_scan<P: Pages>(pages: &mut P, alloc: Global, flight: &mut InFlight) -> Kept
-    requires room { flight.old.turns < MAX_LOOPS }
-    requires scan { IsOnKey flight.old.job.call → ⊥ }
-    ensures steps { ScanStep (StepsBy None) (P.store pages.old) flight.old result.0 (P.store pages.new) flight.new }
-    ensures kept { result.1 ≡ kept_of (outcome_of result.0) }
-{
-    keep(tree_scans::advance(pages, alloc, flight))
-}
-
 /// One step of a call in flight that has turns left, as `advance_over` makes it, and copies of its reply where it decides the call.
 pub fn keep_over<P: Pages, M: MergeOperator>(
     pages: &mut P,
@@ -194,9 +162,11 @@ pub fn keep_over<P: Pages, M: MergeOperator>(
     ensures steps { StepsOver (option_map (λ o. M.meant o.now) operator.entry) (P.store pages.old) queues.old flight.old result.0 (P.store pages.new) queues.new flight.new }
     ensures kept { result.1 ≡ kept_of (outcome_of result.0) }
 {
-    if flight.job.call.is_on_key() {
-        keep_on_key(pages, queues, alloc, operator, flight)
+    if !flight.job.call.is_on_key() {
+        keep(tree_scans::advance(pages, alloc, flight))
+    } else if is_at_link(flight) {
+        link_kept(pages, queues, alloc, operator, flight)
     } else {
-        keep_scan(pages, alloc, flight)
+        keep(advance(pages, alloc, operator, flight))
     }
 }

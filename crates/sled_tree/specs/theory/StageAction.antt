@@ -14,9 +14,6 @@ use Rattle.tree_laws.specs.theory.Snapshot.{KeepsForest}
 use Rattle.tree_laws.specs.Stages.{owned}
 use Rattle.tree_laws.specs.theory.Stages.{IsHere}
 use Rattle.tree_laws.specs.declared.flight.Stage.{Stage}
-use Rattle.tree_laws.specs.declared.flight.Stage.TheVariants as stage
-use Rattle.tree_laws.specs.declared.flight.Merge.{Merge}
-use Rattle.tree_laws.specs.declared.flight.Seek.{Seek}
 use Rattle.tree_laws.specs.declared.flight.Reached.{Reached}
 use Rattle.sled_tree.specs.declared.flight.Next.{Next}
 use Rattle.sled_tree.specs.declared.flight.Next.TheVariants.{Go, Decided, Refused}
@@ -113,16 +110,9 @@ pub record AfterPage (j : Course) (view : View) (by : Reached) (next : Next) : T
 abbrev pub IsUnchangedNow : Snapshot → View → Type 0
 IsUnchangedNow m v = m.state.pages v.pid ≡ Some (record { version = v.version; node = v.node })
 
--- what comes after a merging child was read
-pub record AfterChild (j : Course) (merge : Merge) (view : View) (next : Next) : Type 0 where
+-- what comes after a stage of a merge has read its page
+pub record AfterRead (j : Course) (taken : Stage) (pid : ℕ) (view : View) (next : Next) : Type 0 where
   pub touches : (s : Store) → effect_of_action next s s
   pub is : (s : Store) (numbers : Tree → Option ℕ) (given : ℕ → Bool) (w : Forest)
-      → HasForest (snapshot_of s numbers given) w → numbers j.tree.name ≡ Some j.tree.number → view.pid ≡ merge.child → IsUnchangedNow (snapshot_of s numbers given) view → Knows (snapshot_of s numbers given) w j (stage.Child merge)
-      → ReadOutcome j s (snapshot_of s numbers given) w next
-
--- what comes after the cursor of the search for the page before a merging child was read
-pub record AfterSeek (j : Course) (seek : Seek) (view : View) (next : Next) : Type 0 where
-  pub touches : (s : Store) → effect_of_action next s s
-  pub is : (s : Store) (numbers : Tree → Option ℕ) (given : ℕ → Bool) (w : Forest)
-      → HasForest (snapshot_of s numbers given) w → numbers j.tree.name ≡ Some j.tree.number → view.pid ≡ seek.cursor → IsUnchangedNow (snapshot_of s numbers given) view → Knows (snapshot_of s numbers given) w j (stage.Seek seek)
+      → HasForest (snapshot_of s numbers given) w → numbers j.tree.name ≡ Some j.tree.number → view.pid ≡ pid → IsUnchangedNow (snapshot_of s numbers given) view → Knows (snapshot_of s numbers given) w j taken
       → ReadOutcome j s (snapshot_of s numbers given) w next

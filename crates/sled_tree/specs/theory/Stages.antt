@@ -2,16 +2,6 @@
 use Rattle.tree_laws.specs.declared.flight.Stage.{Stage}
 use Rattle.tree_laws.specs.declared.flight.Stage.TheVariants as stage
 
--- the stage is one of a merge
-abbrev pub IsOfMerge : Stage → Type 0
-IsOfMerge (stage.Intend a) = Unit {0}
-IsOfMerge (stage.Child a) = Unit {0}
-IsOfMerge (stage.Cap a) = Unit {0}
-IsOfMerge (stage.Seek a) = Unit {0}
-IsOfMerge (stage.Receive a) = Unit {0}
-IsOfMerge (stage.Confirm a) = Unit {0}
-IsOfMerge other = ⊥
-
 -- the stage is none of a walk
 abbrev pub IsOffWalk : Stage → Type 0
 IsOffWalk stage.Root = ⊥

@@ -1,6 +1,6 @@
-use Rattle.std.proofs.Common.{sym, ◌∙◌}
-use Rattle.sled_tree.proofs.Merges.{child_read}
+use Rattle.std.proofs.Common.{refl, sym, ◌∙◌}
+use Rattle.sled_tree.proofs.Merges.{merge_read}
 use Rattle.sled_tree.proofs.merge.read_child.Goals as goal
 
 pub returns-in-Ok-Some-clause-moves : goal.returns-in-Ok-Some-clause-moves
-returns-in-Ok-Some-clause-moves g c = child_read _ _ _ _ _ (sym c.in-Ok-Some.field-0-is ∙ c.in-Ok-Some.ensures.ok) c.at_child.ensures.reads
+returns-in-Ok-Some-clause-moves g c = merge_read _ _ _ _ _ _ refl (sym c.in-Ok-Some.field-0-is ∙ c.in-Ok-Some.ensures.ok) c.at_child.ensures.reads
