@@ -29,26 +29,12 @@ pub(crate) fn enlist(
     ensures cause { IfErr result (λ e. e ≡ NoMemory) }
 {
     if let Some(lengths) = trees.get_mut(&tree) {
-        if let Err(e) = put_at_length(lengths, alloc, prefix, number) {
-            return Err(e);
-        }
-        return Ok(());
+        return put_at_length(lengths, alloc, prefix, number);
     }
     let mut lengths = BTreeMap::new(alloc);
-    if let Err(e) = put_at_length(&mut lengths, alloc, prefix, number) {
-        drop(lengths);
-        return Err(e);
-    }
-    match trees.insert(tree, lengths) {
-        Ok(none) => {
-            drop(none);
-            Ok(())
-        }
-        Err(failed) => {
-            drop(failed);
-            Err(Error::NoMemory)
-        }
-    }
+    put_at_length(&mut lengths, alloc, prefix, number)?;
+    drop(trees.insert(tree, lengths)?);
+    Ok(())
 }
 
 fn put_at_length(lengths: &mut Lengths, alloc: Global, prefix: &[u8], number: u64) -> Result<()>
@@ -58,26 +44,12 @@ fn put_at_length(lengths: &mut Lengths, alloc: Global, prefix: &[u8], number: u6
 {
     let len = prefix.len();
     if let Some(prefixes) = lengths.get_mut(&len) {
-        if let Err(e) = put_at_prefix(prefixes, alloc, prefix, number) {
-            return Err(e);
-        }
-        return Ok(());
+        return put_at_prefix(prefixes, alloc, prefix, number);
     }
     let mut prefixes = BTreeMap::new(alloc);
-    if let Err(e) = put_at_prefix(&mut prefixes, alloc, prefix, number) {
-        drop(prefixes);
-        return Err(e);
-    }
-    match lengths.insert(len, prefixes) {
-        Ok(none) => {
-            drop(none);
-            Ok(())
-        }
-        Err(failed) => {
-            drop(failed);
-            Err(Error::NoMemory)
-        }
-    }
+    put_at_prefix(&mut prefixes, alloc, prefix, number)?;
+    drop(lengths.insert(len, prefixes)?);
+    Ok(())
 }
 
 fn put_at_prefix(prefixes: &mut Prefixes, alloc: Global, prefix: &[u8], number: u64) -> Result<()>
@@ -94,16 +66,8 @@ fn put_at_prefix(prefixes: &mut Prefixes, alloc: Global, prefix: &[u8], number: 
     let mut numbers = Vec::new(alloc);
     put_number(&mut numbers, number)?;
     let own = Vec::from_slice(alloc, prefix)?;
-    match prefixes.insert(own, numbers) {
-        Ok(none) => {
-            drop(none);
-            Ok(())
-        }
-        Err(failed) => {
-            drop(failed);
-            Err(Error::NoMemory)
-        }
-    }
+    drop(prefixes.insert(own, numbers)?);
+    Ok(())
 }
 
 fn put_number(list: &mut Vec<u64>, number: u64) -> Result<()>

@@ -1,8 +1,8 @@
 //! Transactions of one tree: a closure is run until it meets no conflict.
 ghost use Rattle.std.specs.Prelude.{◌≡◌};
-ghost use Rattle.tree_transactions.specs.Attempts.{CanBegin};
+ghost use Rattle.tree_transactions.specs.Attempts.{Calls, CanBegin};
 ghost use Rattle.tree_transactions.specs.Transactions.{Begins, Transacts};
-ghost use Rattle.tree_transactions.specs.theory.Attempts.{Told, CalledAtTree, AttemptsTree};
+ghost use Rattle.tree_transactions.specs.theory.Attempts.{Told, made_as, ended_as, AttemptsTree};
 
 use crate::MOST_ATTEMPTS;
 use crate::answer::TransactionAnswer;
@@ -29,49 +29,63 @@ pub struct Commit<A, W> {
     pub flushes: bool,
 }
 
-// What the closure answers at a tree.
-fn call<P: Pages, R, F>(tree: &mut TransactionalTree<'_, P>, f: &F) -> R
+// What the closure answers.
+fn call<T, R, F>(given: &mut T, f: &F) -> R
 where
-    F: Fn(&mut TransactionalTree<'_, P>) -> R,
-    requires { (given : _) → given.now ≡ tree.old → F.pre f.now given }
-    ensures { Told F.Fn f.now tree.old result tree.new }
+    F: Fn(&mut T) -> R,
+    requires { (shown : _) → shown.now ≡ given.old → F.pre f.now shown }
+    ensures { Told F.Fn f.now given.old result given.new }
 {
-    f(tree)
+    f(given)
 }
 
-// Calls the closure once at a tree with nothing written so far: what it answers, and what it leaves.
-fn call_fresh<P: Pages, A, E, R: TransactionAnswer<A, E>, F>(
-    alloc: Global,
-    pages: &P,
-    root: Pid,
-    greatest_id: u64,
+// Calls the closure once: what it answers, and what it leaves of what it was given.
+pub(crate) fn call_once<T, A, E, R: TransactionAnswer<A, E>, F>(
+    mut given: T,
     f: &F,
-) -> (ConflictableTransactionResult<A, E>, Batch, bool, u64)
+) -> (ConflictableTransactionResult<A, E>, T)
 where
-    F: Fn(&mut TransactionalTree<'_, P>) -> R,
-    requires { (given : _) → Begins P.store root (P.store pages.now) greatest_id given.now → F.pre f.now given }
-    ensures { CalledAtTree P.store F.Fn R.result_of f.now root (P.store pages.now) greatest_id result.0 result.1 result.2 result.3 }
+    F: Fn(&mut T) -> R,
+    requires { (shown : _) → shown.now ≡ given → F.pre f.now shown }
+    ensures { Calls F.Fn R.result_of f.now given result.0 result.1 }
 {
-    let mut tree = TransactionalTree {
-        alloc,
-        pages,
-        root,
-        overlay: Batch::default(alloc),
-        greatest_id,
-        mark: pages.mark(),
-        flushes: false,
-    };
-    let answer = call(&mut tree, f);
-    let TransactionalTree {
-        alloc: _,
-        pages: _,
-        root: _,
-        overlay,
-        greatest_id: left,
-        mark: _,
-        flushes,
-    } = tree;
-    (answer.into_result(), overlay, flushes, left)
+    let answer = call(&mut given, f);
+    (answer.into_result(), given)
+}
+
+// What is to be made of an attempt that ended so. What it wrote is let go where its closure did not end by `Ok`.
+pub(crate) fn made<A, E, W: Drop>(
+    answer: ConflictableTransactionResult<A, E>,
+    writes: W,
+    flushes: bool,
+) -> ConflictableTransactionResult<Commit<A, W>, E>
+    ensures { result ≡ made_as answer writes flushes }
+{
+    match answer {
+        Ok(answer) => Ok(Commit {
+            answer,
+            writes,
+            flushes,
+        }),
+        Err(e) => {
+            drop(writes);
+            Err(e)
+        }
+    }
+}
+
+// What a transaction answers whose last attempt ended so; none where another is to follow.
+pub(crate) fn ended<A, E, W>(
+    attempt: ConflictableTransactionResult<Commit<A, W>, E>,
+) -> Option<TransactionResult<Commit<A, W>, E>>
+    ensures { result ≡ ended_as attempt }
+{
+    match attempt {
+        Ok(commit) => Some(Ok(commit)),
+        Err(ConflictableTransactionError::Abort(e)) => Some(Err(TransactionError::Abort(e))),
+        Err(ConflictableTransactionError::Conflict) => None,
+        Err(ConflictableTransactionError::Storage(e)) => Some(Err(TransactionError::Storage(e))),
+    }
 }
 
 // One attempt.
@@ -88,19 +102,27 @@ where
     ensures { AttemptsTree P.store F.Fn R.result_of f.now root (P.store pages.old) greatest_id.old result (P.store pages.new) greatest_id.new }
 {
     set_ids_aside(pages, *greatest_id);
-    let (answer, writes, flushes, left) = call_fresh(alloc, &*pages, root, *greatest_id, f);
-    *greatest_id = ids_after(*greatest_id, pages.mark(), left);
-    match answer {
-        Ok(answer) => Ok(Commit {
-            answer,
-            writes,
-            flushes,
-        }),
-        Err(e) => {
-            drop(writes);
-            Err(e)
-        }
-    }
+    let tree = TransactionalTree {
+        alloc,
+        pages: &*pages,
+        root,
+        overlay: Batch::default(alloc),
+        greatest_id: *greatest_id,
+        mark: pages.mark(),
+        flushes: false,
+    };
+    let (answer, left) = call_once(tree, f);
+    let TransactionalTree {
+        alloc: _,
+        pages: _,
+        root: _,
+        overlay,
+        greatest_id: greatest,
+        mark: _,
+        flushes,
+    } = left;
+    *greatest_id = ids_after(*greatest_id, pages.mark(), greatest);
+    made(answer, overlay, flushes)
 }
 
 /// Runs a closure as a transaction of the tree with this root, up to what is to be made of it: nothing is written here.
@@ -132,13 +154,8 @@ where
     ensures { Transacts P.store F.Fn R.result_of f root (P.store pages.old) greatest_id.old result (P.store pages.new) greatest_id.new }
 {
     for _ in 0..MOST_ATTEMPTS {
-        match attempt(alloc, pages, root, greatest_id, &f) {
-            Ok(commit) => return Ok(commit),
-            Err(ConflictableTransactionError::Abort(e)) => return Err(TransactionError::Abort(e)),
-            Err(ConflictableTransactionError::Conflict) => {}
-            Err(ConflictableTransactionError::Storage(e)) => {
-                return Err(TransactionError::Storage(e));
-            }
+        if let Some(ended) = ended(attempt(alloc, pages, root, greatest_id, &f)) {
+            return ended;
         }
     }
     Err(TransactionError::Storage(Error::ReportableBug(TRANSACTION_PASSED_ATTEMPTS)))

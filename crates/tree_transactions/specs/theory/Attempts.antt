@@ -1,13 +1,16 @@
 -- One attempt of a transaction, as its functions tell it.
-use Rattle.std.specs.Prelude.{◌≡◌, ℕ, Bool, List, Result, Ok, Err}
+use Rattle.std.specs.Prelude.{◌≡◌, ℕ, Bool, List, Option, Some, None, Result, Ok, Err}
 use denote.Ref.{MutBor}
 use Rattle.sled_batch.specs.Batch.{Writes}
 use Rattle.sled_store.specs.Store.{Store}
 use Rattle.tree_transactions.specs.Ids.{SetsAside, sets_aside_for}
-use Rattle.tree_transactions.specs.Attempts.{Answer, Closure, Calls, Left, Attempt}
+use Rattle.tree_transactions.specs.Attempts.{Answer, Closure, Left, Attempt}
 use Rattle.tree_transactions.specs.Transactions.{Begins, left_of_tree, BeginsAll, left_of_trees}
 use Rattle.tree_transactions.specs.declared.attempts.Commit.{Commit}
 use Rattle.tree_transactions.specs.declared.errors.ConflictableTransactionError.{ConflictableTransactionError}
+use Rattle.tree_transactions.specs.declared.errors.ConflictableTransactionError.TheVariants as closure
+use Rattle.tree_transactions.specs.declared.errors.TransactionError.{TransactionError}
+use Rattle.tree_transactions.specs.declared.errors.TransactionError.TheVariants.{Abort, Storage}
 use Rattle.tree_transactions.specs.declared.tree.TransactionalTree.{TransactionalTree}
 use Rattle.tree_transactions.specs.declared.trees.TransactionalTrees.{TransactionalTrees}
 
@@ -19,16 +22,17 @@ pub record Told {F T R : Type 0} (says : Closure F T R) (f : F) (given : T) (ans
   pub met : says.post f (shown, tt) (answer, (left, tt))
   pub leaves : left.now ≡ after
 
-module _ {F T R A E W : Type 0} (says : Closure F T R) (result_of : R → Answer A E) (f : F) (begins : Store → ℕ → T → Type 0) (left_of : T → Left W) where
-  -- the closure was called with nothing written so far, and left this
-  pub record CalledOnce (pages : Store) (greatest : ℕ) (answer : Answer A E) (writes : W) (flushes : Bool) (left : ℕ) : Type 0 where
-    pub given : T
-    pub fresh : begins pages greatest given
-    pub after : T
-    pub calls : Calls says result_of f given answer after
-    pub writes_are : writes ≡ (left_of after).writes
-    pub flushes_is : flushes ≡ (left_of after).flushes
-    pub left_is : left ≡ (left_of after).greatest_id
+-- what is to be made of an attempt whose closure answered so
+abbrev pub made_as : {A E W : Type 0} → Answer A E → W → Bool → Result (Commit A W) (ConflictableTransactionError E)
+made_as (Ok answer) writes flushes = Ok (record { answer = answer; writes = writes; flushes = flushes })
+made_as (Err e) writes flushes = Err e
+
+-- what a transaction answers after an attempt that ended so; none where another is to follow
+abbrev pub ended_as : {A E W : Type 0} → Result (Commit A W) (ConflictableTransactionError E) → Option (Result (Commit A W) (TransactionError E))
+ended_as (Ok commit) = Some (Ok commit)
+ended_as (Err (closure.Abort e)) = Some (Err (Abort e))
+ended_as (Err closure.Conflict) = None
+ended_as (Err (closure.Storage e)) = Some (Err (Storage e))
 
 module _ {F T R A E W : Type 0} (says : Closure F T R) (result_of : R → Answer A E) (f : F) (raises : ℕ → Store → Store → Type 0) (begins : Store → ℕ → T → Type 0) (left_of : T → Left W) where
   abbrev pub attempts_as : Store → ℕ → Result (Commit A W) (ConflictableTransactionError E) → Store → ℕ → Type 0
@@ -39,14 +43,8 @@ module _ {F T R A E W : Type 0} (says : Closure F T R) (result_of : R → Answer
   pub record Attempts (old : Store) (greatest : ℕ) (answer : Result (Commit A W) (ConflictableTransactionError E)) (new : Store) (next : ℕ) : Type 0 where
     pub is : attempts_as old greatest answer new next
 
-abbrev pub CalledAtTree : {P F R A E : Type 0} → (P → Store) → Closure F (TransactionalTree P) R → (R → Answer A E) → F → ℕ → Store → ℕ → Answer A E → Writes → Bool → ℕ → Type 0
-CalledAtTree store says result_of f root = CalledOnce says result_of f (Begins store root) left_of_tree
-
 abbrev pub AttemptsTree : {P F R A E : Type 0} → (P → Store) → Closure F (TransactionalTree P) R → (R → Answer A E) → F → ℕ → Store → ℕ → Result (Commit A Writes) (ConflictableTransactionError E) → Store → ℕ → Type 0
 AttemptsTree store says result_of f root = Attempts says result_of f SetsAside (Begins store root) left_of_tree
-
-abbrev pub CalledAtTrees : {P F R A E : Type 0} → (P → Store) → Closure F (TransactionalTrees P) R → (R → Answer A E) → F → List ℕ → Store → ℕ → Answer A E → List Writes → Bool → ℕ → Type 0
-CalledAtTrees store says result_of f roots = CalledOnce says result_of f (BeginsAll store roots) left_of_trees
 
 abbrev pub AttemptsTrees : {P F R A E : Type 0} → (P → Store) → Closure F (TransactionalTrees P) R → (R → Answer A E) → F → List ℕ → Store → ℕ → Result (Commit A (List Writes)) (ConflictableTransactionError E) → Store → ℕ → Type 0
 AttemptsTrees store says result_of f roots = Attempts says result_of f (sets_aside_for roots) (BeginsAll store roots) left_of_trees

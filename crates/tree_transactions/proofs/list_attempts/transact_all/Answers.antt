@@ -1,7 +1,7 @@
-use Rattle.std.proofs.Common.{Err, ap, ◌∙◌, arith}
+use Rattle.std.proofs.Common.{inl, sym, ◌∙◌, arith}
 use Rattle.tree_transactions.specs.Ids.{sets_aside_for}
 use Rattle.tree_transactions.specs.Transactions.{BeginsAll, left_of_trees}
-use Rattle.tree_transactions.proofs.Attempting.{sets_only_for, only_both, on_way_first, on_way_more}
+use Rattle.tree_transactions.proofs.Attempting.{sets_only_for, only_both, on_way_first, on_way_more, on_way_ends}
 use Rattle.tree_transactions.proofs.list_attempts.transact_all.Goals as goal
 
 pub loop-init : goal.loop-init
@@ -18,4 +18,13 @@ loop-preserved g c =
     let store = g.P.Pages.store in
     on_way_more g.F.Fn g.R.TransactionAnswer.result_of c.args.f (sets_aside_for c.args.roots.now) (sets_only_for c.args.roots.now) (BeginsAll store c.args.roots.now) left_of_trees
     (store c.args.pages.now) (store c.loop.pages) (store c.attempt.new.pages) c.args.greatest_id.now c.loop.counter c.loop.greatest_id c.attempt.new.greatest_id
-    c.attempt.result c.loop.invariant c.attempt.ensures (c.in-Err-Conflict.is ∙ ap Err c.in-Err-Conflict.field-0-is)
+    c.attempt.result c.loop.invariant c.attempt.ensures (sym c.ended.ensures ∙ c.in_default.is)
+
+pub returns-in-Some : goal.returns-in-Some
+returns-in-Some g c =
+    let store = g.P.Pages.store in
+    record {
+      is = inl (on_way_ends g.F.Fn g.R.TransactionAnswer.result_of c.args.f (sets_aside_for c.args.roots.now) (sets_only_for c.args.roots.now) (BeginsAll store c.args.roots.now) left_of_trees
+          (store c.args.pages.now) (store c.loop.pages) (store c.attempt.new.pages) c.args.greatest_id.now c.loop.counter c.loop.greatest_id c.attempt.new.greatest_id
+          c.attempt.result c.in-Some.ended c.loop.invariant c.loop-test.true c.attempt.ensures (sym c.ended.ensures ∙ c.in-Some.is));
+    }
