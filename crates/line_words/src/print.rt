@@ -1,12 +1,11 @@
 //! Lines: how outcomes are printed. Each function adds one line. It is refused with `NoMemory` alone, and a beginning of
 //! the line may stand there then.
-ghost use Rattle.std.specs.Prelude.{◌≡◌, ◌++◌, Some, OnOk, IfErr, decimal};
+ghost use Rattle.std.specs.Prelude.{◌≡◌, ◌++◌, Some, OnOk, IfErr, codes, decimal};
 ghost use Rattle.std.specs.Option.{option_copied};
 ghost use Rattle.std.specs.List.{flat_map};
 ghost use Rattle.sled_nodes.specs.declared.error.Error.TheVariants.{NoMemory};
-ghost use Rattle.sled_model.specs.declared.event.Event.TheVariants.{Insert, Remove};
-ghost use Rattle.line_words.specs.Words.{word_of};
-ghost use Rattle.line_words.specs.Print.{end, piece_text, shown_of, shown_of_whole, name_of, number_name_of, conflict_line, found_line, at_line, tree_line, subscriber_line, event_line, next_line, reply_line, error_number, refused_line, slot_line, outcome_line, pair_line, end_line, recovered_line, bad_line};
+ghost use Rattle.line_words.specs.Words.{printed, word_of};
+ghost use Rattle.line_words.specs.Print.{end, piece_text, shown_of, shown_of_whole, name_of, number_name_of, conflict_line, subscriber_line, event_line, next_line, reply_line, error_number, refused_line, slot_line, outcome_line, pair_line, end_line, recovered_line, bad_line};
 
 use crate::words::push_word;
 use sled_model::{Call, CompareAndSwapError, Event, Next, Outcome, Reply, Whole};
@@ -111,6 +110,26 @@ pub fn push_numbered(out: &mut Vec<u8>, name: &[u8], number: u64) -> Result<()>
     push_text(out, b"\n")
 }
 
+// Adds a line that is a name and the word of a byte string.
+fn push_named(out: &mut Vec<u8>, name: &[u8], bytes: &[u8]) -> Result<()>
+    ensures ok { OnOk result (out.new.items ≡ out.old.items ++ (name.now ++ printed bytes.now ++ end)) }
+    ensures err { IfErr result (λ e. e ≡ NoMemory) }
+{
+    push_text(out, name)?;
+    push_word(out, bytes)?;
+    push_text(out, b"\n")
+}
+
+// Adds a line that is a name and the words of a key and its value.
+fn push_entry(out: &mut Vec<u8>, name: &[u8], key: &[u8], value: &[u8]) -> Result<()>
+    ensures ok { OnOk result (out.new.items ≡ out.old.items ++ (name.now ++ printed key.now ++ codes " " ++ printed value.now ++ end)) }
+    ensures err { IfErr result (λ e. e ≡ NoMemory) }
+{
+    push_text(out, name)?;
+    push_word(out, key)?;
+    push_named(out, b" ", value)
+}
+
 // Adds the word of a byte string, or `-` for none.
 fn push_value(out: &mut Vec<u8>, value: Option<&IVec>) -> Result<()>
     ensures ok { OnOk result (out.new.items ≡ out.old.items ++ word_of (option_copied value.entry)) }
@@ -134,51 +153,6 @@ fn push_conflict(out: &mut Vec<u8>, conflict: &CompareAndSwapError) -> Result<()
     push_text(out, b"\n")
 }
 
-// Adds the line of a pair that was found.
-fn push_found<'a>(out: &mut Vec<u8>, key: &'a [u8], value: &'a [u8]) -> Result<()>
-    ensures ok { OnOk result (out.new.items ≡ out.old.items ++ found_line key.now value.now) }
-    ensures err { IfErr result (λ e. e ≡ NoMemory) }
-{
-    push_pieces(
-        out,
-        &[
-            Piece::Text(b"found "),
-            Piece::Word(key),
-            Piece::Text(b" "),
-            Piece::Word(value),
-            Piece::Text(b"\n"),
-        ],
-    )
-}
-
-// Adds the line of a pair that a scan gave.
-fn push_at<'a>(out: &mut Vec<u8>, key: &'a [u8], value: &'a [u8]) -> Result<()>
-    ensures ok { OnOk result (out.new.items ≡ out.old.items ++ at_line key.now value.now) }
-    ensures err { IfErr result (λ e. e ≡ NoMemory) }
-{
-    push_pieces(
-        out,
-        &[
-            Piece::Text(b"at "),
-            Piece::Word(key),
-            Piece::Text(b" "),
-            Piece::Word(value),
-            Piece::Text(b"\n"),
-        ],
-    )
-}
-
-// Adds the line of a tree that was opened.
-fn push_tree<'a>(out: &mut Vec<u8>, name: &'a [u8]) -> Result<()>
-    ensures ok { OnOk result (out.new.items ≡ out.old.items ++ tree_line name.now) }
-    ensures err { IfErr result (λ e. e ≡ NoMemory) }
-{
-    push_pieces(
-        out,
-        &[Piece::Text(b"tree "), Piece::Word(name), Piece::Text(b"\n")],
-    )
-}
-
 /// Adds the line of a subscriber, by this number for it.
 pub fn push_subscriber(out: &mut Vec<u8>, number: u64) -> Result<()>
     ensures ok { OnOk result (out.new.items ≡ out.old.items ++ subscriber_line number) }
@@ -187,46 +161,19 @@ pub fn push_subscriber(out: &mut Vec<u8>, number: u64) -> Result<()>
     push_numbered(out, b"subscriber ", number)
 }
 
-// Adds the line of a key that has this value now.
-fn push_inserted<'a>(out: &mut Vec<u8>, key: &'a [u8], value: &'a [u8]) -> Result<()>
-    ensures ok { OnOk result (out.new.items ≡ out.old.items ++ event_line (Insert key.now value.now)) }
-    ensures err { IfErr result (λ e. e ≡ NoMemory) }
-{
-    push_pieces(
-        out,
-        &[
-            Piece::Text(b"event insert "),
-            Piece::Word(key),
-            Piece::Text(b" "),
-            Piece::Word(value),
-            Piece::Text(b"\n"),
-        ],
-    )
-}
-
-// Adds the line of a key that has no value now.
-fn push_removed<'a>(out: &mut Vec<u8>, key: &'a [u8]) -> Result<()>
-    ensures ok { OnOk result (out.new.items ≡ out.old.items ++ event_line (Remove key.now)) }
-    ensures err { IfErr result (λ e. e ≡ NoMemory) }
-{
-    push_pieces(
-        out,
-        &[
-            Piece::Text(b"event remove "),
-            Piece::Word(key),
-            Piece::Text(b"\n"),
-        ],
-    )
-}
-
 // Adds the line of an event that was taken.
 fn push_event(out: &mut Vec<u8>, event: &Event) -> Result<()>
     ensures ok { OnOk result (out.new.items ≡ out.old.items ++ event_line event.now) }
     ensures err { IfErr result (λ e. e ≡ NoMemory) }
 {
     match event {
-        Event::Insert { key, value } => push_inserted(out, key.as_ref(), value.as_ref()),
-        Event::Remove { key } => push_removed(out, key.as_ref()),
+        Event::Insert { key, value } => push_entry(
+            out,
+            b"event insert ",
+            key.as_ref(),
+            value.as_ref(),
+        ),
+        Event::Remove { key } => push_named(out, b"event remove ", key.as_ref()),
     }
 }
 
@@ -285,9 +232,9 @@ fn push_reply(out: &mut Vec<u8>, shown: Shown, reply: &Reply) -> Result<()>
         Reply::Number(number) => push_numbered(out, number_name_of(shown), *number),
         Reply::End => push_text(out, b"end\n"),
         Reply::Done => push_text(out, b"done\n"),
-        Reply::Pair(Some(pair)) => push_found(out, pair.0.as_ref(), pair.1.as_ref()),
+        Reply::Pair(Some(pair)) => push_entry(out, b"found ", pair.0.as_ref(), pair.1.as_ref()),
         Reply::Pair(None) => push_text(out, b"found -\n"),
-        Reply::Tree(tree) => push_tree(out, tree.name.as_ref()),
+        Reply::Tree(tree) => push_named(out, b"tree ", tree.name.as_ref()),
         Reply::Flag(true) => push_text(out, b"yes\n"),
         Reply::Flag(false) => push_text(out, b"no\n"),
         Reply::Subscriber(subscriber) => push_subscriber(out, subscriber.0),
@@ -333,7 +280,7 @@ pub fn push_outcome(out: &mut Vec<u8>, shown: Shown, outcome: &Outcome) -> Resul
     match outcome {
         Outcome::Begun(slot) => push_slot(out, slot.0),
         Outcome::Moved => push_text(out, b"moved\n"),
-        Outcome::Yielded(key, value) => push_at(out, key.as_ref(), value.as_ref()),
+        Outcome::Yielded(key, value) => push_entry(out, b"at ", key.as_ref(), value.as_ref()),
         Outcome::Decided(reply) => push_reply(out, shown, reply),
         Outcome::Refused(error) => push_refused(out, error),
         Outcome::Abandoned => push_text(out, b"abandoned\n"),
@@ -342,27 +289,13 @@ pub fn push_outcome(out: &mut Vec<u8>, shown: Shown, outcome: &Outcome) -> Resul
 }
 
 /// Adds the line of a pair of the tree of this name.
-pub fn push_pair<'a>(
-    out: &mut Vec<u8>,
-    tree: &'a [u8],
-    key: &'a [u8],
-    value: &'a [u8],
-) -> Result<()>
+pub fn push_pair(out: &mut Vec<u8>, tree: &[u8], key: &[u8], value: &[u8]) -> Result<()>
     ensures ok { OnOk result (out.new.items ≡ out.old.items ++ pair_line tree.now key.now value.now) }
     ensures err { IfErr result (λ e. e ≡ NoMemory) }
 {
-    push_pieces(
-        out,
-        &[
-            Piece::Text(b"pair "),
-            Piece::Word(tree),
-            Piece::Text(b" "),
-            Piece::Word(key),
-            Piece::Text(b" "),
-            Piece::Word(value),
-            Piece::Text(b"\n"),
-        ],
-    )
+    push_text(out, b"pair ")?;
+    push_word(out, tree)?;
+    push_entry(out, b" ", key, value)
 }
 
 /// Adds the line at the end of so many pairs.
