@@ -7,7 +7,7 @@ use Rattle.std.specs.FinMap.Entries.{find, is_sorted, below_all}
 use Rattle.std.specs.Str.{bytes_eq}
 use Rattle.std.specs.Bool.{Decides}
 use Rattle.std.proofs.lemmas.Slice.Eq.{bytes_eq-Decides}
-use Rattle.sled_nodes.proofs.Basics.{of_true, left_of, right_of, less_of, key_total, key_same}
+use Rattle.sled_nodes.proofs.Basics.{of_true, left_of, right_of, less_of, key_total, key_same, false_true}
 use Rattle.sled_nodes.specs.Order.{Key, key_cmp}
 use Rattle.tree_laws.proofs.Pairs.{above}
 
@@ -59,8 +59,5 @@ one_root_more es i e l s is u = go (bytes_eq u e.0) (bytes_eq-Decides u e.0)
         inl (same, ap (λ z. find key_cmp z (take (i + 1) es)) same ∙ ap (find key_cmp e.0) more ∙ find_last (take i es) e (absent es i e l s is))
     go false d = inr (off, ap (find key_cmp u) more ∙ find_other (take i es) e u off)
       where
-        no_way : false ≡ true → ⊥
-        no_way e = cc
-
         off : u ≢ e.0
-        off h = no_way (d.1 h)
+        off h = false_true (d.1 h)

@@ -7,7 +7,7 @@ use Rattle.std.specs.List.{list_any}
 use Rattle.std.specs.Map.{lookup}
 use Rattle.std.specs.Ordering.{nat_cmp}
 use Rattle.std.specs.FinMap.Entries.{find, is_sorted}
-use Rattle.sled_nodes.proofs.Basics.{none_some, some_is}
+use Rattle.sled_nodes.proofs.Basics.{none_some, some_is, false_true}
 use Rattle.sled_store.specs.In.{In}
 use Rattle.sled_nodes.specs.Node.{pointers}
 use Rattle.sled_nodes.specs.Order.{Key, key_cmp}
@@ -243,10 +243,7 @@ verify_ends s roots n levels all is v = record {
     take_all (x ∷ xs) (suc n) l = ap (λ r. x ∷ r) (take_all xs n (omega (arith, l)))
 
 none_in : (children : BTreeSet ℕ) → children.keys ≡ [] → (c : ℕ) → contains nat_cmp children c ≡ true → ⊥
-none_in children e c h = no_way (sym (ap (list_any (is_at (nat_cmp c))) e) ∙ h)
-  where
-    no_way : false ≡ true → ⊥
-    no_way e = cc
+none_in children e c h = false_true (sym (ap (list_any (is_at (nat_cmp c))) e) ∙ h)
 
 -- the same, as the code has it
 pub walk_begins : (s : State) (root tree top : ℕ) (children : BTreeSet ℕ) (above : List View) (old new : Levels) → IsNewTree tree old → IsEmpty children

@@ -193,10 +193,7 @@ module _ (m : Snapshot) (k : KeyWrite) (named : m.numbers k.tree.now.name ≡ So
       go (inl off) = absurd (off named)
       go (inr (inl gone)) = none_some (sym (ap (nodes_at m) (sym same) ∙ gone) ∙ live_node)
       go (inr (inr (d, there, lo, inl i))) = subst (λ p. In p (w.chain (place j.tree.name 0))) same i
-      go (inr (inr (d, there, lo, inr on))) = absurd (apart (sym on ∙ ap (λ (n : Node). n.merging) (some_is (sym there ∙ ap (nodes_at m) same ∙ live_node)) ∙ again.may.settled.not_merging))
-        where
-          apart : true ≡ false → ⊥
-          apart e = cc
+      go (inr (inr (d, there, lo, inr on))) = true_false (sym on ∙ ap (λ (n : Node). n.merging) (some_is (sym there ∙ ap (nodes_at m) same ∙ live_node)) ∙ again.may.settled.not_merging)
 
   pub known_again : IsKnown m (at_leaf j v)
   known_again =

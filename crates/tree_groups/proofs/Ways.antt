@@ -1,5 +1,6 @@
 -- A call on a key never comes to give the pairs of a leaf: no line of the tables of what comes next leads it there.
 use Rattle.std.proofs.Common.{◌≡◌, ℕ, Bool, Option, None, Some, Result, Ok, Err, MatchOption, sym, subst, inl, inr}
+use Rattle.sled_nodes.proofs.Basics.{some_none}
 use Rattle.sled_nodes.specs.Ranges.{Range}
 use Rattle.sled_nodes.specs.declared.error.Error.TheVariants.{NoMemory}
 use Rattle.sled_nodes.specs.declared.link.Link.{Link}
@@ -37,13 +38,16 @@ keeps_way (Go s) = IsOnItsWay s
 keeps_way (Decided reply) = Unit {0}
 keeps_way (Refused e) = Unit {0}
 
+-- .. with an answer and without one
+either_way : {A : Type 0} (next : Option A → Next) → keeps_way (next None) → ((x : A) → keeps_way (next (Some x))) → (o : Option A) → keeps_way (next o)
+either_way next without with None = without
+either_way next without with (Some x) = with x
+
 resumed_way : (v : View) (child : ℕ) (before : Option ℕ) → keeps_way (resumed v child before)
-resumed_way v child None = tt
-resumed_way v child (Some p) = tt
+resumed_way v child = either_way (resumed v child) tt (λ p. tt)
 
 begun_way : (v : View) (child : ℕ) (before : Option ℕ) → keeps_way (begun v child before)
-begun_way v child None = tt
-begun_way v child (Some p) = tt
+begun_way v child = either_way (begun v child) tt (λ p. tt)
 
 onward_way : (v : View) (beside : Option ℕ) (parent : Option View) → keeps_way (onward v beside parent)
 onward_way v None parent = tt
@@ -51,16 +55,13 @@ onward_way v (Some q) None = tt
 onward_way v (Some q) (Some parent) = tt
 
 down_way : (v : View) (found : Option (ℕ × Bool)) → keeps_way (down v found)
-down_way v None = tt
-down_way v (Some c) = tt
+down_way v = either_way (down v) tt (λ c. tt)
 
 done_way : (v : View) (reply : Option Reply) → keeps_way (done_at v reply)
-done_way v None = tt
-done_way v (Some r) = tt
+done_way v = either_way (done_at v) tt (λ r. tt)
 
 searched_way : (a : Seek) (beside : Option ℕ) → keeps_way (searched a beside)
-searched_way a None = tt
-searched_way a (Some q) = tt
+searched_way a = either_way (searched a) tt (λ q. tt)
 
 installed_way : (a : InstallLeft) (p : Posting) → keeps_way (after_install_left a p)
 installed_way a posting.Root = tt
@@ -72,12 +73,10 @@ swapped_way a (Ok done) = tt
 swapped_way a (Err present) = tt
 
 read_way : (a : Merge) (present : Option ℕ) → keeps_way (read_again a present)
-read_way a None = tt
-read_way a (Some v) = tt
+read_way a = either_way (read_again a) tt (λ v. tt)
 
 sought_way : (a : Receive) (present : Option ℕ) → keeps_way (sought_again a present)
-sought_way a None = tt
-sought_way a (Some v) = tt
+sought_way a = either_way (sought_again a) tt (λ v. tt)
 
 module _ (n : Next) where
   it_is : (m : Next) → keeps_way m → n ≡ m → keeps_way n
@@ -121,10 +120,7 @@ module _ (n : Next) where
   module _ (j : Course) (key : IsOnKey j.call) where
     of_leaf : (o : Option Range) → o ≡ None → (v : View) → follows_leaf_as o j v n → keeps_way n
     of_leaf None none v f = has_memory (done_at v (reply_at j.call v.node.content)) (done_way v (reply_at j.call v.node.content)) f
-    of_leaf (Some r) none v f = absurd (some_none none)
-      where
-        some_none : Some r ≡ None → ⊥
-        some_none e = cc
+    of_leaf (Some r) none v f = some_none none
 
     of_content : (d : Data) (v : View) → follows_content d j v n → keeps_way n
     of_content (Index es) v f = it_is (down v f.found) (down_way v f.found) f.is

@@ -22,6 +22,7 @@ use Rattle.tree_laws.specs.Forest.{Tree, Forest, Place, contents}
 use Rattle.tree_laws.specs.Paths.{IsClean}
 use Rattle.tree_laws.specs.Snapshot.{Snapshot, snapshot_of, nodes_at, HasForest}
 use Rattle.tree_laws.specs.theory.Snapshot.{KeepsForest}
+use Rattle.tree_laws.proofs.Known.{grouped}
 use Rattle.tree_laws.specs.Stages.{owned}
 use Rattle.tree_laws.specs.declared.flight.Stage.{Stage}
 use Rattle.tree_laws.specs.declared.flight.Stage.TheVariants as stage
@@ -375,31 +376,11 @@ abbrev marked : Snapshot → Bool → Snapshot
 marked m inside = record m { state = record (m.state) { in_group = inside } }
 
 module _ (m : Snapshot) (w : Forest) (is : HasForest m w) (inside : Bool) where
-  marked_forest : HasForest (marked m inside) w
-  marked_forest = record { pids = is.pids; versions = is.versions; below = is.below; numbered = is.numbered; rooted = is.rooted; given = is.given; apart = is.apart; formed = is.formed }
-
   marked_acts : KeepsForest [] [] m w (marked m inside) w
   marked_acts =
-      let r = rests [] [] m w is (λ q i. i) in record {
-        is = marked_forest;
-        goes = record {
-          pids = r.goes.pids;
-          versions = r.goes.versions;
-          given = r.goes.given;
-          gone = r.goes.gone;
-          fresh = r.goes.fresh;
-          lasts = r.goes.lasts;
-          dropped = r.goes.dropped;
-          loses = r.goes.loses;
-          rooted = r.goes.rooted;
-          own = r.goes.own;
-          frozen = r.goes.frozen;
-          keeps = r.goes.keeps;
-        };
-        fresh = r.fresh;
-        sized = r.sized;
-        grows = r.grows;
-      }
+      let g = grouped inside m w is in
+      let r = rests [] [] m w is (λ q i. i) in
+      record { is = g.is; goes = g.goes; fresh = r.fresh; sized = r.sized; grows = r.grows }
 
   marked_stops : KeepsMapsAt m w (marked m inside)
   marked_stops = record { after = w; keeps = keeps_more m m (marked m inside) w w w is (keeps_first m w is) marked_acts (λ f k q i. absurd i); same = λ t. refl }

@@ -4,7 +4,7 @@ use Rattle.std.proofs.lemmas.Bool.{eqb-true, or_from}
 use Rattle.std.proofs.lemmas.List.Recursion.{or_push}
 use Rattle.std.proofs.lemmas.Bool.Decides.{nat_tests}
 use Rattle.std.specs.List.{list_any}
-use Rattle.sled_nodes.proofs.Basics.{none_some, some_is}
+use Rattle.sled_nodes.proofs.Basics.{none_some, some_is, false_true}
 use Rattle.sled_store.specs.In.{In}
 use Rattle.sled_nodes.specs.Order.{Key, Below}
 use Rattle.sled_nodes.specs.Node.{pointers}
@@ -32,11 +32,8 @@ find_before k c front p [] none i = absurd i
 find_before k c front p (y ∷ ys) none i = go (nat_eq y.1 c) refl (λ off. find_before k c (front ++ p ∷ []) y ys (any_append (λ e. nat_eq e.1 c) (front ++ p ∷ []) y none off))
   where
     not_here : nat_eq y.1 c ≡ false → In (k, c) (y ∷ ys) → In (k, c) ys
-    not_here off (inl e) = absurd (apart (sym off ∙ ap (λ (z : Key × ℕ). nat_eq z.1 c) (sym e) ∙ itself))
+    not_here off (inl e) = false_true (sym off ∙ ap (λ (z : Key × ℕ). nat_eq z.1 c) (sym e) ∙ itself)
       where
-        apart : false ≡ true → ⊥
-        apart e = cc
-
         itself : nat_eq c c ≡ true
         itself = grind (arith, nat_tests)
     not_here off (inr j) = j

@@ -1,8 +1,8 @@
 -- Which page of a chain covers a key, and which page points to a page.
-use Rattle.std.proofs.Common.{◌≡◌, ◌≢◌, ℕ, zero, suc, Bool, true, false, T, ◌&&◌, List, [], ◌∷◌, ◌++◌, Option, Some, None, Ordering, Less, Equal, Greater, is_lt, sym, refl, ap, ◌∙◌, subst, inl, inr, ◌⊎◌}
+use Rattle.std.proofs.Common.{◌≡◌, ◌≢◌, ℕ, zero, suc, Bool, true, false, T, ◌&&◌, List, [], ◌∷◌, ◌++◌, Option, Some, None, sym, refl, ap, ◌∙◌, subst, inl, inr, ◌⊎◌}
 use Rattle.std.specs.FinMap.Entries.{below_all}
 use Rattle.std.specs.List.{AllByRecursion}
-use Rattle.sled_nodes.proofs.Basics.{some_is, same_or_not, none_some}
+use Rattle.sled_nodes.proofs.Basics.{some_is, same_or_not, none_some, left_of, less_of}
 use Rattle.sled_store.specs.In.{In}
 use Rattle.sled_nodes.specs.Node.{Within, pointers}
 use Rattle.sled_nodes.specs.Order.{Key, key_cmp, Below, UpTo}
@@ -31,16 +31,7 @@ run_order nodes (z ∷ ps) from to lo hi r p q n m (inr i) (inr j) off a b = run
 
 above_first : (e : Key × ℕ) (es : List (Key × ℕ)) (k : Key) (c : ℕ) → T (below_all key_cmp e.0 es) → In (k, c) es → Below e.0 k
 above_first e [] k c s i = absurd i
-above_first e (d ∷ es) k c s (inl g) = subst (λ z. Below e.0 z.0) (sym g) (less (first _ _ s))
-  where
-    first : (a b : Bool) → T (a && b) → T a
-    first true b p = tt
-    first false b p = p
-
-    less : {o : Ordering} → T (is_lt o) → o ≡ Less
-    less {o = Less} p = refl
-    less {o = Equal} p = absurd p
-    less {o = Greater} p = absurd p
+above_first e (d ∷ es) k c s (inl g) = subst (λ z. Below e.0 z.0) (sym g) (less_of _ (left_of _ _ s))
 above_first e (d ∷ es) k c s (inr j) = above_first e es k c (second _ _ s) j
   where
     second : (a b : Bool) → T (a && b) → T b
@@ -65,11 +56,7 @@ later_in (Index (e ∷ es)) k d i = inr i
 pub later_above : (h : ℕ) (lo hi : Key) (c : Data) → Holds (suc h) lo hi c → (k : Key) (d : ℕ) → In (k, d) (later (pointers c)) → Below lo k
 later_above h lo hi (Leaf es) s k d i = absurd s
 later_above h lo hi (Index []) s k d i = absurd i
-later_above h lo hi (Index (e ∷ es)) s k d i = subst (λ z. Below z k) (some_is s.2) (above_first e es k d (first _ _ s.0) i)
-  where
-    first : (a b : Bool) → T (a && b) → T a
-    first true b p = tt
-    first false b p = p
+later_above h lo hi (Index (e ∷ es)) s k d i = subst (λ z. Below z k) (some_is s.2) (above_first e es k d (left_of _ _ s.0) i)
 
 -- an index's first pointer has its lo
 pub first_pointer : (h : ℕ) (lo hi : Key) (c : Data) → Holds (suc h) lo hi c → (d : ℕ) × In (lo, d) (pointers c)

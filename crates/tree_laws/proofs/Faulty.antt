@@ -11,7 +11,7 @@ use Rattle.sled_nodes.specs.declared.node.Node.{Node}
 use Rattle.sled_nodes.specs.declared.node.Data.{Data}
 use Rattle.sled_nodes.specs.declared.node.Data.TheVariants.{Leaf, Index}
 use Rattle.tree_laws.specs.Forest.{Tree, Forest, Place, place, head, first_child, first_key, later, Holds, Run, IsPointer, IsHomed, WellFormed}
-use Rattle.tree_laws.specs.theory.Images.{Refuses, selves, key, leaf, index, capped, merging, one_tree, other_tree, left, right, over, first_only, both, root_is_not_there, leads_to_itself, has_a_gap, ends_early, pointer_to_nothing, wrong_key, not_the_merging_child, first_is_the_merging_child, merging_with_a_merging_child, too_many, too_many_of_a_merging_child, not_ascending, begins_late, root_of_two_trees, ends_below_its_begin, leads_on_without_a_bound, merging_root, merging_without_a_pointer, two_pointers, received_by_two_trees, in_another_tree, in_another_level, pointer_out_of_the_chain, index_beside_a_leaf, merging_child_without_a_pointer, beyond_the_bounds, without_pointers, first_key_above, received_not_ascending, RefusedImages}
+use Rattle.tree_laws.specs.theory.Images.{Refuses, image, all_in_one, selves, key, leaf, index, capped, merging, one_tree, other_tree, left, right, over, first_only, both, root_is_not_there, leads_to_itself, has_a_gap, ends_early, pointer_to_nothing, wrong_key, not_the_merging_child, first_is_the_merging_child, merging_with_a_merging_child, too_many, too_many_of_a_merging_child, not_ascending, begins_late, root_of_two_trees, ends_below_its_begin, leads_on_without_a_bound, merging_root, merging_without_a_pointer, two_pointers, received_by_two_trees, in_another_tree, in_another_level, pointer_out_of_the_chain, index_beside_a_leaf, merging_child_without_a_pointer, beyond_the_bounds, without_pointers, first_key_above, received_not_ascending, RefusedImages}
 use Rattle.tree_laws.proofs.Replace.{head_in}
 use Rattle.tree_laws.proofs.Cover.{chain_run, holds_at}
 use Rattle.tree_laws.proofs.Known.{leaf_low}
@@ -228,20 +228,9 @@ pointed_to_twice w f z =
     let c = i.4 (key 9) 2 (inr (inr (inl refl))) in
     keys_apart 8 9 refl (ap (λ (z : Node). z.lo) (some_is c.live) ∙ c.key)
 
-of_two_trees : Refuses in_another_tree
-of_two_trees w f z =
-    let t = f.top one_tree in
-    let u = f.top other_tree in
-    let n : Node = merging 2 (over both) in
-    let m : Node = merging 2 (over (([], 4) ∷ (key 8, 2) ∷ [])) in
-    let i = index_first f one_tree t.0 3 n both t.1 refl refl in
-    let j = index_first f other_tree u.0 5 m (([], 4) ∷ (key 8, 2) ∷ []) u.1 refl refl in
-    let c = i.4 (key 8) 2 (inr (inl refl)) in
-    let here = second_in f (place other_tree j.0) 4 2 (leaf [] (key 8) (Some 2) []) (capped right) j.3 refl refl refl in
-    trees_apart i.0 j.0 (some_is (sym c.homed ∙ f.homed _ 2 here))
-
-received_twice : Refuses received_by_two_trees
-received_twice w f z =
+-- two trees receive one page, whatever stands before it in the other
+two_trees : (before : Node) → Refuses (image (all_in_one ∷ (2, capped right) ∷ (3, merging 2 (over both)) ∷ (4, before) ∷ (5, merging 2 (over (([], 4) ∷ (key 8, 2) ∷ []))) ∷ []) ((one_tree, 3) ∷ (other_tree, 5) ∷ []))
+two_trees before w f z =
     let t = f.top one_tree in
     let u = f.top other_tree in
     let n : Node = merging 2 (over both) in
@@ -251,6 +240,12 @@ received_twice w f z =
     let c = i.4 (key 8) 2 (inr (inl refl)) in
     let d = j.4 (key 8) 2 (inr (inl refl)) in
     trees_apart i.0 j.0 (some_is (sym c.homed ∙ d.homed))
+
+of_two_trees : Refuses in_another_tree
+of_two_trees = two_trees (leaf [] (key 8) (Some 2) [])
+
+received_twice : Refuses received_by_two_trees
+received_twice = two_trees (leaf [] [] None [])
 
 of_two_levels : Refuses in_another_level
 of_two_levels w f z =

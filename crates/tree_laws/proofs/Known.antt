@@ -3,7 +3,7 @@ use Rattle.std.proofs.Common.{◌≡◌, ℕ, zero, suc, ◌+◌, ◌≤◌, Boo
 use Rattle.std.specs.FinMap.Entries.{find, put, by_order}
 use Rattle.std.specs.declared.ops.Bound.{Bound}
 use Rattle.std.specs.declared.ops.Bound.TheVariants.{Included}
-use Rattle.sled_nodes.proofs.Basics.{none_some, some_is}
+use Rattle.sled_nodes.proofs.Basics.{none_some, some_is, false_true}
 use Rattle.sled_store.specs.In.{In}
 use Rattle.sled_nodes.specs.Order.{Key, key_cmp}
 use Rattle.sled_nodes.specs.Node.{pairs, count, Covers, with_pair, value_at, without, after_link}
@@ -49,13 +49,10 @@ goes_same mine m w is = record {
     capped = λ p n live t. inl live;
     stray = λ p stray off. (refl, stray);
     left = λ x p n live t off i. off i;
-    wakes = λ x p n m i was not_merging now t. let e : n ≡ m = some_is (sym was ∙ now) in absurd (apart (sym (subst (λ (z : Node). z.merging ≡ false) e not_merging) ∙ t));
+    wakes = λ x p n m i was not_merging now t. let e : n ≡ m = some_is (sym was ∙ now) in false_true (sym (subst (λ (z : Node). z.merging ≡ false) e not_merging) ∙ t);
     child = λ x p c n o i live is. inl (i, (n, live, is));
   };
 }
-  where
-    apart : false ≡ true → ⊥
-    apart e = cc
 
 -- a group begins or ends
 pub grouped : (b : Bool) (m : Snapshot) (w : Forest) → HasForest m w → let new : Snapshot = record m { state = record (m.state) { in_group = b } } in StepsForest [] None m w new w

@@ -5,7 +5,7 @@ use Rattle.std.specs.declared.cmp.Ordering.{Ordering}
 use Rattle.std.specs.declared.ops.Bound.{Bound}
 use Rattle.std.specs.declared.ops.Bound.TheVariants.{Included, Excluded, Unbounded}
 use Rattle.std.proofs.lemmas.Cmp.{upto, tied_itself}
-use Rattle.sled_nodes.proofs.Basics.{key_total, key_same, true_false}
+use Rattle.sled_nodes.proofs.Basics.{key_total, key_same, true_false, not_true, is_less}
 use Rattle.sled_nodes.specs.Order.{Key, key_cmp, Below, UpTo}
 use Rattle.sled_nodes.specs.Among.{is_up_to}
 use Rattle.sled_nodes.specs.Node.{Covers}
@@ -55,22 +55,13 @@ behind_key k key e = key_total.antisymm key k ∙ below (key_cmp k key) e
     below Greater e = refl
 
 pub up_to_key : (k key : Key) → is_up_to (Included key) k ≡ true → UpTo k key
-up_to_key k key e = go (is_gt (key_cmp k key)) e
-  where
-    go : (b : Bool) → not b ≡ true → b ≡ false
-    go true e = cc
-    go false e = refl
+up_to_key k key e = not_true (is_gt (key_cmp k key)) e
 
 -- what is within an upper bound stands before what is not
 pub within_below : (aim : Bound Key) (a b : Key) → is_up_to aim a ≡ true → is_up_to aim b ≡ false → Below a b
 within_below (Included k) a b p q = upto_below-trans a k b (up_to_key a k p) (behind_key b k q)
-within_below (Excluded k) a b p q = below_upto-trans a k b (less (key_cmp a k) p) (go (key_cmp b k) q (key_total.antisymm k b))
+within_below (Excluded k) a b p q = below_upto-trans a k b (is_less (key_cmp a k) p) (go (key_cmp b k) q (key_total.antisymm k b))
   where
-    less : (o : Ordering) → is_lt o ≡ true → o ≡ Less
-    less Less e = refl
-    less Equal e = cc
-    less Greater e = cc
-
     go : (o : Ordering) → is_lt o ≡ false → key_cmp k b ≡ ordering_reverse o → is_gt (key_cmp k b) ≡ false
     go Less e r = cc
     go Equal e r = ap is_gt r

@@ -6,7 +6,7 @@ use Rattle.std.specs.Bool.{Decides}
 use Rattle.std.proofs.lemmas.Slice.Eq.{bytes_eq-Decides}
 use Rattle.std.proofs.lemmas.Bool.Decides.{nat_tests}
 use mathlib.Core.List.{reverse}
-use Rattle.sled_nodes.proofs.Basics.{none_some, some_is}
+use Rattle.sled_nodes.proofs.Basics.{none_some, some_is, false_true}
 use Rattle.sled_store.specs.In.{In}
 use Rattle.sled_nodes.specs.Image.{root_in}
 use Rattle.sled_nodes.specs.Node.{pointers, count}
@@ -65,10 +65,7 @@ rooted r u = go (bytes_eq one_tree u) (bytes_eq-Decides one_tree u)
   where
     go : (o : Bool) → Decides o (one_tree ≡ u) → ((u ≡ one_tree) × (option_map (λ (e : Key × ℕ). e.1) (cond o (Some (one_tree, r)) None) ≡ Some r)) ⊎ ((u ≢ one_tree) × (option_map (λ (e : Key × ℕ). e.1) (cond o (Some (one_tree, r)) None) ≡ None))
     go true d = inl (sym (d.0 refl), refl)
-    go false d = inr (λ e. no (d.1 (sym e)), refl)
-      where
-        no : false ≡ true → ⊥
-        no e = cc
+    go false d = inr (λ e. false_true (d.1 (sym e)), refl)
 
 accepts : (pages : List (ℕ × Node)) (r : ℕ) (levels : List (List ℕ)) (homes : List (ℕ × ℕ)) (es : List (Key × Key)) (count : ℕ) (f : IsForest (nodes_of (image pages (root r))) (root_in (root r)) one_tree r levels homes)
     → AllByRecursion (λ e. e.0 < 2 ^ 64) (reverse pages) → contents (nodes_of (image pages (root r))) (forest_of one_tree levels homes) one_tree ≡ es → pages_below (forest_of one_tree levels homes) one_tree (suc f.top.0) ≡ count → Accepts pages r es count

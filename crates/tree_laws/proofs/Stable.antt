@@ -1,6 +1,6 @@
 -- What a call in flight knows survives the actions of others.
-use Rattle.std.proofs.Common.{◌≡◌, ◌≢◌, ℕ, true, false, List, Option, Some, None, option_map, sym, refl, ap, ◌∙◌, subst, inl, inr, ◌⊎◌}
-use Rattle.sled_nodes.proofs.Basics.{same_or_not}
+use Rattle.std.proofs.Common.{◌≡◌, ◌≢◌, ℕ, true, List, Option, Some, None, option_map, sym, refl, ap, ◌∙◌, subst, inl, inr, ◌⊎◌}
+use Rattle.sled_nodes.proofs.Basics.{same_or_not, some_none, some_is, true_false}
 use Rattle.sled_nodes.specs.declared.node.Node.{Node}
 use Rattle.sled_store.specs.declared.page.Page.{Page}
 use Rattle.tree_laws.specs.Forest.{Tree, Forest}
@@ -64,21 +64,12 @@ pub now_law : NowLaw
 now_law m w x number lo p k root n live not_merging = elim k.now [
   | inl e ↦ absurd (e root)
   | inr h ↦ elim h [
-    | inl e ↦ absurd (apart (sym live ∙ e))
+    | inl e ↦ some_none (sym live ∙ e)
     | inr a ↦
-        let is : a.0 ≡ n = one (sym a.1 ∙ live) in
+        let is : a.0 ≡ n = some_is (sym a.1 ∙ live) in
         elim a.3 [
           | inl i ↦ (i, ap (λ (z : Node). z.lo) (sym is) ∙ a.2)
-          | inr t ↦ absurd (wakes (sym (subst (λ (z : Node). z.merging ≡ true) is t) ∙ not_merging))
+          | inr t ↦ true_false (sym (subst (λ (z : Node). z.merging ≡ true) is t) ∙ not_merging)
         ]
   ]
 ]
-  where
-    apart : {n : Node} → Some n ≡ None → ⊥
-    apart e = cc
-
-    one : {n m : Node} → Some n ≡ Some m → n ≡ m
-    one e = cc
-
-    wakes : true ≡ false → ⊥
-    wakes e = cc

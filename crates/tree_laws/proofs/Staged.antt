@@ -1,5 +1,6 @@
 -- The laws of the stages.
-use Rattle.std.proofs.Common.{ℕ, ◌≡◌, true, false, [], ◌∷◌, sym, ◌∙◌, subst, inl, inr}
+use Rattle.std.proofs.Common.{ℕ, [], ◌∷◌, sym, ◌∙◌, subst, inl, inr}
+use Rattle.sled_nodes.proofs.Basics.{true_false}
 use Rattle.std.specs.declared.ops.Bound.{Bound}
 use Rattle.sled_store.specs.In.{In}
 use Rattle.sled_nodes.specs.Order.{Key}
@@ -29,13 +30,10 @@ apart_law mine own old w is fresh t number aim a k q i off o =
     elim (fresh q o) [
       | inl mine ↦ off mine
       | inr b ↦ elim b [
-        | inl unused ↦ apart (sym (is.pids q _ l.2.live) ∙ unused)
+        | inl unused ↦ true_false (sym (is.pids q _ l.2.live) ∙ unused)
         | inr home ↦ l.2.stray home.0 home.1
       ]
     ]
-  where
-    apart : true ≡ false → ⊥
-    apart e = cc
 
 pub here_law : HereLaw
 here_law m w is t number aim look by here calm = record {

@@ -7,6 +7,7 @@ use Rattle.sled_nodes.specs.Node.{count, Covers}
 use Rattle.sled_nodes.specs.Order.{Key, key_cmp}
 use Rattle.sled_store.specs.State.{State, Nodes, nodes_of}
 use Rattle.sled_nodes.specs.declared.node.Node.{Node}
+use Rattle.sled_nodes.specs.declared.node.Data.TheVariants.{Leaf}
 use Rattle.tree_laws.specs.Forest.{Tree}
 use Rattle.tree_laws.specs.theory.Images.{Pages, Unclean, image, selves, key, leaf, capped, merging, one_tree, root, left, right, over, first_only, both, not_hoisted, not_posted, intended, unnamed, too_many_in_the_root, CleanPaths}
 use Rattle.tree_laws.specs.Paths.{NeedsNoRepair, CleanFrom, IsClean}
@@ -84,30 +85,21 @@ beyond_the_leaf path c =
     let d = s.down first_only 1 true refl to_only in
     beyond_left (under_covers (key 9) left.1 (clean_step_law _ (Included (key 9)) d.0 1 true left.1 d.2 refl).passed.under)
 
+-- the way down by the first of the two leaves' pointers
+under_both : (nodes : Nodes) (m : ℕ) → nodes 3 ≡ Some (over both) → nodes 1 ≡ Some (leaf [] (key 8) (Some 2) (selves m 0)) → count (Leaf (selves m 0)) ≤ 16 → CleanFrom nodes (Included (key 0)) 3 true (3 ∷ 1 ∷ [])
+under_both nodes m above below few = (
+  refl,
+  over both,
+  wide nodes (key 0) 3 (over both) above (covers_all [] refl) refl refl fits.1,
+  inr (both, refl, 1, true, to_first, (refl, leaf [] (key 8) (Some 2) (selves m 0), wide nodes (key 0) 1 (leaf [] (key 8) (Some 2) (selves m 0)) below covers_left refl refl few, inl (selves m 0, refl, refl))),
+)
+
 pub clean_paths : CleanPaths
 clean_paths = record {
   empty_root = record { root = 1; is_root = refl; clean = (refl, leaf [] [] None [], wide _ (key 0) 1 (leaf [] [] None []) refl (covers_all [] refl) refl refl fits.0, inl ([], refl, refl)) };
   long_root = record { root = 1; is_root = refl; clean = (refl, leaf [] [] None (selves 16 0), wide _ (key 0) 1 (leaf [] [] None (selves 16 0)) refl (covers_all [] refl) refl refl fits.4, inl (selves 16 0, refl, refl)) };
-  two_levels = record {
-    root = 3;
-    is_root = refl;
-    clean = (
-      refl,
-      over both,
-      wide _ (key 0) 3 (over both) refl (covers_all [] refl) refl refl fits.1,
-      inr (both, refl, 1, true, to_first, (refl, left.1, wide _ (key 0) 1 left.1 refl covers_left refl refl fits.3, inl (selves 8 0, refl, refl))),
-    );
-  };
-  first_pointer = record {
-    root = 3;
-    is_root = refl;
-    clean = (
-      refl,
-      over both,
-      wide _ (key 0) 3 (over both) refl (covers_all [] refl) refl refl fits.1,
-      inr (both, refl, 1, true, to_first, (refl, leaf [] (key 8) (Some 2) (selves 3 0), wide _ (key 0) 1 (leaf [] (key 8) (Some 2) (selves 3 0)) refl covers_left refl refl fits.2, inl (selves 3 0, refl, refl))),
-    );
-  };
+  two_levels = record { root = 3; is_root = refl; clean = under_both _ 8 refl refl fits.3 };
+  first_pointer = record { root = 3; is_root = refl; clean = under_both _ 3 refl refl fits.2 };
   later_pointer = later_pointer;
   too_long = too_long;
   is_merging = is_merging;

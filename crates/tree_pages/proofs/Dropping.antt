@@ -5,30 +5,24 @@ use Rattle.std.proofs.lemmas.List.Folds.{concat-append}
 use Rattle.sled_nodes.proofs.Basics.{none_some, some_is}
 use Rattle.sled_store.specs.In.{In}
 use Rattle.sled_nodes.specs.Order.{Key}
-use Rattle.sled_nodes.specs.Node.{pointers}
 use Rattle.sled_store.specs.State.{State, Nodes, nodes_of, RootBecomes, PageBecomes}
 use Rattle.sled_store.specs.Store.{Store, now, after_action, SwapsRoot}
 use Rattle.sled_store.specs.theory.Facts.{now_acted}
 use Rattle.sled_nodes.specs.declared.node.Node.{Node}
-use Rattle.sled_nodes.specs.declared.node.Data.{Data}
 use Rattle.sled_nodes.specs.declared.node.Data.TheVariants as kind
 use Rattle.sled_store.specs.declared.page.Page.{Page}
-use Rattle.tree_laws.specs.Forest.{Tree, Forest, Place, place, head, first_child, WellFormed, Holds, Run}
+use Rattle.tree_laws.specs.Forest.{Tree, Forest, Place, place, head, WellFormed, Run}
 use Rattle.tree_laws.specs.Contents.{first_of, page_numbers}
 use Rattle.tree_laws.proofs.Reading.{child_of}
 use Rattle.tree_laws.proofs.Runs.{In-right, run_parts}
 use Rattle.tree_laws.proofs.Cover.{chain_run}
-use Rattle.tree_laws.proofs.Fuel.{page_numbers_is, levels_few}
+use Rattle.tree_laws.proofs.Fuel.{page_numbers_is, leaf_first, levels_few}
 use Rattle.tree_laws.proofs.Replace.{head_in}
 use Rattle.tree_pages.specs.Drops.{IsBeginning}
 use Rattle.tree_pages.specs.theory.Drops.{first_pages_down, CountsFaults, FreesPage, FreesPages, FreesNone, FreesOne, Counts, KeepsOrFrees, AreFirsts, FreesLevel, FreesLevels, FreesFrom, DropsRoot}
 use Rattle.tree_pages.proofs.Walks.{no_level}
 
 -- ---- the first pages of the levels
-
-leaf_first : (lo hi : Key) (d : Data) → Holds zero lo hi d → first_child (pointers d) ≡ None
-leaf_first lo hi (kind.Leaf es) h = refl
-leaf_first lo hi (kind.Index es) h = absurd h
 
 module _ {nodes : Nodes} {roots : Tree → Option ℕ} {w : Forest} (f : WellFormed nodes roots w) (t : Tree) where
   -- down by first pointers from the first page of a level stand the first pages of those below

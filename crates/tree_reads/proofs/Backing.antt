@@ -42,7 +42,7 @@ nearer hi k e p q = go (key_cmp e k) refl
     go Greater b = ap is_lt b
 
 -- not below is at or above
-not_below : (a b : Key) → is_lt (key_cmp a b) ≡ false → UpTo b a
+pub not_below : (a b : Key) → is_lt (key_cmp a b) ≡ false → UpTo b a
 not_below a b off = go (key_cmp b a) refl
   where
     go : (o : Ordering) → key_cmp b a ≡ o → is_gt (key_cmp b a) ≡ false

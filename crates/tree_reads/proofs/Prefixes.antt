@@ -1,5 +1,6 @@
 -- What lies within the bounds of a prefix.
 use Rattle.std.proofs.Common.{◌≡◌, ℕ, ◌+◌, ◌<◌, ◌≤◌, Bool, true, false, not, nat_lt, nat_eq, ◌&&◌, cond, List, [], ◌∷◌, ◌++◌, Option, Some, None, sym, refl, ap, ◌∙◌, subst, inl, inr, ◌⊎◌, arith}
+use Rattle.sled_nodes.proofs.Basics.{second_true}
 use Rattle.std.proofs.lemmas.Bool.{cases_order, lt-ltb, le-ltb, ne_eqb, eq-eqb}
 use Rattle.std.proofs.lemmas.Cmp.{nat_cmp_total, tied_itself}
 use Rattle.std.specs.List.{starts_with, AllByRecursion}
@@ -117,12 +118,8 @@ raised_is prefix bytes left made last e is h new = ap below (ap Some new ∙ sym
 
 -- a prefix stands before what it is raised to
 pub not_reversed : (prefix : Key) → is_reversed (Included prefix) (raised prefix) ≡ false
-not_reversed prefix = go (raised_key prefix) (second _ _ (lies_where prefix prefix (itself prefix)))
+not_reversed prefix = go (raised_key prefix) (second_true _ _ (lies_where prefix prefix (itself prefix)))
   where
-    second : (a b : Bool) → (a && b) ≡ true → b ≡ true
-    second true b e = e
-    second false b e = absurd cc
-
     itself : (key : Key) → begins key key ≡ true
     itself [] = refl
     itself (b ∷ key) = ap (λ first. first && begins key key) (eq-eqb b b refl) ∙ itself key

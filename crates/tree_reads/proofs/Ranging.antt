@@ -2,12 +2,12 @@
 use Rattle.std.proofs.Common.{◌≡◌, ℕ, Bool, true, false, T, not, cond, ◌&&◌, filter, List, [], ◌∷◌, ◌++◌, append-nil, Option, Some, None, option_map, sym, refl, ap, ◌∙◌, subst, inl, inr}
 use Rattle.std.specs.List.{list_any, AllByRecursion}
 use Rattle.std.specs.FinMap.Entries.{is_sorted, below_all}
-use Rattle.std.specs.Ordering.{is_lt, is_gt, ordering_reverse}
+use Rattle.std.specs.Ordering.{is_lt, is_gt}
 use Rattle.std.specs.declared.cmp.Ordering.{Ordering}
 use Rattle.std.specs.declared.cmp.Ordering.TheVariants.{Less, Equal, Greater}
 use Rattle.std.specs.declared.ops.Bound.{Bound}
 use Rattle.std.specs.declared.ops.Bound.TheVariants.{Included, Excluded, Unbounded}
-use Rattle.sled_nodes.proofs.Basics.{some_is, false_true, not_true, left_of, right_of, is_less, is_greater, key_total, less_of}
+use Rattle.sled_nodes.proofs.Basics.{some_is, false_true, not_true, left_of, right_of, is_less, is_greater, less_of, second_off}
 use Rattle.sled_nodes.specs.Order.{Key, key_cmp, Below}
 use Rattle.sled_store.specs.In.{In}
 use Rattle.sled_nodes.specs.Among.{is_up_to, is_from, IsFirst, IsLast, IsSuccessor, IsPredecessor}
@@ -27,7 +27,7 @@ use Rattle.tree_reads.specs.Ranges.{pairs_within, IsRoot}
 use Rattle.tree_reads.specs.theory.Ranges.{Advances, Retreats}
 use Rattle.tree_reads.proofs.Turning.{lower}
 use Rattle.tree_reads.proofs.Seeking.{none_at, all_at, higher, under, seeks_on}
-use Rattle.tree_reads.proofs.Backing.{back_on}
+use Rattle.tree_reads.proofs.Backing.{not_below, back_on}
 
 each_above : (k : Key) (es : List (Key × Key)) → T (below_all key_cmp k es) → AllByRecursion (λ e. Below k e.0) es
 each_above k [] p = tt
@@ -119,11 +119,7 @@ module _ (lo hi : Bound Key) (all : List (Key × Key)) where
     ])
       where
         far : (e : Key × Key) → is_up_to hi e.0 ≡ false → test e ≡ false
-        far e k = either (is_from lo e.0) (is_up_to hi e.0) k
-          where
-            either : (a b : Bool) → b ≡ false → (a && b) ≡ false
-            either true b e = e
-            either false b e = refl
+        far e k = second_off (is_from lo e.0) (is_up_to hi e.0) k
 
         go : (e : Key × Key) → In e f.after → (b : Bool) → is_up_to hi e.0 ≡ b → is_up_to hi e.0 ≡ false
         go e k true u = false_true (sym up ∙ lower hi x.0 e.0 (all_at (λ e. Below x.0 e.0) f.after e k parts.1) u)
@@ -134,11 +130,7 @@ module _ (lo hi : Bound Key) (all : List (Key × Key)) where
   within e = is_from lo e.0 && is_up_to hi e.0
 
   past : (e : Key × Key) → is_up_to hi e.0 ≡ false → within e ≡ false
-  past e k = go (is_from lo e.0) (is_up_to hi e.0) k
-    where
-      go : (a b : Bool) → b ≡ false → (a && b) ≡ false
-      go true b e = e
-      go false b e = refl
+  past e k = second_off (is_from lo e.0) (is_up_to hi e.0) k
 
   short : (e : Key × Key) → is_from lo e.0 ≡ false → within e ≡ false
   short e k = ap (λ b. b && is_up_to hi e.0) k
@@ -161,11 +153,7 @@ module _ (lo hi : Bound Key) (all : List (Key × Key)) where
     others e = is_from lo e.0 && is_up_to (Excluded x.0) e.0
 
     others_off : (e : Key × Key) → is_lt (key_cmp e.0 x.0) ≡ false → others e ≡ false
-    others_off e k = go (is_from lo e.0) (is_lt (key_cmp e.0 x.0)) k
-      where
-        go : (a b : Bool) → b ≡ false → (a && b) ≡ false
-        go true b e = e
-        go false b e = refl
+    others_off e k = second_off (is_from lo e.0) (is_lt (key_cmp e.0 x.0)) k
 
     itself : is_lt (key_cmp x.0 x.0) ≡ false
     itself = go (key_cmp x.0 x.0) refl
@@ -202,20 +190,12 @@ module _ (lo hi : Bound Key) (all : List (Key × Key)) where
         go e k false u = u
 
 -- a range whose start stands above its end has no pair
-not_lt : (a b : Key) → not (is_lt (key_cmp a b)) ≡ true → is_gt (key_cmp b a) ≡ false
-not_lt a b h = go (key_cmp b a) refl
-  where
-    go : (o : Ordering) → key_cmp b a ≡ o → is_gt (key_cmp b a) ≡ false
-    go Less e = ap is_gt e
-    go Equal e = ap is_gt e
-    go Greater e = false_true (sym (ap (λ o. not (is_lt o)) (key_total.antisymm a b ∙ ap ordering_reverse e)) ∙ h)
-
 none_from : (lo hi : Bound Key) → is_reversed lo hi ≡ true → (k : Key) → is_up_to hi k ≡ true → is_from lo k ≡ false
 none_from (Included a) (Included b) r k u = ap (λ o. not (is_lt o)) (upto_below-trans k b a (not_true _ u) (under a b (is_greater _ r)))
-none_from (Included a) (Excluded b) r k u = ap (λ o. not (is_lt o)) (below_upto-trans k b a (is_less _ u) (not_lt a b r))
-none_from (Excluded a) (Included b) r k u = upto-trans k b a (not_true _ u) (not_lt a b r)
-none_from (Excluded a) (Excluded b) r k u = ap is_gt (below_upto-trans k b a (is_less _ u) (not_lt a b r))
-none_from Unbounded (Excluded b) r k u = absurd (not_below_empty k (below_upto-trans k b [] (is_less _ u) (not_lt [] b r)))
+none_from (Included a) (Excluded b) r k u = ap (λ o. not (is_lt o)) (below_upto-trans k b a (is_less _ u) (not_below a b (not_true _ r)))
+none_from (Excluded a) (Included b) r k u = upto-trans k b a (not_true _ u) (not_below a b (not_true _ r))
+none_from (Excluded a) (Excluded b) r k u = ap is_gt (below_upto-trans k b a (is_less _ u) (not_below a b (not_true _ r)))
+none_from Unbounded (Excluded b) r k u = absurd (not_below_empty k (below_upto-trans k b [] (is_less _ u) (not_below [] b (not_true _ r))))
 none_from Unbounded (Included b) r k u = false_true r
 none_from Unbounded Unbounded r k u = false_true r
 none_from (Included a) Unbounded r k u = false_true r
@@ -224,13 +204,9 @@ none_from (Excluded a) Unbounded r k u = false_true r
 pub reversed_none : (lo hi : Bound Key) (all : List (Key × Key)) → is_reversed lo hi ≡ true → pairs_within lo hi all ≡ []
 reversed_none lo hi all r = filter_none (λ e. is_from lo e.0 && is_up_to hi e.0) all (λ e i. go e (is_up_to hi e.0) refl)
   where
-    both : (a b : Bool) → b ≡ false → (a && b) ≡ false
-    both true b e = e
-    both false b e = refl
-
     go : (e : Key × Key) (b : Bool) → is_up_to hi e.0 ≡ b → (is_from lo e.0 && is_up_to hi e.0) ≡ false
     go e true u = ap (λ z. z && is_up_to hi e.0) (none_from lo hi r e.0 u)
-    go e false u = both (is_from lo e.0) (is_up_to hi e.0) u
+    go e false u = second_off (is_from lo e.0) (is_up_to hi e.0) u
 
 -- what a test of a key against a lower bound says
 pub tested_from : (r a : Bool) (b lo : Bound Key) (k key : Key) → r ≡ is_from b k → b ≡ lo → k ≡ key → r ≡ a → is_from lo key ≡ a

@@ -4,7 +4,7 @@ use Rattle.std.specs.List.{list_any}
 use Rattle.std.specs.Ordering.{is_lt, is_gt}
 use Rattle.std.specs.declared.ops.Bound.{Bound}
 use Rattle.std.specs.declared.ops.Bound.TheVariants.{Included, Excluded, Unbounded}
-use Rattle.sled_nodes.proofs.Basics.{some_is, not_true, untrue, is_less}
+use Rattle.sled_nodes.proofs.Basics.{some_is, not_true, untrue, is_less, true_false}
 use Rattle.sled_nodes.specs.Order.{Key, key_cmp, Below}
 use Rattle.sled_store.specs.In.{In}
 use Rattle.sled_nodes.specs.Among.{is_up_to, IsPointer, IsPointerFor, IsBefore, IsPointerBefore}
@@ -33,11 +33,8 @@ standing {p = p} s = subst (λ l. In p l) (sym s.is.is) (In-right s.is.before (p
 not_behind : (target : Bound Key) (nodes : Nodes) (key : Key) (p : ℕ) (first : Bool) (n : Node) → target ≡ Included key → NeedsNoRepair nodes (Included key) p first n → LiesBehind target n → ⊥
 not_behind target nodes key p first n is k b = elim k.under.1 [
   | inl e ↦ b.0 e
-  | inr l ↦ apart (sym b.1 ∙ ap (λ z. is_up_to z n.hi) is ∙ l)
+  | inr l ↦ true_false (sym b.1 ∙ ap (λ z. is_up_to z n.hi) is ∙ l)
 ]
-  where
-    apart : true ≡ false → ⊥
-    apart e = cc
 
 -- to the right
 pub turns_right : (target : Bound Key) (n : Node) → LiesBehind target n → Turns target n n.next
@@ -98,12 +95,9 @@ turns_nowhere target n index none = record {
       let g = above f t s.height p n es.0 (standing s) live es.1 in
       let i : In p (w.chain (place t (suc g.0))) = subst (λ h. In p (w.chain (place t h))) g.1 (standing s) in
       let same : s.node ≡ n = some_is (sym s.live ∙ live) in
-      absurd (apart (sym (leads_down_law g.0 n target es.0 (sound_at f (place t (suc g.0)) p n i live) es.1 (ap (λ (z : Node). is_up_to target z.lo) (sym same) ∙ s.begins)) ∙ ap (λ d. list_any (λ e. is_up_to target e.0) (pointers d)) (sym es.1) ∙ none));
+      true_false (sym (leads_down_law g.0 n target es.0 (sound_at f (place t (suc g.0)) p n i live) es.1 (ap (λ (z : Node). is_up_to target z.lo) (sym same) ∙ s.begins)) ∙ ap (λ d. list_any (λ e. is_up_to target e.0) (pointers d)) (sym es.1) ∙ none);
   clean = λ nodes key p first path is live c. tt;
 }
-  where
-    apart : true ≡ false → ⊥
-    apart e = cc
 
 -- down by the pointer,
 pub turns_down : (target : Bound Key) (n : Node) (c : ℕ) (b : Bool) → IsIndex n.content → IsPointer target (pointers n.content) c b → (n.merging_child ≢ Some c) → Turns target n (Some c)

@@ -1,13 +1,11 @@
 -- What a scan has still to read and what waits of it, from step to step; and that its leaf has a beginning of it.
 use Rattle.std.proofs.lemmas.List.Elements.{filter-append}
 use Rattle.std.specs.Ordering.{is_lt, is_gt}
-use Rattle.std.specs.declared.cmp.Ordering.{Ordering}
-use Rattle.std.specs.declared.cmp.Ordering.TheVariants.{Less, Equal, Greater}
 use Rattle.std.proofs.Common.{cond, append-nil, ◌≡◌, ℕ, zero, suc, ◌+◌, ◌⊎◌, ◌&&◌, ◌||◌, not, true, false, Bool, List, [], ◌∷◌, ◌++◌, drop, filter, reverse, Option, Some, None, sym, refl, ap, ◌∙◌, subst, inl, inr, arith}
 use Rattle.std.specs.List.{AllByRecursion}
 use Rattle.std.specs.declared.ops.Bound.{Bound}
 use Rattle.std.specs.declared.ops.Bound.TheVariants.{Included, Excluded, Unbounded}
-use Rattle.sled_nodes.proofs.Basics.{none_some, some_is, false_true, true_false, second_true, first_off, second_off}
+use Rattle.sled_nodes.proofs.Basics.{none_some, some_is, false_true, true_false, not_true, second_true, first_off, second_off, is_less}
 use Rattle.sled_nodes.specs.Among.{is_from, is_up_to}
 use Rattle.sled_nodes.specs.Node.{pairs, Covers}
 use Rattle.sled_nodes.specs.Order.{Key, key_cmp, Below, UpTo}
@@ -116,12 +114,7 @@ below_or_upto : {P : Type 0} (a b : Key) → (Below a b → P) → (UpTo b a →
 below_or_upto a b below upto = true_or_false (is_up_to (Included a) b) (λ t. upto (up_to_key b a t)) (λ f. below (behind_key b a f))
 
 lt_below : (a b : Key) → is_lt (key_cmp a b) ≡ true → Below a b
-lt_below a b e = go (key_cmp a b) e
-  where
-    go : (o : Ordering) → is_lt o ≡ true → o ≡ Less
-    go Less e = refl
-    go Equal e = cc
-    go Greater e = cc
+lt_below a b e = is_less (key_cmp a b) e
 
 not_below : (a b : Key) → UpTo b a → is_lt (key_cmp a b) ≡ false
 not_below a b u = true_or_false (is_lt (key_cmp a b)) (λ t. absurd (below_not_upto a b (lt_below a b t) u)) (λ f. f)
@@ -132,15 +125,11 @@ lower hi a b u t = true_or_false (is_up_to hi a) (λ e. e) (λ f. absurd (below_
 
 -- .. and so it is of a lower bound, the other way
 outside_below : (lo : Bound Key) (a b : Key) → is_from lo b ≡ true → is_from lo a ≡ false → Below a b
-outside_below (Included k) a b t f = within_below (Excluded k) a b (go (is_up_to (Excluded k) a) f) (go_too (is_up_to (Excluded k) b) t)
+outside_below (Included k) a b t f = within_below (Excluded k) a b (go (is_up_to (Excluded k) a) f) (not_true (is_up_to (Excluded k) b) t)
   where
     go : (x : Bool) → not x ≡ false → x ≡ true
     go true e = refl
     go false e = cc
-
-    go_too : (x : Bool) → not x ≡ true → x ≡ false
-    go_too false e = refl
-    go_too true e = cc
 outside_below (Excluded k) a b t f = within_below (Included k) a b (ap not f) (ap not t)
 outside_below Unbounded a b t f = true_false f
 
@@ -186,8 +175,21 @@ or_none true = refl
 or_none false = refl
 
 -- before where it is cut the key is in the part if it is in the range, and behind it is in the rest
+all_same : (r : Range) (xs : List (Key × Key)) → AllByRecursion (λ e. is_in_range r e.0 ≡ is_in_range r e.0) xs
+all_same r [] = tt
+all_same r (x ∷ xs) = (refl, all_same r xs)
+
 part_alone : (r p q : Bool) → p ≡ r → q ≡ false → r ≡ p || q
 part_alone r p q e none = or_none r ∙ sym (ap (λ x. x || q) e ∙ ap (λ x. r || x) none)
+
+-- all of the range is taken where none is in what is left
+takes_before : (r rest : Range) → rest.back ≡ r.back → ((k : Key) → is_in_range rest k ≡ false) → TakesBeginning r r (Some rest)
+takes_before r rest way none = record {
+  way = refl;
+  way_left = λ q e. ap (λ (z : Range). z.back) (sym (some_is e)) ∙ way;
+  splits = λ k. part_alone _ _ _ refl (none k);
+  before = λ j k in_part in_rest. false_true (sym (none k) ∙ in_rest);
+}
 
 rest_alone : (r p q : Bool) → p ≡ false → q ≡ r → r ≡ p || q
 rest_alone r p q none e = sym (ap (λ x. x || q) none ∙ e)
@@ -270,22 +272,13 @@ module _ (n : Node) (lo hi : Bound Key) (k : Key) (start : IsStart lo k) (begins
       none_left j = below_or_upto j h (λ l. first_off _ (is_up_to hi j) (off_rest j l)) (λ u. second_off (is_from (Included h) j) _ (past_end j u))
 
       all_up : TakesBeginning up up (Some rest_up)
-      all_up = record {
-        way = refl;
-        way_left = λ r e. sym (ap (λ (z : Range). z.back) (some_is e));
-        splits = λ j. part_alone _ _ _ refl (none_left j);
-        before = λ i j in_part in_other. absurd (false_true (sym (none_left j) ∙ in_other));
-      }
+      all_up = takes_before up rest_up refl none_left
 
       kept_up : (before es behind all : List (Key × Key)) → all ≡ before ++ (es ++ behind) → AllByRecursion (λ e. Below e.0 n.lo) before → AllByRecursion (λ e. UpTo h e.0) behind → pairs_in up es ≡ pairs_in up all
       kept_up before es behind all is a c = middle (λ e. is_in_range up e.0) (λ e. is_in_range up e.0) before es behind all is
           (each (λ e l. first_off (is_from lo e.0) _ (not_before e l)) before a)
-          (all_same es)
+          (all_same up es)
           (each (λ e u. second_off (is_from lo e.0) _ (past_end e.0 u)) behind c)
-        where
-          all_same : (xs : List (Key × Key)) → AllByRecursion (λ e. is_in_range up e.0 ≡ is_in_range up e.0) xs
-          all_same [] = tt
-          all_same (x ∷ xs) = (refl, all_same xs)
 
 -- ---- from the greatest key down
 
@@ -358,22 +351,13 @@ module _ (n : Node) (lo hi : Bound Key) (begins : is_up_to hi n.lo ≡ true) whe
       none_under j = below_or_upto j n.lo (λ l. first_off (is_from lo j) _ (short lo j n.lo l done)) (λ u. second_off (is_from lo j) _ (not_below j n.lo u))
 
       all_down : TakesBeginning down down (Some rest_down)
-      all_down = record {
-        way = refl;
-        way_left = λ r e. sym (ap (λ (z : Range). z.back) (some_is e));
-        splits = λ j. part_alone _ _ _ refl (none_under j);
-        before = λ i j in_it in_other. absurd (false_true (sym (none_under j) ∙ in_other));
-      }
+      all_down = takes_before down rest_down refl none_under
 
       kept_down : (before es behind all : List (Key × Key)) → all ≡ before ++ (es ++ behind) → AllByRecursion (λ e. Below e.0 n.lo) before → AllByRecursion (λ e. IsBehind e.0) behind → pairs_in down es ≡ pairs_in down all
       kept_down before es behind all is a c = ap reverse (middle (λ e. is_in_range down e.0) (λ e. is_in_range down e.0) before es behind all is
           (each (λ e l. first_off (is_from lo e.0) _ (short lo e.0 n.lo l done)) before a)
-          (all_same es)
+          (all_same down es)
           (each (λ e b. second_off (is_from lo e.0) _ (not_behind ends e.0 b)) behind c))
-        where
-          all_same : (xs : List (Key × Key)) → AllByRecursion (λ e. is_in_range down e.0 ≡ is_in_range down e.0) xs
-          all_same [] = tt
-          all_same (x ∷ xs) = (refl, all_same xs)
 
 -- all of the range is taken where the leaf is the last one of its way
 takes_all : (r : Range) → TakesBeginning r r None
