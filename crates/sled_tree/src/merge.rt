@@ -143,23 +143,21 @@ fn at_child(job: &Job, aim: &Aim, merge: Merge, view: View) -> Next
 {
     let read: &Node = &view.node;
     if read.merging {
-        let View { version, node, .. } = view;
         return Next::Go(Stage::Seek(Seek {
             cursor: merge.before,
             merge,
-            version,
-            node,
+            version: view.version,
+            node: view.node,
         }));
     }
     if let Some(child) = read.merging_child {
         drop(merge);
         return help(view, child);
     }
-    let View { version, node, .. } = view;
     Next::Go(Stage::Cap(Cap {
         merge,
-        version,
-        node,
+        version: view.version,
+        node: view.node,
     }))
 }
 
@@ -225,10 +223,9 @@ fn reaches(view: &View, seek: &Seek) -> bool
 fn to_confirm(merge: Merge, version: Version) -> Next
     ensures { result ≡ Go (stage.Confirm (record { parent = merge.parent; child = merge.child; version = version })) }
 {
-    let Merge { parent, child, .. } = merge;
     Next::Go(Stage::Confirm(Confirm {
-        parent,
-        child,
+        parent: merge.parent,
+        child: merge.child,
         version,
     }))
 }
@@ -281,14 +278,8 @@ fn compare(job: &Job, aim: &Aim, seek: Seek, view: View) -> Next
     }
     if reaches(&view, &seek) {
         drop(view);
-        let Seek {
-            merge,
-            version,
-            node,
-            ..
-        } = seek;
-        drop(node);
-        return to_confirm(merge, version);
+        drop(seek.node);
+        return to_confirm(seek.merge, seek.version);
     }
     match view.node.next {
         None => {
@@ -318,16 +309,10 @@ fn meet(job: &Job, aim: &Aim, seek: Seek, view: View) -> Next
             posting: Posting::Nowhere,
         }));
     }
-    let Seek {
-        merge,
-        version,
-        node,
-        ..
-    } = seek;
     Next::Go(Stage::Receive(Receive {
-        merge,
-        version,
-        node,
+        merge: seek.merge,
+        version: seek.version,
+        node: seek.node,
         left: view,
     }))
 }
@@ -394,12 +379,8 @@ pub(crate) fn confirm<P: Pages>(pages: &mut P, job: &Job, aim: &Aim, confirm: Co
         child,
         version,
     } = confirm;
-    let View {
-        pid,
-        version: seen,
-        node,
-    } = parent;
-    drop(node);
+    let (pid, seen) = (parent.pid, parent.version);
+    drop(parent);
     match pages.link(pid, seen, Link::ParentMergeConfirm) {
         Err(e) => Next::Refused(e),
         Ok(Err(_)) => Next::Go(Stage::Root),

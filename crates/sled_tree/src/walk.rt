@@ -62,9 +62,9 @@ fn by_pointer(parent: View, first: bool) -> Reached
     }
 }
 
-// A bound, lent.
+/// A bound, lent.
 #[inline(always)]
-fn lent(bound: &Bound<IVec>) -> Bound<&[u8]>
+pub fn lent(bound: &Bound<IVec>) -> Bound<&[u8]>
     ensures { bound_of result ≡ bound.now }
 {
     match bound {

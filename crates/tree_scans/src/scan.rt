@@ -16,7 +16,7 @@ ghost use Rattle.tree_scans.specs.theory.Scans.{ComesBehind, ComesTo, IsRangeOf,
 use sled_model::{Call, MAX_LOOPS, MergeOperator, Reply};
 use sled_nodes::{Error, IVec, Node, Result, is_reversed};
 use sled_store::Pages;
-use sled_tree::{Aim, Giving, InFlight, Job, Stage, Went};
+use sled_tree::{Aim, Giving, InFlight, Job, Stage, Went, lent};
 use std::alloc::Global;
 use std::mem;
 use std::ops::Bound;
@@ -38,18 +38,6 @@ enum AtLeaf {
     End,
     // None waits, and the scan goes on here.
     GoesOn(Aim),
-}
-
-// A bound, lent.
-#[inline(always)]
-fn lent(bound: &Bound<IVec>) -> Bound<&[u8]>
-    ensures { bound_of result ≡ bound.now }
-{
-    match bound {
-        Bound::Included(key) => Bound::Included(key.as_ref()),
-        Bound::Excluded(key) => Bound::Excluded(key.as_ref()),
-        Bound::Unbounded => Bound::Unbounded,
-    }
 }
 
 // The range of a scan from where it goes on.

@@ -267,9 +267,9 @@ keeps_none (went.Refused e) off = refl
 
 -- ---- a change that was prepared
 
-module _ (change : Change) (a : Store) (f : InFlight) (v : View) (here : f.stage ≡ stage.Act v) where
-  pub told_short : (e : Error) → e ≡ NoMemory → (old new : QueuesValue) → new ≡ old → TellsPrepared change a old f (went.Refused e) a new f
-  told_short e none old new same = record { is = λ operator p. short operator a f v here e none old new same; replies = tt }
+module _ (change : Change) (a : Store) (f : InFlight) where
+  pub told_short : IsAtLink f.stage → (e : Error) → e ≡ NoMemory → (old new : QueuesValue) → new ≡ old → TellsPrepared change a old f (went.Refused e) a new f
+  told_short at_link e none old new same = record { is = λ operator p. short operator a f at_link e none old new same; replies = tt }
 
   pub told_alone : (b : Store) (g : InFlight) (queues : QueuesValue) → IsCalm (queue_at queues) → links_watched_as queues f false → (w : Went) → LinksPrepared change a f w b g → TellsPrepared change a queues f w b queues g
   told_alone b g queues calm off w links = record { is = λ operator p. alone operator a b f g queues calm off w (links.is operator p); replies = links.replies }

@@ -22,13 +22,13 @@ use Rattle.sled_queues.proofs.Lawful.{cancels_law}
 use Rattle.tree_laws.specs.declared.flight.Stage.{Stage}
 use Rattle.tree_laws.specs.declared.flight.Stage.TheVariants as stage
 use Rattle.sled_tree.specs.Change.{decision_at}
-use Rattle.sled_tree.specs.theory.Change.{event_of_link}
-use Rattle.sled_tree.specs.theory.Linking.{PreparesChange, StepsBy, LinksPrepared}
+use Rattle.sled_tree.specs.theory.Change.{IsOfPair, event_of_link}
+use Rattle.sled_tree.specs.theory.Linking.{IsAtLink, PreparesChange, StepsBy, LinksPrepared}
 use Rattle.sled_tree.specs.declared.act.Change.{Change}
 use Rattle.sled_tree.specs.declared.flight.InFlight.{InFlight}
 use Rattle.sled_tree.specs.declared.flight.Went.{Went}
 use Rattle.sled_tree.specs.declared.flight.Went.TheVariants.{Moved, Yielded, Decided, Refused}
-use Rattle.sled_tree.proofs.Linking.{unprepared, change_event}
+use Rattle.sled_tree.proofs.Linking.{leaf_of, unprepared, change_pair, change_event}
 use Rattle.tree_steps.specs.theory.Watched.{told, told_by, tells_as, links_watched_as, AdvancesOver}
 
 -- queues that stay as they are
@@ -43,23 +43,35 @@ event_key effect.Remove key event is = ap key_of_event (sym (some_is is))
 
 -- ---- a call that is to link its change
 
-module _ (operator : Option Merge) (a : Store) (f : InFlight) (view : View) (here : f.stage ≡ stage.Act view) where
+-- what was prepared sets a pair or takes one out
+pub of_pair : (operator : Option Merge) (f : InFlight) → IsAtLink f.stage → (change : Change) → PreparesChange operator f (Some change) → IsOfPair change.link
+of_pair operator f at_link change p =
+    let leaf = leaf_of f.stage at_link in
+    change_pair operator f.job.call leaf.0.node.content change (p.is leaf.0 leaf.1)
+
+module _ (operator : Option Merge) (a : Store) (f : InFlight) (at_link : IsAtLink f.stage) where
+  abbrev view : View
+  view = (leaf_of f.stage at_link).0
+
+  is_at : f.stage ≡ stage.Act view
+  is_at = (leaf_of f.stage at_link).1
+
   -- there is no memory
   pub short : (e : Error) → e ≡ error.NoMemory → (old new : QueuesValue) → new ≡ old → AdvancesOver operator a old f (Refused e) a new f
   short e none old new same = record {
-    steps = unprepared operator a f view here e f none;
+    steps = unprepared operator a f view is_at e f none;
     tells = same_queues old new same;
   }
 
   -- its event is prepared
   module _ (change : Change) (p : PreparesChange operator f (Some change)) (event : Event) (brings : event_of_link change.link ≡ Some event) (old mid : QueuesValue) (ready : Becomes (prepared f.job.tree.number event (queue_at old)) old.given mid) where
     tells_event : event_of (decision_at operator f.job.call view.node.content).effect (key_of f.job.call) ≡ Some event
-    tells_event = sym (change_event operator f.job.call view.node.content change (p.is view here)) ∙ brings
+    tells_event = sym (change_event operator f.job.call view.node.content change (p.is view is_at)) ∙ brings
 
     pub linked : (b : Store) (g : InFlight) (reply : Reply) (went : Went) → went ≡ Decided reply → LinksPrepared change a f went b g → (new : QueuesValue) → Becomes (committed (queue_at mid)) mid.given new → AdvancesOver operator a old f (Decided reply) b new g
     linked b g reply went is links new commits = record {
       steps = subst (λ w. StepsBy operator a f w b g) is (links.is operator p);
-      tells = subst (λ s. told_by operator f s old new) (sym here) (subst (λ o. told f.job.tree.number o old new) (sym tells_event) (record { held = commits.held ∙ ap committed ready.held; count = commits.count ∙ ready.count }));
+      tells = subst (λ s. told_by operator f s old new) (sym is_at) (subst (λ o. told f.job.tree.number o old new) (sym tells_event) (record { held = commits.held ∙ ap committed ready.held; count = commits.count ∙ ready.count }));
     }
 
     pub unlinked : IsCalm (queue_at old) → (b : Store) (g : InFlight) (went : Went) → ((reply : Reply) → went ≡ Decided reply → ⊥) → LinksPrepared change a f went b g → (new : QueuesValue) → Becomes (cancelled (queue_at mid)) mid.given new → AdvancesOver operator a old f went b new g

@@ -1,32 +1,23 @@
 use Rattle.std.proofs.Common.{refl, subst}
 use Rattle.sled_tree.specs.theory.Linking.{replies_with}
-use Rattle.sled_tree.proofs.Linking.{leaf_of}
 use Rattle.tree_steps.proofs.Watching.{linked, unlinked}
 use Rattle.tree_steps.proofs.KeptSteps.{told_short}
 use Rattle.tree_steps.proofs.step.link_told.Goals as goal
 
 pub returns-in-Err : goal.returns-in-Err
-returns-in-Err g c =
-    let at = leaf_of c.args.flight.now.stage c.requires.here in
-    told_short c.args.change (g.P.Pages.store c.args.pages.now) c.args.flight.now at.0 at.1 c.in-Err.e c.in-Err.ensures.err c.args.queues.now c.args.queues.now refl
+returns-in-Err g c = told_short c.args.change (g.P.Pages.store c.args.pages.now) c.args.flight.now c.requires.here c.in-Err.e c.in-Err.ensures.err c.args.queues.now c.args.queues.now refl
 
 pub returns-in-Err-prepare : goal.returns-in-Err-prepare
-returns-in-Err-prepare g c =
-    let at = leaf_of c.args.flight.now.stage c.requires.here in
-    told_short c.args.change (g.P.Pages.store c.args.pages.now) c.args.flight.now at.0 at.1 c.in-Err-prepare.e c.in-Err-prepare.ensures.cause c.args.queues.now c.prepare.new.self c.in-Err-prepare.ensures.err
+returns-in-Err-prepare g c = told_short c.args.change (g.P.Pages.store c.args.pages.now) c.args.flight.now c.requires.here c.in-Err-prepare.e c.in-Err-prepare.ensures.cause c.args.queues.now c.prepare.new.self c.in-Err-prepare.ensures.err
 
 pub returns-in-Decided : goal.returns-in-Decided
-returns-in-Decided g c =
-    let at = leaf_of c.args.flight.now.stage c.requires.here in
-    record {
-      is = λ operator p. linked operator (g.P.Pages.store c.args.pages.now) c.args.flight.now at.0 at.1 c.args.change p c.in-Ok.event c.in-Ok.ensures.ok c.args.queues.now c.prepare.new.self c.in_default.ensures.ok _ _ _ _ c.in-Decided.is c.link_change.ensures _ c.commit.ensures;
-      replies = subst (replies_with c.args.change.reply) c.in-Decided.is c.link_change.ensures.replies;
-    }
+returns-in-Decided g c = record {
+  is = λ operator p. linked operator (g.P.Pages.store c.args.pages.now) c.args.flight.now c.requires.here c.args.change p c.in-Ok.event c.in-Ok.ensures.ok c.args.queues.now c.prepare.new.self c.in_default.ensures.ok _ _ _ _ c.in-Decided.is c.link_change.ensures _ c.commit.ensures;
+  replies = subst (replies_with c.args.change.reply) c.in-Decided.is c.link_change.ensures.replies;
+}
 
 pub returns-in_default-link_change : goal.returns-in_default-link_change
-returns-in_default-link_change g c =
-    let at = leaf_of c.args.flight.now.stage c.requires.here in
-    record {
-      is = λ operator p. unlinked operator (g.P.Pages.store c.args.pages.now) c.args.flight.now at.0 at.1 c.args.change p c.in-Ok.event c.in-Ok.ensures.ok c.args.queues.now c.prepare.new.self c.in_default.ensures.ok c.requires.calm _ _ _ c.in_default-link_change.not-Decided c.link_change.ensures _ c.cancel.ensures;
-      replies = c.link_change.ensures.replies;
-    }
+returns-in_default-link_change g c = record {
+  is = λ operator p. unlinked operator (g.P.Pages.store c.args.pages.now) c.args.flight.now c.requires.here c.args.change p c.in-Ok.event c.in-Ok.ensures.ok c.args.queues.now c.prepare.new.self c.in_default.ensures.ok c.requires.calm _ _ _ c.in_default-link_change.not-Decided c.link_change.ensures _ c.cancel.ensures;
+  replies = c.link_change.ensures.replies;
+}

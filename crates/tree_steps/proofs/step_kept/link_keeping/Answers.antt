@@ -1,14 +1,11 @@
 use Rattle.std.proofs.Common.{Some, sym, refl, ap, ◌∙◌, subst}
 use Rattle.sled_tree.specs.theory.Linking.{replies_with}
-use Rattle.sled_tree.proofs.Linking.{leaf_of}
 use Rattle.tree_steps.specs.theory.Watched.{TellsPrepared}
 use Rattle.tree_steps.proofs.KeptSteps.{told_short, keeps_none}
 use Rattle.tree_steps.proofs.step_kept.link_keeping.Goals as goal
 
 pub returns-in-Err-clause-links : goal.returns-in-Err-clause-links
-returns-in-Err-clause-links g c =
-    let at = leaf_of c.args.flight.now.stage c.requires.here in
-    told_short c.args.change (g.P.Pages.store c.args.pages.now) c.args.flight.now at.0 at.1 c.in-Err.e c.in-Err.ensures.err.0 c.args.queues.now c.args.queues.now refl
+returns-in-Err-clause-links g c = told_short c.args.change (g.P.Pages.store c.args.pages.now) c.args.flight.now c.requires.here c.in-Err.e c.in-Err.ensures.err.0 c.args.queues.now c.args.queues.now refl
 
 pub returns-in-Decided-clause-links : goal.returns-in-Decided-clause-links
 returns-in-Decided-clause-links g c = subst (λ w. TellsPrepared c.args.change (g.P.Pages.store c.args.pages.now) c.args.queues.now c.args.flight.now w (g.P.Pages.store c.link_prepared.new.pages) c.link_prepared.new.queues c.link_prepared.new.flight) c.in-Decided.is c.link_prepared.ensures
