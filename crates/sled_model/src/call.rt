@@ -11,7 +11,7 @@ ghost use Rattle.sled_model.specs.declared.call.Call.TheVariants.{Get, Insert, R
 ghost use Rattle.sled_model.specs.declared.call.Whole.TheVariants.{Group, Import, Watch};
 
 use crate::batches::copied_batches;
-use crate::collection::{Collection, copied_collections};
+use crate::collection::{Collection, copied_collections, copied_pair};
 use crate::reply::clone_value;
 use crate::subscriber::Subscriber;
 use crate::tree::Tree;
@@ -253,10 +253,16 @@ impl Call {
     {
         match self {
             Call::Get(key) => Ok(Call::Get(key.clone()?)),
-            Call::Insert(key, value) => copied_insert(key, value),
+            Call::Insert(key, value) => {
+                let (key, value) = copied_pair(key, value)?;
+                Ok(Call::Insert(key, value))
+            }
             Call::Remove(key) => Ok(Call::Remove(key.clone()?)),
             Call::CompareAndSwap(key, old, new) => copied_swap(key, old, new),
-            Call::Merge(key, bytes) => copied_merge(key, bytes),
+            Call::Merge(key, bytes) => {
+                let (key, bytes) = copied_pair(key, bytes)?;
+                Ok(Call::Merge(key, bytes))
+            }
             Call::Scan { lo, hi, back } => copied_scan(lo, hi, *back),
         }
     }
@@ -281,36 +287,6 @@ fn own_pair(alloc: Global, key: &[u8], value: &[u8]) -> Result<(IVec, IVec)>
     let key = IVec::from_slice(alloc, key)?;
     match IVec::from_slice(alloc, value) {
         Ok(value) => Ok((key, value)),
-        Err(e) => {
-            drop(key);
-            Err(e)
-        }
-    }
-}
-
-// The call that sets a copy of a value at a copy of a key.
-fn copied_insert(key: &IVec, value: &IVec) -> Result<Call>
-    ensures ok { IfOk result (λ call. call ≡ Insert key.now value.now) }
-    ensures err { IfErr result (λ e. e ≡ NoMemory) }
-{
-    let key = key.clone()?;
-    match value.clone() {
-        Ok(value) => Ok(Call::Insert(key, value)),
-        Err(e) => {
-            drop(key);
-            Err(e)
-        }
-    }
-}
-
-// The call that merges a copy of bytes at a copy of a key.
-fn copied_merge(key: &IVec, bytes: &IVec) -> Result<Call>
-    ensures ok { IfOk result (λ call. call ≡ Merge key.now bytes.now) }
-    ensures err { IfErr result (λ e. e ≡ NoMemory) }
-{
-    let key = key.clone()?;
-    match bytes.clone() {
-        Ok(bytes) => Ok(Call::Merge(key, bytes)),
         Err(e) => {
             drop(key);
             Err(e)
@@ -348,13 +324,8 @@ fn copied_scan(lo: &Bound<IVec>, hi: &Bound<IVec>, back: bool) -> Result<Call>
     ensures err { IfErr result (λ e. e ≡ NoMemory) }
 {
     let lo = copied_bound(lo)?;
-    match copied_bound(hi) {
-        Ok(hi) => Ok(Call::Scan { lo, hi, back }),
-        Err(e) => {
-            drop(lo);
-            Err(e)
-        }
-    }
+    let hi = copied_bound(hi)?;
+    Ok(Call::Scan { lo, hi, back })
 }
 
 // The call that swaps copies of two values at a copy of a key.
@@ -363,21 +334,9 @@ fn copied_swap(key: &IVec, old: &Option<IVec>, new: &Option<IVec>) -> Result<Cal
     ensures err { IfErr result (λ e. e ≡ NoMemory) }
 {
     let key = key.clone()?;
-    let old = match clone_value(old) {
-        Ok(old) => old,
-        Err(e) => {
-            drop(key);
-            return Err(e);
-        }
-    };
-    match clone_value(new) {
-        Ok(new) => Ok(Call::CompareAndSwap(key, old, new)),
-        Err(e) => {
-            drop(key);
-            drop(old);
-            Err(e)
-        }
-    }
+    let old = clone_value(old)?;
+    let new = clone_value(new)?;
+    Ok(Call::CompareAndSwap(key, old, new))
 }
 
 impl Whole {

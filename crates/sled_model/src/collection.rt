@@ -17,19 +17,14 @@ fn copied_bytes(bytes: &Vec<u8>) -> Result<Vec<u8>>
     Ok(Vec::from_slice(*bytes.allocator(), bytes.as_slice())?)
 }
 
-// The same pair.
-fn copied_pair(pair: &(IVec, IVec)) -> Result<(IVec, IVec)>
-    ensures ok { IfOk result (λ copy. copy ≡ pair.now) }
+// The same key and value.
+pub(crate) fn copied_pair(key: &IVec, value: &IVec) -> Result<(IVec, IVec)>
+    ensures ok { IfOk result (λ copy. copy ≡ (key.now, value.now)) }
     ensures err { IfErr result (λ e. e ≡ NoMemory) }
 {
-    let key = pair.0.clone()?;
-    match pair.1.clone() {
-        Ok(value) => Ok((key, value)),
-        Err(e) => {
-            drop(key);
-            Err(e)
-        }
-    }
+    let key = key.clone()?;
+    let value = value.clone()?;
+    Ok((key, value))
 }
 
 // The same pairs.
@@ -39,7 +34,7 @@ fn copied_pairs(pairs: &Vec<(IVec, IVec)>) -> Result<Vec<(IVec, IVec)>>
 {
     let mut copy = Vec::with_capacity(*pairs.allocator(), pairs.len())?;
     for pair in pairs {
-        copy.push(copied_pair(pair)?)?;
+        copy.push(copied_pair(&pair.0, &pair.1)?)?;
     }
     Ok(copy)
 }

@@ -2,6 +2,7 @@
 ghost use Rattle.std.specs.Prelude.{◌≡◌, IfOk, IfErr};
 ghost use Rattle.sled_nodes.specs.declared.error.Error.TheVariants.{NoMemory};
 
+use crate::collection::copied_pair;
 use crate::event::Next;
 use crate::subscriber::Subscriber;
 use crate::tree::Tree;
@@ -101,14 +102,7 @@ fn clone_pair(pair: &Option<(IVec, IVec)>) -> Result<Option<(IVec, IVec)>>
     let Some((key, value)) = pair else {
         return Ok(None);
     };
-    let key = key.clone()?;
-    match value.clone() {
-        Ok(value) => Ok(Some((key, value))),
-        Err(e) => {
-            drop(key);
-            Err(e)
-        }
-    }
+    Ok(Some(copied_pair(key, value)?))
 }
 
 // What a subscriber is told, if it is told something.

@@ -70,17 +70,9 @@ pub(crate) fn insert_through<P: Pages>(
     ensures put { OnOk result (overlay.new ≡ put key_cmp key.now (Some value.now) overlay.old) }
     ensures kept { OnErr result (overlay.new ≡ overlay.old) }
 {
-    let stood = match read_through(alloc, pages, root, overlay, key) {
-        Ok(stood) => stood,
-        Err(e) => return Err(e),
-    };
-    match overlay.insert(alloc, key, value) {
-        Ok(()) => Ok(stood),
-        Err(e) => {
-            drop(stood);
-            Err(e)
-        }
-    }
+    let stood = read_through(alloc, pages, root, overlay, key)?;
+    overlay.insert(alloc, key, value)?;
+    Ok(stood)
 }
 
 // Takes a key out in an overlay, and answers the value that it had, as it is read through that.
@@ -96,17 +88,9 @@ pub(crate) fn remove_through<P: Pages>(
     ensures put { OnOk result (overlay.new ≡ put key_cmp key.now None overlay.old) }
     ensures kept { OnErr result (overlay.new ≡ overlay.old) }
 {
-    let stood = match read_through(alloc, pages, root, overlay, key) {
-        Ok(stood) => stood,
-        Err(e) => return Err(e),
-    };
-    match overlay.remove(alloc, key) {
-        Ok(()) => Ok(stood),
-        Err(e) => {
-            drop(stood);
-            Err(e)
-        }
-    }
+    let stood = read_through(alloc, pages, root, overlay, key)?;
+    overlay.remove(alloc, key)?;
+    Ok(stood)
 }
 
 // One write of a batch, in an overlay.

@@ -5,7 +5,7 @@ ghost use Rattle.tree_transactions.specs.Ids.{TakesId, LacksId};
 ghost use Rattle.tree_transactions.specs.Overlays.{put_all, PutsSome};
 ghost use Rattle.tree_transactions.specs.Trees.{Shows, RefusesToShow, Records, RefusedFor};
 
-use crate::errors::{UnabortableTransactionError, UnabortableTransactionResult};
+use crate::errors::UnabortableTransactionResult;
 use crate::overlay::{apply_through, insert_through, read_through, remove_through, take_id};
 use sled_batch::Batch;
 use sled_nodes::{IVec, Pid, Result};
@@ -39,10 +39,7 @@ impl<'a, P: Pages> TransactionalTree<'a, P> {
         ensures ok { IfOk result (Shows P.store self.now key.now) }
         ensures err { IfErr result (RefusesToShow P.store self.now key.now) }
     {
-        match read_through(self.alloc, self.pages, self.root, &self.overlay, key) {
-            Ok(value) => Ok(value),
-            Err(e) => Err(UnabortableTransactionError::Storage(e)),
-        }
+        Ok(read_through(self.alloc, self.pages, self.root, &self.overlay, key)?)
     }
 
     /// The key is to have this value. Answers the one that it had, as `get` does. Refused as `get` is, and then nothing is written.
@@ -57,10 +54,7 @@ impl<'a, P: Pages> TransactionalTree<'a, P> {
         ensures kept { OnErr result (self.new ≡ self.old) }
     {
         let root = self.root;
-        match insert_through(self.alloc, self.pages, root, &mut self.overlay, key, value) {
-            Ok(stood) => Ok(stood),
-            Err(e) => Err(UnabortableTransactionError::Storage(e)),
-        }
+        Ok(insert_through(self.alloc, self.pages, root, &mut self.overlay, key, value)?)
     }
 
     /// The key is to have no value. Answers the one that it had, as `get` does. Refused as `get` is, and then nothing is written.
@@ -77,10 +71,7 @@ impl<'a, P: Pages> TransactionalTree<'a, P> {
         ensures kept { OnErr result (self.new ≡ self.old) }
     {
         let root = self.root;
-        match remove_through(self.alloc, self.pages, root, &mut self.overlay, key) {
-            Ok(stood) => Ok(stood),
-            Err(e) => Err(UnabortableTransactionError::Storage(e)),
-        }
+        Ok(remove_through(self.alloc, self.pages, root, &mut self.overlay, key)?)
     }
 
     /// The writes of a batch, in the order of its keys. It reads nothing. Refused with `NoMemory` alone, and then the first of
@@ -96,10 +87,7 @@ impl<'a, P: Pages> TransactionalTree<'a, P> {
         ensures some { OnErr result (PutsSome batch.now self.old.overlay self.new.overlay) }
         ensures rest { self.new ≡ record self.old { overlay = self.new.overlay } }
     {
-        match apply_through(self.alloc, &mut self.overlay, batch) {
-            Ok(()) => Ok(()),
-            Err(e) => Err(UnabortableTransactionError::Storage(e)),
-        }
+        Ok(apply_through(self.alloc, &mut self.overlay, batch)?)
     }
 
     /// Asks for a flush, which follows once the transaction is made.

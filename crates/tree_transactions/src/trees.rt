@@ -58,10 +58,7 @@ impl<'a, P: Pages> TransactionalTrees<'a, P> {
         let Some(overlay) = self.overlays.at(position) else {
             return Err(no_tree());
         };
-        match read_through(self.alloc, self.pages, *root, overlay, key) {
-            Ok(value) => Ok(value),
-            Err(e) => Err(UnabortableTransactionError::Storage(e)),
-        }
+        Ok(read_through(self.alloc, self.pages, *root, overlay, key)?)
     }
 
     /// The key is to have this value in the tree at a position. Answers the one that it had there, as `get` does. Refused as `get` is,
@@ -81,17 +78,9 @@ impl<'a, P: Pages> TransactionalTrees<'a, P> {
         ensures put { OnOk result (WritesAt self.old position (put key_cmp key.now (Some value.now)) self.new) }
         ensures kept { OnErr result (self.new ≡ self.old) }
     {
-        let stood = match self.get(position, key) {
-            Ok(stood) => stood,
-            Err(e) => return Err(e),
-        };
-        match self.overlays.write(self.alloc, position, key, Some(value)) {
-            Ok(()) => Ok(stood),
-            Err(e) => {
-                drop(stood);
-                Err(UnabortableTransactionError::Storage(e))
-            }
-        }
+        let stood = self.get(position, key)?;
+        self.overlays.write(self.alloc, position, key, Some(value))?;
+        Ok(stood)
     }
 
     /// The key is to have no value in the tree at a position. Answers the one that it had there, as `get` does. Refused as `get` is, and
@@ -112,17 +101,9 @@ impl<'a, P: Pages> TransactionalTrees<'a, P> {
         ensures put { OnOk result (WritesAt self.old position (put key_cmp key.now None) self.new) }
         ensures kept { OnErr result (self.new ≡ self.old) }
     {
-        let stood = match self.get(position, key) {
-            Ok(stood) => stood,
-            Err(e) => return Err(e),
-        };
-        match self.overlays.write(self.alloc, position, key, None) {
-            Ok(()) => Ok(stood),
-            Err(e) => {
-                drop(stood);
-                Err(UnabortableTransactionError::Storage(e))
-            }
-        }
+        let stood = self.get(position, key)?;
+        self.overlays.write(self.alloc, position, key, None)?;
+        Ok(stood)
     }
 
     /// The writes of a batch in the tree at a position, in the order of its keys. It reads nothing. Refused with `Unsupported` where the
@@ -143,10 +124,7 @@ impl<'a, P: Pages> TransactionalTrees<'a, P> {
         if position >= self.roots.len() || position >= self.overlays.len() {
             return Err(no_tree());
         }
-        match self.overlays.apply(self.alloc, position, batch) {
-            Ok(()) => Ok(()),
-            Err(e) => Err(UnabortableTransactionError::Storage(e)),
-        }
+        Ok(self.overlays.apply(self.alloc, position, batch)?)
     }
 
     /// Asks for a flush, which follows once the transaction is made; of a list without trees it is passed over.

@@ -3,8 +3,6 @@ ghost use Rattle.std.specs.Prelude.{◌≡◌, ℕ, nat_le, [], true, IfOk, IfEr
 ghost use Rattle.std.specs.FinMap.{is_sorted};
 ghost use Rattle.sled_nodes.specs.declared.error.Error.TheVariants.{NoMemory};
 ghost use Rattle.sled_nodes.specs.Order.{Key, key_cmp};
-ghost use Rattle.sled_nodes.specs.Node.{without};
-ghost use Rattle.sled_nodes.specs.theory.Rising.{IsHit, IsGap};
 ghost use Rattle.sled_store.specs.Update.{put_name};
 ghost use Rattle.sled_pages.specs.Slots.{slots_of, places_of, given_of};
 ghost use Rattle.sled_store.specs.Roots.{roots_of};
@@ -15,32 +13,8 @@ ghost use Rattle.std.specs.List.{list_all};
 
 use super::slots::Slots;
 use super::undo::Undo;
-use sled_nodes::{IVec, Pid, Result, put_pair};
+use sled_nodes::{IVec, Pid, Result, put_pair, remove_key};
 use std::alloc::Global;
-
-// Where the root of a name stands, or would go: it is searched by halves.
-#[tactic(auto, unfolding(sled_nodes::specs::Order::key_cmp))]
-fn place_of(roots: &[(IVec, Pid)], name: &[u8]) -> std::result::Result<usize, usize>
-    requires { is_sorted key_cmp roots.now ≡ true }
-    ensures ok { IfOk result (IsHit key_cmp name.now roots.now) }
-    ensures err { IfErr result (IsGap key_cmp name.now roots.now) }
-{
-    roots.binary_search_by(|root| root.0.as_ref().cmp(name))
-}
-
-// Takes a name out.
-fn take_root(roots: &mut Vec<(IVec, Pid)>, name: &[u8])
-    requires { is_sorted key_cmp roots.old.items ≡ true }
-    ensures { roots.new.items ≡ without name.now roots.old.items }
-{
-    match place_of(roots.as_slice(), name) {
-        Ok(i) => {
-            let (own, _) = roots.remove(i);
-            drop(own);
-        }
-        Err(_) => {}
-    }
-}
 
 // Makes another the root of a name, or takes the name out.
 #[tactic(auto, unfolding(sled_nodes::specs::Order::key_cmp))]
@@ -54,7 +28,7 @@ pub fn set_root(roots: &mut Vec<(IVec, Pid)>, name: IVec, root: Option<Pid>) -> 
     match root {
         Some(pid) => put_pair(roots, name, pid, true),
         None => {
-            take_root(roots, name.as_ref());
+            remove_key(roots, &name);
             Ok(())
         }
     }
