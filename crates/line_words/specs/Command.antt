@@ -71,13 +71,10 @@ abbrev pub insert_of : Option (List ℕ × List ℕ) → Option Call
 insert_of (Some words) = inserts (read_word words.0) (read_word words.1)
 insert_of None = None
 
-abbrev pub get_of : Option (List ℕ) → Option Call
-get_of (Some word) = option_map (λ key. call.Get key) (read_word word)
-get_of None = None
-
-abbrev pub remove_of : Option (List ℕ) → Option Call
-remove_of (Some word) = option_map (λ key. call.Remove key) (read_word word)
-remove_of None = None
+-- what is made of the key, or the name, that is the only word
+abbrev pub keyed : {A : Type 0} → (Key → A) → Option (List ℕ) → Option A
+keyed make (Some word) = option_map make (read_word word)
+keyed make None = None
 
 -- a swap at a key, if there are all three; the values may be none
 abbrev pub swaps : Option Key → Option (Option Key) → Option (Option Key) → Option Call
@@ -91,8 +88,8 @@ swap_of None = None
 -- the call of a name and its arguments
 abbrev pub call_of : Option Name → List (List ℕ) → Option Call
 call_of (Some name.Insert) arguments = insert_of (two_of arguments)
-call_of (Some name.Get) arguments = get_of (one_of arguments)
-call_of (Some name.Remove) arguments = remove_of (one_of arguments)
+call_of (Some name.Get) arguments = keyed (λ key. call.Get key) (one_of arguments)
+call_of (Some name.Remove) arguments = keyed (λ key. call.Remove key) (one_of arguments)
 call_of (Some name.Cas) arguments = swap_of (three_of arguments)
 call_of name arguments = None
 
@@ -118,11 +115,6 @@ abbrev pub alone : Command → List (List ℕ) → Option Command
 alone command [] = Some command
 alone command (word ∷ words) = None
 
--- the command that opens the tree of a name
-abbrev pub opens : Option (List ℕ) → Option Command
-opens (Some word) = option_map (λ name. OpenTree name) (read_word word)
-opens None = None
-
 -- the command that makes these writes together
 abbrev pub batched : Option Writes → Option Command
 batched writes = option_map (λ w. Batch w) writes
@@ -142,7 +134,7 @@ command_from (Some name.Batch) arguments = batched (batch_of arguments)
 command_from (Some name.Flush) arguments = alone Flush arguments
 command_from (Some name.Crash) arguments = numbered (λ n. Crash n) (one_of arguments)
 command_from (Some name.Dump) arguments = alone Dump arguments
-command_from (Some name.Tree) arguments = opens (one_of arguments)
+command_from (Some name.Tree) arguments = keyed (λ name. OpenTree name) (one_of arguments)
 
 -- the command of some words
 abbrev pub command_of_words : List (List ℕ) → Option Command

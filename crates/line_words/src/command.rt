@@ -2,8 +2,10 @@
 ghost use Rattle.std.specs.Prelude.{◌≡◌, Some, IfOk, IfErr, option_map};
 ghost use Rattle.std.specs.Option.{option_and_then};
 ghost use Rattle.sled_nodes.specs.declared.error.Error.TheVariants.{NoMemory};
+ghost use Rattle.sled_model.specs.declared.call.Call.TheVariants as call;
+ghost use Rattle.line_words.specs.declared.command.Command.TheVariants.{OpenTree};
 ghost use Rattle.line_words.specs.Words.{words_after, read_number};
-ghost use Rattle.line_words.specs.Command.{call_name_of, flight_name_of, other_name_of, name_of, one_of, two_of, three_of, insert_of, get_of, remove_of, swap_of, call_of, call_of_words, at_once, in_slot, opens, alone, command_from, command_of};
+ghost use Rattle.line_words.specs.Command.{call_name_of, flight_name_of, other_name_of, name_of, one_of, two_of, three_of, insert_of, keyed, swap_of, call_of, call_of_words, at_once, in_slot, alone, command_from, command_of};
 
 use crate::batch::read_batch;
 use crate::words::{first_word, read_number, read_value, read_word};
@@ -177,7 +179,7 @@ fn insert_of(alloc: Global, arguments: Option<&[u8]>) -> Result<Option<Call>>
 
 // The get of a key.
 fn get_of(alloc: Global, arguments: Option<&[u8]>) -> Result<Option<Call>>
-    ensures ok { IfOk result (λ call. call ≡ get_of (one_of (words_after arguments.entry))) }
+    ensures ok { IfOk result (λ made. made ≡ keyed (λ key. call.Get key) (one_of (words_after arguments.entry))) }
     ensures err { IfErr result (λ e. e ≡ NoMemory) }
 {
     let Some(key) = one_of(arguments) else {
@@ -191,7 +193,7 @@ fn get_of(alloc: Global, arguments: Option<&[u8]>) -> Result<Option<Call>>
 
 // The removal of a key.
 fn remove_of(alloc: Global, arguments: Option<&[u8]>) -> Result<Option<Call>>
-    ensures ok { IfOk result (λ call. call ≡ remove_of (one_of (words_after arguments.entry))) }
+    ensures ok { IfOk result (λ made. made ≡ keyed (λ key. call.Remove key) (one_of (words_after arguments.entry))) }
     ensures err { IfErr result (λ e. e ≡ NoMemory) }
 {
     let Some(key) = one_of(arguments) else {
@@ -259,7 +261,7 @@ fn begin_of(alloc: Global, words: Option<&[u8]>) -> Result<Option<Command>>
 
 // The command that opens the tree of a name.
 fn tree_of(alloc: Global, arguments: Option<&[u8]>) -> Result<Option<Command>>
-    ensures ok { IfOk result (λ command. command ≡ opens (one_of (words_after arguments.entry))) }
+    ensures ok { IfOk result (λ command. command ≡ keyed (λ name. OpenTree name) (one_of (words_after arguments.entry))) }
     ensures err { IfErr result (λ e. e ≡ NoMemory) }
 {
     let Some(name) = one_of(arguments) else {

@@ -110,7 +110,8 @@ pub fn push_numbered(out: &mut Vec<u8>, name: &[u8], number: u64) -> Result<()>
     push_text(out, b"\n")
 }
 
-// Adds a line that is a name and the word of a byte string.
+// Adds a line that is a name and the word of a byte string. It has a frame of its own, since most lines are of a value or of none.
+#[inline(never)]
 fn push_named(out: &mut Vec<u8>, name: &[u8], bytes: &[u8]) -> Result<()>
     ensures ok { OnOk result (out.new.items ≡ out.old.items ++ (name.now ++ printed bytes.now ++ end)) }
     ensures err { IfErr result (λ e. e ≡ NoMemory) }
@@ -120,7 +121,8 @@ fn push_named(out: &mut Vec<u8>, name: &[u8], bytes: &[u8]) -> Result<()>
     push_text(out, b"\n")
 }
 
-// Adds a line that is a name and the words of a key and its value.
+// Adds a line that is a name and the words of a key and its value. It has a frame of its own for the same reason.
+#[inline(never)]
 fn push_entry(out: &mut Vec<u8>, name: &[u8], key: &[u8], value: &[u8]) -> Result<()>
     ensures ok { OnOk result (out.new.items ≡ out.old.items ++ (name.now ++ printed key.now ++ codes " " ++ printed value.now ++ end)) }
     ensures err { IfErr result (λ e. e ≡ NoMemory) }

@@ -2,10 +2,10 @@
 
 use crate::how::takes_bytes;
 use crate::image::check_page;
-use crate::look::read_bound;
+use crate::look::{lend, read_bound};
 use crate::operators::operator_of;
 use crate::script::{Reach, check_script};
-use crate::words::{NO_BYTES, NO_NUMBER, is_semicolon, quote, words_of};
+use crate::words::{NO_BYTES, NO_NUMBER, find, is_semicolon, quote, was_read, words_of};
 use line_words::print::Piece::Text;
 use line_words::print::{push_pieces, push_text};
 use line_words::words::{read_number, read_value, read_word};
@@ -72,9 +72,8 @@ impl Arguments {
     /// The bound in this place.
     pub fn bound(&self, place: usize) -> Bound<&[u8]> {
         match self.bounds.get(place) {
-            Some(Bound::Included(key)) => Bound::Included(key.as_ref()),
-            Some(Bound::Excluded(key)) => Bound::Excluded(key.as_ref()),
-            _ => Bound::Unbounded,
+            Some(bound) => lend(bound),
+            None => Bound::Unbounded,
         }
     }
 
@@ -131,13 +130,11 @@ impl Arguments {
         if word.starts_with(b"[") || word.starts_with(b"(") {
             return Ok(NO_BOUND);
         }
-        match read_word(self.alloc, word)? {
-            Some(key) => {
-                drop(key);
-                Ok(NO_BRACKET)
-            }
-            None => Ok(NO_BOUND),
-        }
+        Ok(if was_read(read_word(self.alloc, word)?) {
+            NO_BRACKET
+        } else {
+            NO_BOUND
+        })
     }
 
     // Reads a word by what the command takes in its place.
@@ -359,12 +356,7 @@ static KINDS: [(&str, Kind); 15] = [
 
 // What the word stands for in this place of a command.
 fn kind_of(place: &[u8]) -> Kind {
-    for (name, kind) in KINDS.iter() {
-        if name.as_bytes() == place {
-            return *kind;
-        }
-    }
-    Kind::Number
+    find(&KINDS, place).unwrap_or(Kind::Number)
 }
 
 // Whether what is made of a value has bytes if it takes some, and has none if not.

@@ -1,6 +1,7 @@
 //! What lines make of a value that they read.
 
 use crate::operators::{bytes_of, joined, number_of};
+use crate::words::find;
 use std::alloc::{AllocError, Global};
 
 /// What is made of a value.
@@ -27,12 +28,7 @@ static HOWS: [(&str, How); 5] = [
 
 /// What is made of a value, by its name.
 pub fn how_of(name: &[u8]) -> Option<How> {
-    for (own, how) in HOWS.iter() {
-        if own.as_bytes() == name {
-            return Some(*how);
-        }
-    }
-    None
+    find(&HOWS, name)
 }
 
 /// Whether what is made of a value takes bytes, if there is something of this name.

@@ -1,7 +1,7 @@
 //! The pages of an image, as the words of lines spell them.
 
 use crate::tell::{Result, bytes_of};
-use crate::words::{NO_BYTES, NO_NUMBER, quote};
+use crate::words::{NO_BYTES, NO_NUMBER, quote, was_read};
 use line_words::input::Stopped;
 use line_words::print::push_text;
 use line_words::words::{read_number, read_word};
@@ -77,12 +77,7 @@ fn fits(alloc: Global, place: Place, word: &[u8]) -> sled_nodes::Result<bool> {
         Place::Number => Ok(read_number(word).is_some()),
         Place::PageOrNone => Ok(word == b"-".as_slice() || read_number(word).is_some()),
         Place::State => Ok(word == b"open".as_slice() || word == b"merging".as_slice()),
-        Place::Bytes => {
-            let bytes = read_word(alloc, word)?;
-            let is_there = bytes.is_some();
-            drop(bytes);
-            Ok(is_there)
-        }
+        Place::Bytes => Ok(was_read(read_word(alloc, word)?)),
     }
 }
 

@@ -1,5 +1,6 @@
 //! Reads that take no slot, by the words that ask for them.
 
+use crate::words::{find, was_read};
 use line_words::words::{first_word, read_word};
 use sled_nodes::IVec;
 use std::alloc::Global;
@@ -59,12 +60,7 @@ const LOOKS: [(&str, Look); 18] = [
 
 /// The read of a word, if it is one.
 pub fn look_of(name: &[u8]) -> Option<Look> {
-    for (own, look) in &LOOKS {
-        if own.as_bytes() == name {
-            return Some(*look);
-        }
-    }
-    None
+    find(&LOOKS, name)
 }
 
 /// The bound that a word is, if it is one.
@@ -77,20 +73,18 @@ pub fn read_bound(alloc: Global, word: &[u8]) -> Answer<Option<Bound<IVec>>> {
     }
 }
 
-// Whether a word is a bound.
-fn is_bound(alloc: Global, word: &[u8]) -> Answer<bool> {
-    let bound = read_bound(alloc, word)?;
-    let is = bound.is_some();
-    drop(bound);
-    Ok(is)
+/// A bound, lent.
+pub fn lend(bound: &Bound<IVec>) -> Bound<&[u8]> {
+    match bound {
+        Bound::Included(key) => Bound::Included(key.as_ref()),
+        Bound::Excluded(key) => Bound::Excluded(key.as_ref()),
+        Bound::Unbounded => Bound::Unbounded,
+    }
 }
 
-// Whether a word is a byte string.
-fn is_key(alloc: Global, word: &[u8]) -> Answer<bool> {
-    let key = read_word(alloc, word)?;
-    let is = key.is_some();
-    drop(key);
-    Ok(is)
+// Whether a word is a bound.
+fn is_bound(alloc: Global, word: &[u8]) -> Answer<bool> {
+    Ok(was_read(read_bound(alloc, word)?))
 }
 
 /// Whether a read takes these words, which stand behind its own.
@@ -104,6 +98,6 @@ pub fn is_read(alloc: Global, look: Look, words: Option<&[u8]>) -> Answer<bool> 
             (lo, Some(hi)) => Ok(is_bound(alloc, lo)? && is_bound(alloc, hi)?),
             (_, None) => Ok(false),
         },
-        (_, Some(word)) => is_key(alloc, word),
+        (_, Some(word)) => Ok(was_read(read_word(alloc, word)?)),
     }
 }

@@ -1,7 +1,7 @@
 //! Trees, by the words that name them.
 
 use crate::tell::{Result, answered, bytes_of};
-use crate::words::{NO_BYTES, quote};
+use crate::words::{NO_BYTES, quote, was_read};
 use line_words::print::Piece::Text;
 use line_words::print::push_pieces;
 use line_words::words::read_value;
@@ -81,10 +81,7 @@ pub fn trees_of<N: TreeNames>(
 /// Adds why words can name no trees, if one of them is no byte string.
 pub fn check_names(alloc: Global, words: &[&[u8]], why: &mut Vec<u8>) -> sled_nodes::Result<()> {
     for word in words {
-        let name = read_value(alloc, *word)?;
-        let is_name = name.is_some();
-        drop(name);
-        if !is_name {
+        if !was_read(read_value(alloc, *word)?) {
             return quote(why, *word, NO_BYTES);
         }
     }

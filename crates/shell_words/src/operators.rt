@@ -4,6 +4,7 @@ ghost use Rattle.std.specs.Int.{w64, to_be_bytes};
 ghost use Rattle.std.specs.Option.{option_copied};
 ghost use Rattle.shell_words.specs.Operators.{number_of, bytes_or_none, greater, kept};
 
+use crate::words::find;
 use sled_model::MergeOperator;
 use std::alloc::{AllocError, Global};
 
@@ -39,12 +40,7 @@ static OPERATORS: [(&str, Operator); 7] = [
 
 /// The operator of a name.
 pub fn operator_of(name: &[u8]) -> Option<Operator> {
-    for (own, operator) in OPERATORS.iter() {
-        if own.as_bytes() == name {
-            return Some(*operator);
-        }
-    }
-    None
+    find(&OPERATORS, name)
 }
 
 /// The bytes of a value, where none is the empty string.

@@ -1,7 +1,7 @@
 //! What a transaction does, as the words of a line spell it: parts, a `;` behind each of them, and then how it ends.
 
 use crate::names::check_names;
-use crate::words::{NO_BYTES, NO_NUMBER, is_semicolon, quote};
+use crate::words::{NO_BYTES, NO_NUMBER, find, is_semicolon, quote};
 use line_words::print::push_text;
 use line_words::words::{read_number, read_word};
 use sled_batch::Batch;
@@ -42,13 +42,13 @@ enum Verb {
     Id,
 }
 
-const VERBS: [(&[u8], Verb); 6] = [
-    (b"get", Verb::Get),
-    (b"insert", Verb::Insert),
-    (b"remove", Verb::Remove),
-    (b"batch", Verb::Batch),
-    (b"flush", Verb::Flush),
-    (b"id", Verb::Id),
+const VERBS: [(&str, Verb); 6] = [
+    ("get", Verb::Get),
+    ("insert", Verb::Insert),
+    ("remove", Verb::Remove),
+    ("batch", Verb::Batch),
+    ("flush", Verb::Flush),
+    ("id", Verb::Id),
 ];
 
 impl Verb {
@@ -94,11 +94,11 @@ pub enum End {
 }
 
 // The number of the last one stands behind its word.
-const ENDS: [(&[u8], End); 4] = [
-    (b"commit", End::Commit),
-    (b"abort", End::Abort),
-    (b"conflict", End::Conflict),
-    (b"conflict-below", End::ConflictBelow(0)),
+const ENDS: [(&str, End); 4] = [
+    ("commit", End::Commit),
+    ("abort", End::Abort),
+    ("conflict", End::Conflict),
+    ("conflict-below", End::ConflictBelow(0)),
 ];
 
 /// What a transaction does.
@@ -133,16 +133,6 @@ impl From<AllocFailed<Part>> for Misfit<'_> {
         drop(failed);
         Misfit::NoMemory
     }
-}
-
-// What a word stands for by a table.
-fn find<T: Copy>(table: &[(&[u8], T)], word: &[u8]) -> Option<T> {
-    for (name, meant) in table {
-        if word == *name {
-            return Some(*meant);
-        }
-    }
-    None
 }
 
 // What a part of this name does.

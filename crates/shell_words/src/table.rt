@@ -299,60 +299,22 @@ struct Group {
     commands: &'static [Command],
 }
 
+#[rattlefmt::skip]
 fn group_at(place: usize) -> Group {
     match place {
-        0 => Group {
-            title: "A key of the current tree",
-            commands: key_commands(),
-        },
-        1 => Group {
-            title: "Calls in flight, step by step",
-            commands: flight_commands(),
-        },
-        2 => Group {
-            title: "Reads that repair nothing",
-            commands: read_commands(),
-        },
-        3 => Group {
-            title: "Pairs in order",
-            commands: pair_commands(),
-        },
-        4 => Group {
-            title: "Many pairs by one call",
-            commands: many_commands(),
-        },
-        5 => Group {
-            title: "Trees by name, and ids",
-            commands: tree_commands(),
-        },
-        6 => Group {
-            title: "Subscribers",
-            commands: subscriber_commands(),
-        },
-        7 => Group {
-            title: "The store",
-            commands: store_commands(),
-        },
-        8 => Group {
-            title: "Looking, help and the end",
-            commands: help_commands(),
-        },
-        9 => Group {
-            title: "",
-            commands: owned_key_commands(),
-        },
-        10 => Group {
-            title: "",
-            commands: owned_other_commands(),
-        },
-        11 => Group {
-            title: "",
-            commands: fault_commands(),
-        },
-        _ => Group {
-            title: "",
-            commands: image_commands(),
-        },
+        0 => Group { title: "A key of the current tree", commands: key_commands() },
+        1 => Group { title: "Calls in flight, step by step", commands: flight_commands() },
+        2 => Group { title: "Reads that repair nothing", commands: read_commands() },
+        3 => Group { title: "Pairs in order", commands: pair_commands() },
+        4 => Group { title: "Many pairs by one call", commands: many_commands() },
+        5 => Group { title: "Trees by name, and ids", commands: tree_commands() },
+        6 => Group { title: "Subscribers", commands: subscriber_commands() },
+        7 => Group { title: "The store", commands: store_commands() },
+        8 => Group { title: "Looking, help and the end", commands: help_commands() },
+        9 => Group { title: "", commands: owned_key_commands() },
+        10 => Group { title: "", commands: owned_other_commands() },
+        11 => Group { title: "", commands: fault_commands() },
+        _ => Group { title: "", commands: image_commands() },
     }
 }
 

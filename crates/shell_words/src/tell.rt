@@ -123,8 +123,5 @@ pub fn tell_turns(out: &mut Told, turns: Option<u64>) -> Result<()> {
 
 /// The byte string of a word.
 pub fn bytes_of(alloc: Global, word: &[u8]) -> Result<IVec> {
-    match answered(read_word(alloc, word))? {
-        Some(bytes) => Ok(bytes),
-        None => Err(Stopped),
-    }
+    answered(read_word(alloc, word))?.ok_or(Stopped)
 }

@@ -12,6 +12,23 @@ pub const NO_NUMBER: &str = "is no number: decimal digits without leading zeros"
 pub const NO_BYTES: &str =
     "is no byte string: `!` to `~` but for `%` stand for themselves, any other byte and a `-` alone as % and two lower-case hexadecimal digits";
 
+/// What a name stands for by a table.
+pub fn find<T: Copy>(table: &[(&str, T)], name: &[u8]) -> Option<T> {
+    for (own, meant) in table {
+        if own.as_bytes() == name {
+            return Some(*meant);
+        }
+    }
+    None
+}
+
+/// Whether a word could be read as what it was taken for, which is let go.
+pub fn was_read<T: Drop>(read: Option<T>) -> bool {
+    let is = read.is_some();
+    drop(read);
+    is
+}
+
 /// The words of a text; none where there is no text.
 pub fn words_of<'a>(alloc: Global, text: Option<&'a [u8]>) -> Result<Vec<&'a [u8]>> {
     let mut words = Vec::new(alloc);
