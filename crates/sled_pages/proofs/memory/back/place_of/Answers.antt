@@ -6,14 +6,9 @@ use Rattle.sled_nodes.specs.Order.{key_cmp}
 use Rattle.sled_nodes.proofs.Rising.{searched}
 use Rattle.sled_pages.proofs.memory.back.place_of.Goals as goal
 
-pub returns-clause-ok : goal.returns-clause-ok
+pub returns : goal.returns
 unfolding key_cmp
-returns-clause-ok c =
+returns c =
     let found = c.binary_search_by.ensures.position (λ e. slice_cmp nat_cmp e.0 c.args.name.now) (always_returns_same _ _ _ (λ a r f k. search (rules, of_calls))) in
-    (searched (slice_cmp nat_cmp) nat_list_cmp_total c.args.name.now c.args.roots.now c.requires c.binary_search_by.result c.binary_search_by.ensures.bound found).ok
-
-pub returns-clause-err : goal.returns-clause-err
-unfolding key_cmp
-returns-clause-err c =
-    let found = c.binary_search_by.ensures.position (λ e. slice_cmp nat_cmp e.0 c.args.name.now) (always_returns_same _ _ _ (λ a r f k. search (rules, of_calls))) in
-    (searched (slice_cmp nat_cmp) nat_list_cmp_total c.args.name.now c.args.roots.now c.requires c.binary_search_by.result c.binary_search_by.ensures.bound found).err
+    let at = searched (slice_cmp nat_cmp) nat_list_cmp_total c.args.name.now c.args.roots.now c.requires c.binary_search_by.result c.binary_search_by.ensures.bound found in
+    record { ok = at.ok; err = at.err }
