@@ -53,11 +53,11 @@ const SECOND_AGAIN: [Turn<'static>; 2] = [
 const WANTED: Wanted<'static> = Wanted::Calls(1, &[(2, Told::Value(10))]);
 
 // A removal that is handed over after each number of steps, by what each thread does. It is the second caller's alone.
-fn hand_over<R: Threads + Wait + Abort + Sync>(
+fn hand_over<'a, R: Threads + Wait + Abort + Sync>(
     rt: &R,
     alloc: Global,
-    first: &[Turn<'_>],
-    second: &[Turn<'_>],
+    first: &'a [Turn<'a>],
+    second: &'a [Turn<'a>],
 ) {
     let trial = Trial {
         start: TWO_LEAVES,

@@ -1,5 +1,6 @@
 -- What the tests of a store in memory tell.
 use Rattle.std.proofs.Common.{◌≡◌, ℕ, List, Option, Some, None, Ok, refl, sym, ap, subst, ◌∙◌}
+use Rattle.sled_nodes.proofs.Basics.{none_some}
 use Rattle.std.specs.Option.{option_map}
 use Rattle.sled_store.specs.declared.page.Page.{Page}
 use Rattle.sled_pages.specs.declared.memory.MemPages.{MemPages}
@@ -35,10 +36,7 @@ page_is m pid o p e f = ap (option_map page_of) (sym f ∙ e) ∙ sym (pages_her
 
 -- a page of this version has a node
 page_at_version : (s : Store) (pid version : ℕ) (o : Option Page) → (now s).pages pid ≡ o → version_now s pid ≡ Some version → (page : Page) × (o ≡ Some page) × (page.version ≡ version)
-page_at_version s pid version None e h = absurd (none_some (sym (ap (option_map (λ (p : Page). p.version)) e) ∙ h))
-  where
-    none_some : None ≡ Some version → ⊥
-    none_some k = cc
+page_at_version s pid version None e h = none_some (sym (ap (option_map (λ (p : Page). p.version)) e) ∙ h)
 page_at_version s pid version (Some page) e h = (page, refl, some_same (sym (ap (option_map (λ (p : Page). p.version)) e) ∙ h))
 
 -- a change that is made

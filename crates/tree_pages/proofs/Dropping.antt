@@ -9,7 +9,6 @@ use Rattle.sled_store.specs.State.{State, Nodes, nodes_of, RootBecomes, PageBeco
 use Rattle.sled_store.specs.Store.{Store, now, after_action, SwapsRoot}
 use Rattle.sled_store.specs.theory.Facts.{now_acted}
 use Rattle.sled_nodes.specs.declared.node.Node.{Node}
-use Rattle.sled_nodes.specs.declared.node.Data.TheVariants as kind
 use Rattle.sled_store.specs.declared.page.Page.{Page}
 use Rattle.tree_laws.specs.Forest.{Tree, Forest, Place, place, head, WellFormed, Run}
 use Rattle.tree_laws.specs.Contents.{first_of, page_numbers}
