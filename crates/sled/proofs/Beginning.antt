@@ -6,7 +6,7 @@ use Rattle.std.specs.declared.ops.Bound.TheVariants.{Included}
 use Rattle.sled_nodes.specs.Node.{value_at}
 use Rattle.sled_nodes.specs.Order.{Key, key_cmp}
 use Rattle.sled_nodes.specs.declared.error.Error.{Error}
-use Rattle.sled_nodes.specs.declared.error.Error.TheVariants.{CollectionNotFound, Unsupported, ReportableBug, Io, Corruption, NoMemory, Closed}
+use Rattle.sled_nodes.specs.declared.error.Error.TheVariants.{ReportableBug}
 use Rattle.sled_nodes.specs.declared.node.Node.{Node}
 use Rattle.sled_store.specs.In.{In}
 use Rattle.sled_store.specs.Store.{Store, now}
@@ -47,13 +47,8 @@ walk_unread : (of : ℕ → ℕ) (s : Store) (root : ℕ) (e : Error) → Refuse
 walk_unread of s root e r = go e r.is
   where
     go : (e : Error) → refuses_walk_as of s root e → unread s e
-    go NoMemory k = k
-    go (Io fault) k = k
     go (ReportableBug text) k = k.0
-    go (CollectionNotFound name) k = k
-    go (Unsupported text) k = k
-    go (Corruption fault) k = k
-    go Closed k = k
+    go other k = k
 
 -- the same of a database that is seen as this value
 module _ {P M : Type 0} (store : P → Store) (d seen : DbValue P M) (same : d ≡ seen) where

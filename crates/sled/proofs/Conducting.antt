@@ -10,7 +10,7 @@ use Rattle.sled_nodes.specs.declared.error.Error.{Error}
 use Rattle.sled_nodes.specs.declared.error.Error.TheVariants as error
 use Rattle.sled_model.specs.Maps.{Maps, Merge}
 use Rattle.sled_model.specs.State.{State, CallInFlight, IsOnKey, maps_of}
-use Rattle.sled_model.specs.Refusal.{MustRefuse, IsClosed, IsForeign, IsDropped, HasNoOperator, ToStep, ToPoint, must_refuse, must_refuse_of, needs_operator, MayRefuse, TellsTurns, cause_of, may_refuse_as, turns_limit}
+use Rattle.sled_model.specs.Refusal.{MustRefuse, ToStep, ToPoint, must_refuse, must_refuse_of, needs_operator, MayRefuse, cause_of, may_refuse_as, turns_limit}
 use Rattle.sled_model.specs.Transition.{Decide, RefuseStep}
 use Rattle.sled_model.specs.Whole.{DecidesPoint, RefusesPoint}
 use Rattle.sled_model.specs.declared.call.Call.{Call}
@@ -36,16 +36,15 @@ use Rattle.tree_groups.proofs.Writing.{often_then, often_once, number_given}
 use Rattle.sled.specs.Flights.{call_in_flight_of, maps_added, KeepsTreePages, effect_of_step, IsStepRefused, DbStepContract, DbSteps, Ends, GoesOn, DbRunsToEnd}
 use Rattle.sled.specs.Direct.{effects_until, StaysInChainOrWent, KeepsOrFreesTreePages, Conducts, begun_flight, PointDecided, PointRefused, LeavesAll}
 use Rattle.sled.proofs.Operating.{fails_first, passes_plain}
+use Rattle.sled.proofs.Testing.{untold_fault, untold_turns}
 use Rattle.sled.proofs.Flying.{loses_nothing, quiet_untold, everywhere, moved_state}
 
 -- ---- the store's actions
 
 -- what a step of a call was refused for
 abbrev error_of : Went → Option Error
-error_of Moved = None
-error_of (Yielded key value) = None
-error_of (Decided reply) = None
 error_of (Refused e) = Some e
+error_of other = None
 
 pub acts_then : (r : Option Error) (a b c : Store) → ActsOften a b → effects_until r b c → effects_until r a c
 acts_then None a b c first rest = often_then first rest
@@ -115,11 +114,7 @@ cause_alike : (s : State) (a m b : Store) (tree : Tree) (call : Call) (e : Error
 cause_alike s a m b tree call error.NoMemory r t = tt
 cause_alike s a m b tree call (error.Io fault) r (inl more) = inl (subst (λ n. n < b.faults) r.faults more)
 cause_alike s a m b tree call (error.Io fault) r (inr (pid, off)) = inr (pid, subst (λ (f : ℕ → Bool). f pid ≡ false) r.readable off)
-cause_alike s a m b tree call (error.CollectionNotFound name) r t = t
-cause_alike s a m b tree call (error.Unsupported text) r t = t
-cause_alike s a m b tree call (error.ReportableBug text) r t = t
-cause_alike s a m b tree call (error.Corruption fault) r t = t
-cause_alike s a m b tree call error.Closed r t = t
+cause_alike s a m b tree call other r t = t
 
 pub may_alike : (s : State) (a m b : Store) (tree : Tree) (call : Call) (e : Error) → ReadsAlike a m → MayRefuse s m b (ToPoint tree call) e → MayRefuse s a b (ToPoint tree call) e
 may_alike s a m b tree call e r may = record { is = go (must_refuse s (ToPoint tree call)) may.is }
@@ -132,12 +127,8 @@ may_alike s a m b tree call e r may = record { is = go (must_refuse s (ToPoint t
 module _ {P M : Type 0} (store : P → Store) (meant : M → Merge) (old : DbValue P M) (slots : ℕ → Option CallInFlight) (f : CallInFlight) (a b : Store) where
   cause_at : (e : Error) → cause_of (state_of store meant old slots 0) a b (ToStep f) e → cause_of (db_state store meant old) a b (ToPoint f.tree f.call) e
   cause_at error.NoMemory t = tt
-  cause_at (error.Io fault) t = t
-  cause_at (error.CollectionNotFound name) t = t
-  cause_at (error.Unsupported text) t = t
   cause_at (error.ReportableBug text) t = t.0
-  cause_at (error.Corruption fault) t = t
-  cause_at error.Closed t = t
+  cause_at other t = t
 
   may_at : (e : Error) → MayRefuse (state_of store meant old slots 0) a b (ToStep f) e → MayRefuse (db_state store meant old) a b (ToPoint f.tree f.call) e
   may_at e may = record { is = go (must_refuse (db_state store meant old) (ToPoint f.tree f.call)) may.is }
@@ -282,35 +273,6 @@ module _ {P M : Type 0} (store : P → Store) (meant : M → Merge) where
       point_refused e on_key went out flies = begun_refused e on_key (subst (λ z. DbRunsToEnd store meant old z (Refused e) new g) begun (subst (λ z. DbRunsToEnd store meant old f z new g) out flies))
 
 -- ---- a call that is refused before its first step
-
--- no test tells that turns are used up, or a fault
-untold_turns : (o : Option MustRefuse) (e : Error) → must_be_refused_as o e → TellsTurns e → ⊥
-untold_turns o (error.ReportableBug text) t tells = go o t
-  where
-    go : (o : Option MustRefuse) → must_be_refused_as o (error.ReportableBug text) → ⊥
-    go None t = t
-    go (Some IsClosed) t = cc
-    go (Some IsForeign) t = t
-    go (Some (IsDropped name)) (inl t) = cc
-    go (Some (IsDropped name)) (inr t) = cc
-    go (Some HasNoOperator) t = t
-untold_turns o error.NoMemory t tells = tells
-untold_turns o (error.Io fault) t tells = tells
-untold_turns o (error.CollectionNotFound name) t tells = tells
-untold_turns o (error.Unsupported text) t tells = tells
-untold_turns o (error.Corruption fault) t tells = tells
-untold_turns o error.Closed t tells = tells
-
-pub untold_fault : (o : Option MustRefuse) (e : Error) → must_be_refused_as o e → (fault : Rattle.sled_nodes.specs.declared.error.Fault.Fault) → e ≡ error.Io fault → ⊥
-untold_fault o e t fault is = go o (subst (must_be_refused_as o) is t)
-  where
-    go : (o : Option MustRefuse) → must_be_refused_as o (error.Io fault) → ⊥
-    go None t = t
-    go (Some IsClosed) t = cc
-    go (Some IsForeign) t = t
-    go (Some (IsDropped name)) (inl t) = cc
-    go (Some (IsDropped name)) (inr t) = cc
-    go (Some HasNoOperator) t = t
 
 module _ {P M : Type 0} (store : P → Store) (meant : M → Merge) (old : DbValue P M) (tree : Tree) (call : Call) (e : Error) where
   must_some : (o : Option MustRefuse) → must_be_refused_as o e → o ≢ None

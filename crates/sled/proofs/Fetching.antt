@@ -27,7 +27,7 @@ use Rattle.sled.specs.Direct.{PointDecided, PointRefused}
 use Rattle.sled.specs.theory.Direct.{IsSwap}
 use Rattle.sled.specs.Fetch.{Closure, Answers, Stands, FetchRefused}
 use Rattle.sled.proofs.Conducting.{conducts_none, conducts_refused, plain_short}
-use Rattle.sled.proofs.Popping.{min_unread}
+use Rattle.sled.proofs.Popping.{min_is, pop_unread}
 
 same_itself : (value : Option Key) → same_value value value ≡ true
 same_itself None = refl
@@ -69,7 +69,7 @@ module _ {P M F : Type 0} (store : P → Store) (meant : M → Merge) (closure :
   unread e refuses gives_up = record {
     why = inl (record { refuses = refuses; gives_up = gives_up; is = refl });
     same = refl;
-    conducts = let none = conducts_none store meant old in record { acts = (min_unread store meant old tree e refuses).acts; leaves = none.leaves; same = none.same };
+    conducts = let none = conducts_none store meant old in record { acts = (pop_unread store meant old tree (min_is tree) once e refuses).acts; leaves = none.leaves; same = none.same };
   }
 
   module _ (stood : Option Key) (stands : Stands store meant old tree key stood) where

@@ -28,11 +28,7 @@ use Rattle.sled.proofs.Resting.{SameNow, flushed_now, rests_only_faults, rests_n
 pub only : (e : Error) (a b : Store) → is_refused_as e a b → only_faults e a b
 only error.NoMemory a b t = t
 only (error.Io fault) a b t = t
-only (error.CollectionNotFound name) a b t = absurd t
-only (error.Unsupported text) a b t = absurd t
-only (error.ReportableBug text) a b t = absurd t
-only (error.Corruption fault) a b t = absurd t
-only error.Closed a b t = absurd t
+only other a b t = absurd t
 
 module _ {P M : Type 0} (store : P → Store) (meant : M → Merge) (old : DbValue P M) where
   -- over pages that show the same now the state is the same, and so is what calls in flight know
@@ -104,11 +100,7 @@ module _ {P M : Type 0} (store : P → Store) (meant : M → Merge) (old : DbVal
     where
       more : (store q).faults ≡ (store old.pages).faults + 1 → (store old.pages).faults < (store q).faults
       more e = omega arith
-  cause slots given q (error.CollectionNotFound name) t = absurd t
-  cause slots given q (error.Unsupported text) t = absurd t
-  cause slots given q (error.ReportableBug text) t = absurd t
-  cause slots given q (error.Corruption fault) t = absurd t
-  cause slots given q error.Closed t = absurd t
+  cause slots given q other t = absurd t
 
   pub flush_refused : (q : P) (e : Error) → (now (store old.pages)).in_group ≡ false → IsRefused e (store old.pages) (store q) → RefusesFlush store meant old (record old { pages = q }) e
   flush_refused q e no_group r = record {

@@ -20,7 +20,7 @@ use Rattle.sled_store.specs.declared.page.View.{View}
 use Rattle.sled_model.specs.Answer.{Answer, answer_of, decision_of, event_of, key_of}
 use Rattle.sled_model.specs.Scan.{Reads, is_read}
 use Rattle.sled_model.specs.State.{State, NamedTree, CallInFlight, range_of, IsOnKey, maps_of, queues_after, after_decision}
-use Rattle.sled_model.specs.Refusal.{MustRefuse, IsClosed, IsForeign, IsDropped, HasNoOperator, must_refuse, MayRefuse, ToStep, ToPoint, TellsTurns, cause_of, may_refuse_as, turns_limit}
+use Rattle.sled_model.specs.Refusal.{MustRefuse, must_refuse, MayRefuse, ToStep, ToPoint, TellsTurns, cause_of, may_refuse_as, turns_limit}
 use Rattle.sled_model.specs.declared.event.Event.{Event}
 use Rattle.sled_model.specs.declared.reply.Reply.{Reply}
 use Rattle.sled_queues.specs.Values.{QueuesValue, queue_at}
@@ -67,7 +67,7 @@ use Rattle.sled.specs.Flights.{call_in_flight_of, follows_as, has_path, DbFollow
 use Rattle.tree_steps.specs.theory.Watched.{told, told_by, AdvancesOver}
 use Rattle.tree_steps.proofs.Watching.{same_queues}
 use Rattle.sled.proofs.Resting.{Rests, rests_refused, now_rests, rests_extends, rests_left}
-use Rattle.sled.proofs.Testing.{tree_tested, tested_calm}
+use Rattle.sled.proofs.Testing.{tree_tested, tested_calm, untold_fault, untold_turns}
 use Rattle.sled.proofs.Trees.{trees_at, trees_same, trees_put, maps_are, current, numbered}
 
 -- a call on a key has no pairs that wait, and nothing to read
@@ -114,21 +114,12 @@ touches_acting a b (inr o) = record { mark = ap (λ (s : Store). s.mark) o.is; n
 pub refuses_quietly : (e : Error) (a b : Store) → is_action_refused_as e a b → IsStepRefused e a b
 refuses_quietly error.NoMemory a b t = t
 refuses_quietly (error.Io fault) a b t = t
-refuses_quietly (error.CollectionNotFound name) a b t = absurd t
-refuses_quietly (error.Unsupported text) a b t = absurd t
-refuses_quietly (error.ReportableBug text) a b t = absurd t
-refuses_quietly (error.Corruption fault) a b t = absurd t
-refuses_quietly error.Closed a b t = absurd t
+refuses_quietly other a b t = absurd t
 
 -- no test and no limit tells `Io`
 pub quiet_untold : (e : Error) (a : Store) → ((fault : Fault) → e ≡ error.Io fault → ⊥) → IsStepRefused e a a
-quiet_untold error.NoMemory a off = refl
 quiet_untold (error.Io fault) a off = absurd (off fault refl)
-quiet_untold (error.CollectionNotFound name) a off = refl
-quiet_untold (error.Unsupported text) a off = refl
-quiet_untold (error.ReportableBug text) a off = refl
-quiet_untold (error.Corruption fault) a off = refl
-quiet_untold error.Closed a off = refl
+quiet_untold other a off = refl
 
 -- what an action adds to what a crash may leave
 once_adds : {a b : Store} (o : ActsOnce a b) → AddsAction o.action a b
@@ -150,11 +141,7 @@ cause_is s f (error.Io fault) a b (inl t) = inl (more (ap (λ (z : Store). z.fau
     more : b.faults ≡ a.faults + 1 → a.faults < b.faults
     more e = omega arith
 cause_is s f (error.Io fault) a b (inr (t, p)) = inr p
-cause_is s f (error.CollectionNotFound name) a b t = absurd t
-cause_is s f (error.Unsupported text) a b t = absurd t
-cause_is s f (error.ReportableBug text) a b t = absurd t
-cause_is s f (error.Corruption fault) a b t = absurd t
-cause_is s f error.Closed a b t = absurd t
+cause_is s f other a b t = absurd t
 
 -- a page that a change was linked to stood at the version that was read
 linked_page : (j : Course) (a b : Store) (view : View) (reply : Reply) → Follows j a (stage.Act view) (next.Decided reply) b → (node : Node) × ((now a).pages view.pid ≡ Some (record { version = view.version; node = node }))
@@ -205,19 +192,11 @@ module _ {P M : Type 0} (store : P → Store) (meant : M → Merge) (old : DbVal
 
   -- the tests refuse the call
   pub flies_untested : (f g : InFlight) (e : Error) → MustBeRefused (must_refuse (db_state store meant old) (ToStep (call_in_flight_of f))) e → DbStepContract store meant old f (Refused e) old g
-  flies_untested f g e tested = untouched f g e (λ fault io. untold fault (must_refuse (db_state store meant old) (ToStep (call_in_flight_of f))) (subst (λ z. must_be_refused_as (must_refuse (db_state store meant old) (ToStep (call_in_flight_of f))) z) io tested.is)) (λ none fits. absurd (subst (λ o. must_be_refused_as o e) none tested.is)) (λ none all. absurd (subst (λ o. must_be_refused_as o e) none tested.is)) (λ slots given. record { is = go slots given (must_refuse (db_state store meant old) (ToStep (call_in_flight_of f))) tested.is })
+  flies_untested f g e tested = untouched f g e (untold_fault (must_refuse (db_state store meant old) (ToStep (call_in_flight_of f))) e tested.is) (λ none fits. absurd (subst (λ o. must_be_refused_as o e) none tested.is)) (λ none all. absurd (subst (λ o. must_be_refused_as o e) none tested.is)) (λ slots given. record { is = go slots given (must_refuse (db_state store meant old) (ToStep (call_in_flight_of f))) tested.is })
     where
       go : (slots : ℕ → Option CallInFlight) (given : ℕ) (o : Option MustRefuse) → must_be_refused_as o e → may_refuse_as o (state_of store meant old slots given) (store old.pages) (store old.pages) (ToStep (call_in_flight_of f)) e
       go slots given None t = absurd t
       go slots given (Some m) t = t
-
-      untold : (fault : Fault) (o : Option MustRefuse) → must_be_refused_as o (error.Io fault) → ⊥
-      untold fault None t = t
-      untold fault (Some IsClosed) t = cc
-      untold fault (Some IsForeign) t = t
-      untold fault (Some (IsDropped name)) (inl t) = cc
-      untold fault (Some (IsDropped name)) (inr t) = cc
-      untold fault (Some HasNoOperator) t = t
 
   -- the tests let the call pass
   module _ (f : InFlight) (must : must_refuse (db_state store meant old) (ToStep (call_in_flight_of f)) ≡ None) where
@@ -647,41 +626,21 @@ module _ {P M : Type 0} (store : P → Store) (meant : M → Merge) (old new : D
 -- who has turns left is not refused for them
 module _ {P M : Type 0} (store : P → Store) (meant : M → Merge) (old new : DbValue P M) (f g : InFlight) where
   all_turns : (e : Error) → TellsTurns e → DbStepContract store meant old f (Refused e) new g → f.turns ≡ turns_limit
-  all_turns (error.ReportableBug text) tells flies =
+  all_turns e tells flies =
       let k = (flies.step.steps (everywhere f) 0 0 0 0 refl).is.0 in
-      ap (λ (z : CallInFlight). z.turns) (some_is k.here) ∙ go (state_of store meant old (everywhere f) 0) (store old.pages) (store new.pages) k.flying (must_refuse (state_of store meant old (everywhere f) 0) (ToStep k.flying)) k.may.is
+      ap (λ (z : CallInFlight). z.turns) (some_is k.here) ∙ go (state_of store meant old (everywhere f) 0) (store old.pages) (store new.pages) k.flying e (must_refuse (state_of store meant old (everywhere f) 0) (ToStep k.flying)) tells k.may.is
     where
-      go : (s : State) (x y : Store) (f : CallInFlight) (o : Option MustRefuse) → may_refuse_as o s x y (ToStep f) (error.ReportableBug text) → f.turns ≡ turns_limit
-      go s x y f None t = t.1
-      go s x y f (Some IsClosed) t = unlike t
-        where
-          unlike : {X : Type 0} → error.ReportableBug text ≡ error.Closed → X
-          unlike e = cc
-      go s x y f (Some IsForeign) t = absurd t
-      go s x y f (Some (IsDropped name)) (inl t) = unlike t
-        where
-          unlike : {X : Type 0} → error.ReportableBug text ≡ error.CollectionNotFound name → X
-          unlike e = cc
-      go s x y f (Some (IsDropped name)) (inr t) = unlike t
-        where
-          unlike : {X : Type 0} → error.ReportableBug text ≡ error.NoMemory → X
-          unlike e = cc
-      go s x y f (Some HasNoOperator) t = absurd t
-  all_turns error.NoMemory tells flies = absurd tells
-  all_turns (error.Io fault) tells flies = absurd tells
-  all_turns (error.CollectionNotFound name) tells flies = absurd tells
-  all_turns (error.Unsupported text) tells flies = absurd tells
-  all_turns (error.Corruption fault) tells flies = absurd tells
-  all_turns error.Closed tells flies = absurd tells
+      go : (s : State) (x y : Store) (f : CallInFlight) (e : Error) (o : Option MustRefuse) → TellsTurns e → may_refuse_as o s x y (ToStep f) e → f.turns ≡ turns_limit
+      go s x y f (error.ReportableBug text) None tells t = t.1
+      go s x y f e (Some must) tells t = absurd (untold_turns (Some must) e t tells)
+      go s x y f other None tells t = absurd tells
 
   ends_with_turns : (went : Went) → DbStepContract store meant old f went new g → f.turns < turns_limit → has_turns went
-  ends_with_turns Moved flies fits = tt
-  ends_with_turns (Yielded key value) flies fits = tt
-  ends_with_turns (Decided reply) flies fits = tt
   ends_with_turns (Refused e) flies fits = λ tells. below f.turns fits (all_turns e tells flies)
     where
       below : (n : ℕ) → n < turns_limit → n ≡ turns_limit → ⊥
       below n h e = omega arith
+  ends_with_turns other flies fits = tt
 
 -- over a clean path a call goes on at most once a page
 module _ {P M : Type 0} (store : P → Store) (meant : M → Merge) where

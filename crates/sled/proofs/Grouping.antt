@@ -42,10 +42,10 @@ use Rattle.sled.specs.Groups.{GroupDecided, GroupRefused, IsQuietGroup}
 use Rattle.sled.specs.theory.Groups.{jobs_of_writes, Finds, unread, events_of_jobs, MakesAll, StopsAll}
 use Rattle.sled.proofs.Grouped.{AreCurrent, tree_after, with_slots, writes_change, writes_beside, trees_written, events_written, no_events, jobs_numbered, tested_current, tested_open}
 use Rattle.sled.proofs.Resting.{Rests, rests_same, rests_only_faults, now_rests}
-use Rattle.sled.proofs.Testing.{first_alone}
+use Rattle.sled.proofs.Testing.{first_alone, untold_fault}
 use Rattle.sled.proofs.Trees.{trees_at, maps_are, numbered}
 use Rattle.sled.proofs.Flying.{quiet_untold, state_over}
-use Rattle.sled.proofs.Conducting.{untold_fault, leaves_none}
+use Rattle.sled.proofs.Conducting.{leaves_none}
 use Rattle.sled.proofs.Popping.{often_faults, often_readable}
 
 -- ---- a group of some calls is begun and sealed
@@ -89,21 +89,13 @@ sealed (j ∷ js) a b out s = record {
 refused_quietly : (e : Error) (a b : Store) → is_write_refused_as e a b → IsStepRefused e a b
 refused_quietly error.NoMemory a b t = t
 refused_quietly (error.Io fault) a b t = t
-refused_quietly (error.CollectionNotFound name) a b t = t.1
-refused_quietly (error.Unsupported text) a b t = t.1
-refused_quietly (error.ReportableBug text) a b t = t.1
-refused_quietly (error.Corruption fault) a b t = t.1
-refused_quietly error.Closed a b t = t.1
+refused_quietly other a b t = t.1
 
 refused_mark : (e : Error) (a b : Store) → is_write_refused_as e a b → b.mark ≡ a.mark
 refused_mark error.NoMemory a b t = ap (λ (s : Store). s.mark) t
 refused_mark (error.Io fault) a b (inl t) = ap (λ (s : Store). s.mark) t
 refused_mark (error.Io fault) a b (inr t) = ap (λ (s : Store). s.mark) t.0
-refused_mark (error.CollectionNotFound name) a b t = ap (λ (s : Store). s.mark) t.1
-refused_mark (error.Unsupported text) a b t = ap (λ (s : Store). s.mark) t.1
-refused_mark (error.ReportableBug text) a b t = ap (λ (s : Store). s.mark) t.1
-refused_mark (error.Corruption fault) a b t = ap (λ (s : Store). s.mark) t.1
-refused_mark error.Closed a b t = ap (λ (s : Store). s.mark) t.1
+refused_mark other a b t = ap (λ (s : Store). s.mark) t.1
 
 -- the cause, where before it no fault was counted and the same pages were readable
 refused_cause : (e : Error) (a last b : Store) → last.faults ≡ a.faults → last.is_readable ≡ a.is_readable → is_write_refused_as e last b → cause_of_group a b e
@@ -113,20 +105,12 @@ refused_cause (error.Io fault) a last b faults readable (inl t) = inl (more a.fa
     more : (x y z : ℕ) → y ≡ x → z ≡ y + 1 → x < z
     more x y z e h = omega arith
 refused_cause (error.Io fault) a last b faults readable (inr t) = inr (t.1.0, subst (λ (f : ℕ → Bool). f t.1.0 ≡ false) readable t.1.1)
-refused_cause (error.CollectionNotFound name) a last b faults readable t = t.0
-refused_cause (error.Unsupported text) a last b faults readable t = t.0
-refused_cause (error.ReportableBug text) a last b faults readable t = t.0
-refused_cause (error.Corruption fault) a last b faults readable t = t.0
-refused_cause error.Closed a last b faults readable t = t.0
+refused_cause other a last b faults readable t = t.0
 
 begin_rests : (e : Error) (a b : Store) → is_refused_as e a b → Rests a b
 begin_rests error.NoMemory a b t = rests_only_faults error.NoMemory a b t
 begin_rests (error.Io fault) a b t = rests_only_faults (error.Io fault) a b t
-begin_rests (error.CollectionNotFound name) a b t = absurd t
-begin_rests (error.Unsupported text) a b t = absurd t
-begin_rests (error.ReportableBug text) a b t = absurd t
-begin_rests (error.Corruption fault) a b t = absurd t
-begin_rests error.Closed a b t = absurd t
+begin_rests other a b t = absurd t
 
 -- one that is refused: before it began, and then nothing changed but a count, or after that, and then it is open
 record Stopped (a b : Store) (e : Error) : Type 0 where
@@ -213,20 +197,11 @@ module _ {P M : Type 0} (store : P → Store) (meant : M → Merge) (old : DbVal
     unread_cause : (e : Error) (s : Store) → unread s e → cause_of_group s s e
     unread_cause error.NoMemory s t = tt
     unread_cause (error.Io fault) s t = inr t
-    unread_cause (error.CollectionNotFound name) s t = t
-    unread_cause (error.Unsupported text) s t = t
-    unread_cause (error.ReportableBug text) s t = t
-    unread_cause (error.Corruption fault) s t = t
-    unread_cause error.Closed s t = t
+    unread_cause other s t = t
 
     unread_quietly : (e : Error) (s : Store) → unread s e → IsStepRefused e s s
-    unread_quietly error.NoMemory s t = refl
     unread_quietly (error.Io fault) s t = inr (refl, t)
-    unread_quietly (error.CollectionNotFound name) s t = refl
-    unread_quietly (error.Unsupported text) s t = refl
-    unread_quietly (error.ReportableBug text) s t = refl
-    unread_quietly (error.Corruption fault) s t = refl
-    unread_quietly error.Closed s t = refl
+    unread_quietly other s t = refl
 
     -- a page could not be read, or there is no memory
     pub group_unread : (e : Error) → unread (store old.pages) e → GroupRefused store meant old batches e old

@@ -35,7 +35,7 @@ use Rattle.sled.specs.Parts.{most_parts, told_parts, ImportsParts, ImportRefused
 use Rattle.sled.specs.theory.Imports.{IsTreeNow, PartsDone, PartsStopped, PartsStoppedAfter}
 use Rattle.sled.proofs.Counting.{told_then, told_one, told_before}
 use Rattle.sled.proofs.Conducting.{ReadsAlike, acts_then, may_alike, leaves_then, leaves_none}
-use Rattle.sled.proofs.Popping.{often_faults, often_readable, min_unread}
+use Rattle.sled.proofs.Popping.{often_faults, often_readable, min_is, pop_unread}
 use Rattle.sled.proofs.Testing.{first_alone}
 
 -- ---- lists of parts
@@ -60,11 +60,7 @@ opening_alike s a m b name e r may = record { is = go (must_refuse s (ToCall (Op
     cause : (e : Error) → cause_of s m b (ToCall (OpenTree name)) e → cause_of s a b (ToCall (OpenTree name)) e
     cause error.NoMemory k = tt
     cause (error.Io fault) k = (k.0, subst (λ n. n < b.faults) r.faults k.1)
-    cause (error.ReportableBug text) k = k
-    cause (error.CollectionNotFound name) k = k
-    cause (error.Unsupported text) k = k
-    cause (error.Corruption fault) k = k
-    cause error.Closed k = k
+    cause other k = k
 
     go : (o : Option MustRefuse) → may_refuse_as o s m b (ToCall (OpenTree name)) e → may_refuse_as o s a b (ToCall (OpenTree name)) e
     go None k = cause e k
@@ -293,12 +289,7 @@ module _ {P M : Type 0} (store : P → Store) (meant : M → Merge) where
         where
           cause : (e : Error) → cause_of (db_state store meant old) (store old.pages) (store new.pages) (ToPoint tree (Insert key value)) e → cause_of (State_of old slots given) (store old.pages) (store new.pages) (ToPoint tree (Insert key value)) e
           cause error.NoMemory k = tt
-          cause (error.Io fault) k = k
-          cause (error.ReportableBug text) k = k
-          cause (error.CollectionNotFound name) k = k
-          cause (error.Unsupported text) k = k
-          cause (error.Corruption fault) k = k
-          cause error.Closed k = k
+          cause other k = k
 
           go : (o : Option MustRefuse) → may_refuse_as o (db_state store meant old) (store old.pages) (store new.pages) (ToPoint tree (Insert key value)) e → may_refuse_as o (State_of old slots given) (store old.pages) (store new.pages) (ToPoint tree (Insert key value)) e
           go None k = cause e k
@@ -313,12 +304,8 @@ module _ {P M : Type 0} (store : P → Store) (meant : M → Merge) where
     -- the key was not looked for
     read_cause : (e : Error) → stops_reading store meant old tree once e → unread_as None (store old.pages) e
     read_cause error.NoMemory k = tt
-    read_cause (error.Io fault) k = k
     read_cause (error.ReportableBug text) k = k.0
-    read_cause (error.CollectionNotFound name) k = k
-    read_cause (error.Unsupported text) k = k
-    read_cause (error.Corruption fault) k = k
-    read_cause error.Closed k = k
+    read_cause other k = k
 
     read_not : (o : Option MustRefuse) (e : Error) → refuses_reading_as store meant old tree once o e → unread_as o (store old.pages) e
     read_not None e k = read_cause e k
@@ -327,7 +314,7 @@ module _ {P M : Type 0} (store : P → Store) (meant : M → Merge) where
     pub put_unread : (e : Error) → RefusesReading store meant old tree once e → GivesUpGet store meant old tree key e → PartsStopped store meant old (Puts tree.name key value ∷ []) 0 e old
     put_unread e r g = stops_at old old (Puts tree.name key value) e (λ slots given. refl)
         (λ slots given. inr (inl (subst (λ t. unread_as (must_refuse_of (State_of old slots given) (t ∷ [])) (store old.pages) e) (is_now.is ∙ at_slots old slots given tree.name) (read_not (must_refuse_of (db_state store meant old) (tree ∷ [])) e r.is))))
-        (min_unread store meant old tree e r).acts (leaves_none store meant old) refl
+        (pop_unread store meant old tree (min_is tree) once e r).acts (leaves_none store meant old) refl
         (record { is = inr (inl (record { refuses = subst (λ t. RefusesReading store meant old t once e) is_now.is r; gives_up = subst (λ t. GivesUpGet store meant old t key e) is_now.is g; same = refl })) })
 
     -- the key is present

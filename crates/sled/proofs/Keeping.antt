@@ -1,24 +1,22 @@
 -- Whole calls whose reply is kept.
-use Rattle.std.proofs.Common.{◌≡◌, ℕ, Option, Some, Result, Ok, Err, IfOk, IfErr, OnOk, sym, refl, ap, ◌∙◌, subst, inr}
-use Rattle.std.specs.declared.ops.Bound.TheVariants.{Unbounded}
+use Rattle.std.proofs.Common.{◌≡◌, ℕ, Option, Some, Result, Ok, Err, IfOk, OnOk, sym, refl, ap, ◌∙◌, subst, inr}
 use Rattle.sled_nodes.specs.Order.{Key}
-use Rattle.sled_nodes.specs.Among.{IsSuccessor, IsPredecessor}
 use Rattle.sled_nodes.specs.declared.error.Error.{Error}
 use Rattle.sled_nodes.specs.declared.error.Error.TheVariants.{NoMemory}
 use Rattle.sled_store.specs.Store.{Store}
-use Rattle.sled_model.specs.Maps.{Merge, IsLeast, IsGreatest}
+use Rattle.sled_model.specs.Maps.{Map, Merge}
 use Rattle.sled_model.specs.Whole.{number_opened}
-use Rattle.sled_model.specs.declared.call.Whole.TheVariants.{PopMin, PopMax, OpenTree}
+use Rattle.sled_model.specs.declared.call.Whole.{Whole}
+use Rattle.sled_model.specs.declared.call.Whole.TheVariants.{OpenTree}
 use Rattle.sled_model.specs.declared.reply.Reply.{Reply}
 use Rattle.sled_model.specs.declared.reply.Reply.TheVariants.{Pair}
 use Rattle.sled_model.specs.declared.reply.Reply.TheVariants as told
 use Rattle.sled_model.specs.declared.tree.Tree.{Tree}
-use Rattle.tree_reads.specs.Walk.{once, for_each}
 use Rattle.sled.specs.Values.{DbValue, db_state}
 use Rattle.sled.specs.Reads.{ReadsMap}
-use Rattle.sled.specs.Direct.{WholeDecided, WholeRefused}
-use Rattle.sled.specs.Pops.{TakesOut, RefusesToTake, PopsBySteps, PopRefusedBySteps, GivesUpPop}
-use Rattle.sled.proofs.Popping.{min_found, max_found, min_untaken, max_untaken, min_steps, max_steps, min_stopped, max_stopped, min_gives_up_later, max_gives_up_later}
+use Rattle.sled.specs.Direct.{WholeDecided}
+use Rattle.sled.specs.Pops.{TakesOut, RefusesToTake, PopsBySteps}
+use Rattle.sled.proofs.Popping.{IsPop, pop_found, taken_steps}
 use Rattle.sled.proofs.Importing.{replied}
 
 -- ---- pops
@@ -43,52 +41,19 @@ on_told : {T : Type 0} (Q : Reply → Type 0) (reply : Reply) → (T → Q reply
 on_told Q reply h (Ok told) t is = subst Q (sym is) (h t)
 on_told Q reply h (Err e) t is = tt
 
-err_weaker : {A : Type 0} (p q : Error → Type 0) → ((e : Error) → p e → q e) → (r : Result A Error) → IfErr r p → IfErr r q
-err_weaker p q h (Ok a) k = tt
-err_weaker p q h (Err e) k = h e k
-
 -- what comes of taking out the pair that was read
-module _ {P M : Type 0} (store : P → Store) (meant : M → Merge) (old : DbValue P M) (tree : Tree) (new : DbValue P M) (pair : Key × Key) (read : Option (Key × Key)) (e : read ≡ Some pair) (result : Result (Reply × Reply × Reply) Error) where
+module _ {P M : Type 0} (store : P → Store) (meant : M → Merge) (old : DbValue P M) (tree : Tree) {reads is_end : Map → Option (Key × Key) → Type 0} {whole : Whole} (pop : IsPop reads is_end tree whole) (pair : Key × Key) (read : Option (Key × Key)) (pair_is : read ≡ Some pair) (r : ReadsMap store meant old tree (λ map. reads map read)) (new : DbValue P M) (result : Result (Reply × Reply × Reply) Error) where
   abbrev Taken : Type 0
   Taken = OnOk result (TakesOut store meant old tree pair (Some pair) new)
 
   abbrev Told : Type 0
   Told = IfOk result (λ told. told.0 ≡ Pair (Some pair))
 
-  abbrev Untaken : Type 0
-  Untaken = IfErr result (λ x. RefusesToTake store meant old tree pair x new)
+  pub kept_found : Taken → Told → IfOk result (λ told. WholeDecided store meant old whole told.0 new)
+  kept_found t is = on_told (λ z. WholeDecided store meant old whole z new) (Pair (Some pair)) (λ k. pop_found store meant old tree pop pair read pair_is r (Some pair) new k) result t is
 
-  module _ (r : ReadsMap store meant old tree (λ map. IsSuccessor Unbounded map read)) where
-    pub kept_min_found : Taken → Told → IfOk result (λ told. WholeDecided store meant old (PopMin tree) told.0 new)
-    kept_min_found t is = on_told (λ z. WholeDecided store meant old (PopMin tree) z new) (Pair (Some pair)) (λ k. min_found store meant old tree new pair read e (Ok (Some pair)) r k) result t is
-
-    pub kept_min_steps : Taken → Told → IfOk result (λ told. (found : Option (Key × Key)) × (told.0 ≡ Pair found) × PopsBySteps store meant old tree IsLeast found new)
-    kept_min_steps t is = on_told (λ z. (found : Option (Key × Key)) × (z ≡ Pair found) × PopsBySteps store meant old tree IsLeast found new) (Pair (Some pair)) (λ k. (Some pair, refl, min_steps store meant old tree new pair read e (Ok (Some pair)) r k)) result t is
-
-    pub kept_min_untaken : Untaken → IfErr result (λ x. WholeRefused store meant old (PopMin tree) x new)
-    kept_min_untaken t = err_weaker _ _ (λ x k. min_untaken store meant old tree new pair read e (Err x) r k) result t
-
-    pub kept_min_stopped : Untaken → IfErr result (λ x. PopRefusedBySteps store meant old tree IsLeast once x new)
-    kept_min_stopped t = err_weaker _ _ (λ x k. min_stopped store meant old tree new pair read e (Err x) r k) result t
-
-    pub kept_min_gives_up : Untaken → IfErr result (GivesUpPop store meant old tree IsLeast once)
-    kept_min_gives_up t = err_weaker _ _ (λ x k. min_gives_up_later store meant old tree new pair read e (Err x) r k) result t
-
-  module _ (r : ReadsMap store meant old tree (λ map. IsPredecessor Unbounded map read)) where
-    pub kept_max_found : Taken → Told → IfOk result (λ told. WholeDecided store meant old (PopMax tree) told.0 new)
-    kept_max_found t is = on_told (λ z. WholeDecided store meant old (PopMax tree) z new) (Pair (Some pair)) (λ k. max_found store meant old tree new pair read e (Ok (Some pair)) r k) result t is
-
-    pub kept_max_steps : Taken → Told → IfOk result (λ told. (found : Option (Key × Key)) × (told.0 ≡ Pair found) × PopsBySteps store meant old tree IsGreatest found new)
-    kept_max_steps t is = on_told (λ z. (found : Option (Key × Key)) × (z ≡ Pair found) × PopsBySteps store meant old tree IsGreatest found new) (Pair (Some pair)) (λ k. (Some pair, refl, max_steps store meant old tree new pair read e (Ok (Some pair)) r k)) result t is
-
-    pub kept_max_untaken : Untaken → IfErr result (λ x. WholeRefused store meant old (PopMax tree) x new)
-    kept_max_untaken t = err_weaker _ _ (λ x k. max_untaken store meant old tree new pair read e (Err x) r k) result t
-
-    pub kept_max_stopped : Untaken → IfErr result (λ x. PopRefusedBySteps store meant old tree IsGreatest for_each x new)
-    kept_max_stopped t = err_weaker _ _ (λ x k. max_stopped store meant old tree new pair read e (Err x) r k) result t
-
-    pub kept_max_gives_up : Untaken → IfErr result (GivesUpPop store meant old tree IsGreatest for_each)
-    kept_max_gives_up t = err_weaker _ _ (λ x k. max_gives_up_later store meant old tree new pair read e (Err x) r k) result t
+  pub kept_steps : Taken → Told → IfOk result (λ told. (found : Option (Key × Key)) × (told.0 ≡ Pair found) × PopsBySteps store meant old tree is_end found new)
+  kept_steps t is = on_told (λ z. (found : Option (Key × Key)) × (z ≡ Pair found) × PopsBySteps store meant old tree is_end found new) (Pair (Some pair)) (λ k. (Some pair, refl, taken_steps store meant old tree pop pair read pair_is r (Some pair) new k)) result t is
 
 -- ---- the opening of a tree
 

@@ -35,10 +35,7 @@ rests_raised : (e : Error) (a b : Store) → refuses_to_raise_as a e b → Rests
 rests_raised error.NoMemory a b t = rests_same t.1
 rests_raised (error.Io fault) a b t = rests_faulted (a.faults + 1) t.1
 rests_raised (error.Unsupported text) a b t = rests_same t.2
-rests_raised (error.CollectionNotFound name) a b t = absurd t.1
-rests_raised (error.ReportableBug text) a b t = absurd t.1
-rests_raised (error.Corruption fault) a b t = absurd t.1
-rests_raised error.Closed a b t = absurd t.1
+rests_raised other a b t = absurd t.1
 
 module _ {P M : Type 0} (store : P → Store) (meant : M → Merge) (old : DbValue P M) where
   -- over pages that differ in the mark, and in the faults that were counted, alone
@@ -138,10 +135,7 @@ module _ {P M : Type 0} (store : P → Store) (meant : M → Merge) (old : DbVal
       go error.NoMemory r = (no_group, r)
       go (error.Io fault) r = (no_group, r)
       go (error.Unsupported text) r = (no_group, r)
-      go (error.CollectionNotFound name) r = absurd r.is.1
-      go (error.ReportableBug text) r = absurd r.is.1
-      go (error.Corruption fault) r = absurd r.is.1
-      go error.Closed r = absurd r.is.1
+      go other r = absurd r.is.1
 
   pub closed : (now (store old.pages)).in_group ≡ true → RefusesId store meant old error.Closed old
   closed e = record {

@@ -166,11 +166,7 @@ module _ (name : Key) where
     cause = record { is = ap (λ (s : Store). s.faults) r.is ∙ ap (λ n. n + 1) f };
     again = subst (λ (s : Store). CanBeOpened name a s) (sym r.is) (faulted_again (b.faults + 1) k);
   }
-  refused a b c (error.CollectionNotFound name) k f r = absurd r.is
-  refused a b c (error.Unsupported text) k f r = absurd r.is
-  refused a b c (error.ReportableBug text) k f r = absurd r.is
-  refused a b c (error.Corruption fault) k f r = absurd r.is
-  refused a b c error.Closed k f r = absurd r.is
+  refused a b c other k f r = absurd r.is
 
   -- there is no memory
   pub no_memory : (a b : Store) (e : Error) → e ≡ error.NoMemory → CanBeOpened name a b → b.faults ≡ a.faults → RefusesTree name a e b

@@ -98,11 +98,7 @@ not_given n = grind (arith, nat_tests)
 step_refused : (e : Error) (a b : Store) → is_refused_as e a b → IsStepRefused e a b
 step_refused error.NoMemory a b t = t
 step_refused (error.Io fault) a b t = inl t
-step_refused (error.CollectionNotFound name) a b t = absurd t
-step_refused (error.Unsupported text) a b t = absurd t
-step_refused (error.ReportableBug text) a b t = absurd t
-step_refused (error.Corruption fault) a b t = absurd t
-step_refused error.Closed a b t = absurd t
+step_refused other a b t = absurd t
 
 module _ {P M : Type 0} (store : P → Store) (meant : M → Merge) (old : DbValue P M) (no_group : (now (store old.pages)).in_group ≡ false) (name : Key) where
   must : (slots : ℕ → Option CallInFlight) (given : ℕ) → must_refuse (state_of store meant old slots given) (ToCall (OpenTree name)) ≡ None
@@ -246,11 +242,7 @@ module _ {P M : Type 0} (store : P → Store) (meant : M → Merge) (old : DbVal
           where
             more : (x y z : ℕ) → y ≡ x → z ≡ y + 1 → x < z
             more x y z e f = omega arith
-        left_cause slots given (error.CollectionNotFound name) t = absurd t
-        left_cause slots given (error.Unsupported text) t = absurd t
-        left_cause slots given (error.ReportableBug text) t = absurd t
-        left_cause slots given (error.Corruption fault) t = absurd t
-        left_cause slots given error.Closed t = absurd t
+        left_cause slots given other t = absurd t
 
         left_refused : WholeRefused store meant old (OpenTree name) e left
         left_refused = record {
@@ -278,11 +270,7 @@ module _ {P M : Type 0} (store : P → Store) (meant : M → Merge) (old : DbVal
         where
           more : (x z : ℕ) → z ≡ x + 1 → x < z
           more x z f = omega arith
-      same_cause slots given (error.CollectionNotFound name) t = absurd t
-      same_cause slots given (error.Unsupported text) t = absurd t
-      same_cause slots given (error.ReportableBug text) t = absurd t
-      same_cause slots given (error.Corruption fault) t = absurd t
-      same_cause slots given error.Closed t = absurd t
+      same_cause slots given other t = absurd t
 
       same_refused : WholeRefused store meant old (OpenTree name) e (record old { pages = q })
       same_refused = record {

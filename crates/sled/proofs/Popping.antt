@@ -1,11 +1,11 @@
 -- Calls that take out the pair at an end of a tree, and clears.
-use Rattle.std.proofs.Common.{◌≡◌, ◌≢◌, ℕ, zero, suc, ◌+◌, min, ◌<◌, ◌≤◌, ◌⊎◌, Bool, true, false, not, cond, List, [], ◌∷◌, ◌++◌, append-nil, length, Option, Some, None, is_some, Result, IfOk, IfErr, sym, refl, ap, ◌∙◌, subst, inl, inr, arith}
+use Rattle.std.proofs.Common.{◌≡◌, ◌≢◌, ℕ, zero, suc, ◌+◌, min, ◌<◌, ◌≤◌, ◌⊎◌, Bool, true, false, not, cond, List, [], ◌∷◌, ◌++◌, append-nil, length, Option, Some, None, is_some, sym, refl, ap, ◌∙◌, subst, inl, inr, arith}
 use Rattle.std.proofs.lemmas.Cmp.{tied_itself}
 use Rattle.std.specs.List.{filter, list_any}
 use Rattle.std.specs.FinMap.Entries.{find}
 use Rattle.std.specs.Ordering.{is_eq, eq_by_cmp}
 use Rattle.std.specs.declared.ops.Bound.TheVariants.{Unbounded}
-use Rattle.sled_nodes.proofs.Basics.{some_is, true_false, key_total, ok_weaker, err_weaker}
+use Rattle.sled_nodes.proofs.Basics.{some_is, true_false, key_total}
 use Rattle.sled_nodes.specs.Order.{Key, key_cmp}
 use Rattle.sled_nodes.specs.Among.{is_from, is_up_to, IsSuccessor, IsPredecessor}
 use Rattle.sled_nodes.specs.Node.{without}
@@ -16,7 +16,7 @@ use Rattle.sled_nodes.specs.declared.error.Error.TheVariants as error
 use Rattle.sled_model.specs.Maps.{Map, Maps, Merge, IsLeast, IsGreatest}
 use Rattle.sled_model.specs.Answer.{answer_of, map_after}
 use Rattle.sled_model.specs.State.{State, NamedTree, CallInFlight, maps_of, after_decision_on}
-use Rattle.sled_model.specs.Refusal.{MustRefuse, IsClosed, IsForeign, IsDropped, HasNoOperator, must_refuse, must_refuse_of, MayRefuse, TellsTurns, ToPoint, ToCall, cause_of, cause_at_end, may_refuse_as}
+use Rattle.sled_model.specs.Refusal.{MustRefuse, must_refuse, must_refuse_of, MayRefuse, TellsTurns, ToPoint, ToCall, cause_of, cause_at_end, may_refuse_as}
 use Rattle.sled_model.specs.Transition.{Configuration, WholeDecides, WholeRefuses, kind_of}
 use Rattle.sled_model.specs.Whole.{Pops, RemovesLeast, RemovesNone, RemovesOne}
 use Rattle.sled_model.specs.declared.outcome.Outcome.TheVariants as outcome
@@ -29,7 +29,7 @@ use Rattle.sled_model.specs.declared.reply.Reply.TheVariants.{Pair, Done}
 use Rattle.sled_model.specs.declared.tree.Tree.{Tree}
 use Rattle.tree_laws.proofs.Crashing.{extends_again}
 use Rattle.tree_laws.specs.Paths.{tree_pages}
-use Rattle.tree_reads.specs.Walk.{once, for_each}
+use Rattle.tree_reads.specs.Walk.{once}
 use Rattle.tree_reads.specs.declared.TheConstants.{MOST_PAGES}
 use Rattle.sled.specs.Values.{DbValue, state_of, db_state, configuration_of}
 use Rattle.sled.specs.Sound.{IsDb}
@@ -41,7 +41,7 @@ use Rattle.sled.specs.Pops.{TakesOut, RefusesToTake, IsAtEnd, PopsBySteps, PopRe
 use Rattle.sled.specs.Parts.{most_parts, told_parts, ClearsParts}
 use Rattle.sled.proofs.Conducting.{conducts_then, conducts_none, conducts_refused}
 use Rattle.sled.proofs.Counting.{told_one}
-use Rattle.sled.proofs.Testing.{tested_calm, first_alone}
+use Rattle.sled.proofs.Testing.{tested_calm, first_alone, untold_fault, untold_turns}
 use Rattle.sled.proofs.Trees.{maps_are}
 
 -- ---- the ends of a map
@@ -93,16 +93,18 @@ size_of (Some t) = length t.map
 
 -- ---- refusals
 
--- a whole call that takes out the pair at an end
-pub record IsPop (is_end : Map → Option (Key × Key) → Type 0) (tree : Tree) (whole : Whole) : Type 0 where
+-- a whole call that takes out the pair at an end, which these reads find
+pub record IsPop (reads is_end : Map → Option (Key × Key) → Type 0) (tree : Tree) (whole : Whole) : Type 0 where
+  pub ends : (map : Map) (found : Option (Key × Key)) → reads map found → is_end map found
   pub which : (whole ≡ PopMin tree) ⊎ (whole ≡ PopMax tree)
   pub must : (s : State) → must_refuse s (ToCall whole) ≡ must_refuse_of s (tree ∷ [])
   pub cause : (s : State) (a b : Store) (e : Error) → cause_at_end is_end s a b tree e → cause_of s a b (ToCall whole) e
   pub decides : (old : Configuration) (reply : Reply) (new : State) (maps : List Maps) → Pops is_end old.state whole tree reply new maps → WholeDecides old whole reply new maps
   pub refuses : (s : State) (a b : Store) (e : Error) (new : State) → MayRefuse s a b (ToCall whole) e → new ≡ s → WholeRefuses s a b whole e new []
 
-min_is : (tree : Tree) → IsPop IsLeast tree (PopMin tree)
+pub min_is : (tree : Tree) → IsPop (IsSuccessor Unbounded) IsLeast tree (PopMin tree)
 min_is tree = record {
+  ends = least_is;
   which = inl refl;
   must = λ s. first_alone (must_refuse_of s (tree ∷ []));
   cause = λ s a b e k. k;
@@ -110,8 +112,9 @@ min_is tree = record {
   refuses = λ s a b e new may is. (may, is, refl);
 }
 
-max_is : (tree : Tree) → IsPop IsGreatest tree (PopMax tree)
+pub max_is : (tree : Tree) → IsPop (IsPredecessor Unbounded) IsGreatest tree (PopMax tree)
 max_is tree = record {
+  ends = greatest_is;
   which = inr refl;
   must = λ s. first_alone (must_refuse_of s (tree ∷ []));
   cause = λ s a b e k. k;
@@ -158,11 +161,7 @@ as_clear s a m b tree e faults readable may = record { is = told (must_refuse s 
     cause error.NoMemory k = tt
     cause (error.Io fault) (inl k) = inl (subst (λ n. n < b.faults) faults k)
     cause (error.Io fault) (inr (pid, k)) = inr (pid, subst (λ (f : ℕ → Bool). f pid ≡ false) readable k)
-    cause (error.ReportableBug text) k = k
-    cause (error.CollectionNotFound name) k = k
-    cause (error.Unsupported text) k = k
-    cause (error.Corruption fault) k = k
-    cause error.Closed k = k
+    cause other k = k
 
     told : (o : Option MustRefuse) → may_refuse_as o s m b (ToCall (PopMin tree)) e → may_refuse_as o s a b (ToCall (Clear tree)) e
     told None k = cause e k
@@ -174,16 +173,13 @@ as_clear s a m b tree e faults readable may = record { is = told (must_refuse s 
 abbrev with_slots : (ℕ → Option CallInFlight) → ℕ → State → State
 with_slots slots given s = record s { slots = slots; slots_given = given }
 
-module _ {P M : Type 0} (store : P → Store) (meant : M → Merge) (old : DbValue P M) (tree : Tree) (is_end : Map → Option (Key × Key) → Type 0) (whole : Whole) (pop : IsPop is_end tree whole) where
+module _ {P M : Type 0} (store : P → Store) (meant : M → Merge) (old : DbValue P M) (tree : Tree) {reads is_end : Map → Option (Key × Key) → Type 0} {whole : Whole} (pop : IsPop reads is_end tree whole) where
   -- what a read says, where it is refused
   read_cause : (of : ℕ → ℕ) (s : State) (e : Error) → stops_reading store meant old tree of e → cause_at_end is_end s (store old.pages) (store old.pages) tree e
   read_cause of s error.NoMemory k = tt
   read_cause of s (error.Io fault) k = inr k
   read_cause of s (error.ReportableBug text) k = k.0
-  read_cause of s (error.CollectionNotFound name) k = absurd k
-  read_cause of s (error.Unsupported text) k = absurd k
-  read_cause of s (error.Corruption fault) k = absurd k
-  read_cause of s error.Closed k = absurd k
+  read_cause of s other k = absurd k
 
   read_may : (of : ℕ → ℕ) (e : Error) → RefusesReading store meant old tree of e → (slots : ℕ → Option CallInFlight) (given : ℕ) → MayRefuse (state_of store meant old slots given) (store old.pages) (store old.pages) (ToCall whole) e
   read_may of e r slots given = record { is = subst (λ o. may_refuse_as o (state_of store meant old slots given) (store old.pages) (store old.pages) (ToCall whole) e) (sym (pop.must (state_of store meant old slots given))) (go (must_refuse_of (db_state store meant old) (tree ∷ [])) r.is) }
@@ -195,25 +191,8 @@ module _ {P M : Type 0} (store : P → Store) (meant : M → Merge) (old : DbVal
   read_quiet : (of : ℕ → ℕ) (e : Error) (o : Option MustRefuse) → refuses_reading_as store meant old tree of o e → IsStepRefused e (store old.pages) (store old.pages)
   read_quiet of error.NoMemory o k = refl
   read_quiet of (error.Io fault) None k = inr (refl, k)
-  read_quiet of (error.Io fault) (Some IsClosed) k = untold k
-    where
-      untold : {X : Type 0} → error.Io fault ≡ error.Closed → X
-      untold e = cc
-  read_quiet of (error.Io fault) (Some IsForeign) k = absurd k
-  read_quiet of (error.Io fault) (Some (IsDropped name)) (inl k) = untold k
-    where
-      untold : {X : Type 0} → error.Io fault ≡ error.CollectionNotFound name → X
-      untold e = cc
-  read_quiet of (error.Io fault) (Some (IsDropped name)) (inr k) = untold k
-    where
-      untold : {X : Type 0} → error.Io fault ≡ error.NoMemory → X
-      untold e = cc
-  read_quiet of (error.Io fault) (Some HasNoOperator) k = absurd k
-  read_quiet of (error.ReportableBug text) o k = refl
-  read_quiet of (error.CollectionNotFound name) o k = refl
-  read_quiet of (error.Unsupported text) o k = refl
-  read_quiet of (error.Corruption fault) o k = refl
-  read_quiet of error.Closed o k = refl
+  read_quiet of (error.Io fault) (Some must) k = absurd (untold_fault (Some must) (error.Io fault) k fault refl)
+  read_quiet of other o k = refl
 
   refused : (e : Error) (new : DbValue P M) → ((slots : ℕ → Option CallInFlight) (given : ℕ) → MayRefuse (state_of store meant old slots given) (store old.pages) (store new.pages) (ToCall whole) e) → db_state store meant new ≡ db_state store meant old → Conducts store [] (Some e) old new → (must_refuse (db_state store meant old) (ToCall whole) ≢ None → new ≡ old)
       → WholeRefused store meant old whole e new
@@ -223,11 +202,15 @@ module _ {P M : Type 0} (store : P → Store) (meant : M → Merge) (old : DbVal
   pub pop_unread : (of : ℕ → ℕ) (e : Error) → RefusesReading store meant old tree of e → WholeRefused store meant old whole e old
   pop_unread of e r = refused e old (read_may of e r) refl (conducts_refused store meant old e (read_quiet of e (must_refuse_of (db_state store meant old) (tree ∷ [])) r.is)) (λ must. refl)
 
+  -- what was read is at the end
+  at_found : (read found : Option (Key × Key)) → read ≡ found → ReadsMap store meant old tree (λ map. reads map read) → ReadsMap store meant old tree (λ map. is_end map found)
+  at_found read found e r = record { tested = r.tested; named = r.named; there = r.there; is = pop.ends r.named.map found (subst (reads r.named.map) e r.is) }
+
   -- the tree has no pair
-  pub pop_none : IsDb store old → ReadsMap store meant old tree (λ map. is_end map None) → WholeDecided store meant old whole (Pair None) old
-  pop_none db r = pop_decided tree whole pop.which store meant old (Pair None) old (maps_of (db_state store meant old) ∷ [])
+  pub pop_none : IsDb store old → (read : Option (Key × Key)) → read ≡ None → ReadsMap store meant old tree (λ map. reads map read) → WholeDecided store meant old whole (Pair None) old
+  pop_none db read e r = let k = at_found read None e r in pop_decided tree whole pop.which store meant old (Pair None) old (maps_of (db_state store meant old) ∷ [])
       (λ slots given number. pop.decides (configuration_of store meant old slots given number) (Pair None) (state_of store meant old slots given) (maps_of (db_state store meant old) ∷ [])
-      (record { free = pop.must (state_of store meant old slots given) ∙ r.tested; named = r.named; there = r.there; found = None; ends = r.is; replies = refl; is = refl; added = refl }))
+      (record { free = pop.must (state_of store meant old slots given) ∙ r.tested; named = k.named; there = k.there; found = None; ends = k.is; replies = refl; is = refl; added = refl }))
       (let none = conducts_none store meant old in record {
         acts = none.acts;
         leaves = record {
@@ -239,7 +222,10 @@ module _ {P M : Type 0} (store : P → Store) (meant : M → Merge) (old : DbVal
         same = none.same;
       })
 
-  module _ (pair : Key × Key) (r : ReadsMap store meant old tree (λ map. is_end map (Some pair))) where
+  module _ (pair : Key × Key) (read : Option (Key × Key)) (pair_is : read ≡ Some pair) (r : ReadsMap store meant old tree (λ map. reads map read)) where
+    at_end : IsAtEnd store meant old tree is_end pair
+    at_end = let k = at_found read (Some pair) pair_is r in record { named = k.named; there = k.there; ends = k.is }
+
     -- the pair was taken out
     pub pop_found : (found : Option (Key × Key)) (new : DbValue P M) → TakesOut store meant old tree pair found new → WholeDecided store meant old whole (Pair found) new
     pop_found found new t =
@@ -251,7 +237,7 @@ module _ {P M : Type 0} (store : P → Store) (meant : M → Merge) (old : DbVal
           named = d.named;
           there = d.there;
           found = Some pair;
-          ends = subst (λ (n : NamedTree). is_end n.map (Some pair)) (some_is (sym r.there ∙ d.there)) r.is;
+          ends = subst (λ (n : NamedTree). is_end n.map (Some pair)) (some_is (sym at_end.there ∙ d.there)) at_end.ends;
           replies = ap Pair t.answers;
           is = ap (with_slots slots given) d.is;
           added = refl;
@@ -261,12 +247,7 @@ module _ {P M : Type 0} (store : P → Store) (meant : M → Merge) (old : DbVal
     -- the causes for which a removal is refused
     take_cause : (slots : ℕ → Option CallInFlight) (given : ℕ) (b : Store) (e : Error) → cause_of (db_state store meant old) (store old.pages) b (ToPoint tree (Remove pair.0)) e → cause_at_end is_end (state_of store meant old slots given) (store old.pages) b tree e
     take_cause slots given b error.NoMemory k = tt
-    take_cause slots given b (error.Io fault) k = k
-    take_cause slots given b (error.ReportableBug text) k = k
-    take_cause slots given b (error.CollectionNotFound name) k = k
-    take_cause slots given b (error.Unsupported text) k = k
-    take_cause slots given b (error.Corruption fault) k = k
-    take_cause slots given b error.Closed k = k
+    take_cause slots given b other k = k
 
     may_end : (slots : ℕ → Option CallInFlight) (given : ℕ) (b : Store) (e : Error) → cause_at_end is_end (state_of store meant old slots given) (store old.pages) b tree e → MayRefuse (state_of store meant old slots given) (store old.pages) b (ToCall whole) e
     may_end slots given b e k = record { is = subst (λ o. may_refuse_as o (state_of store meant old slots given) (store old.pages) b (ToCall whole) e) (sym (pop.must (state_of store meant old slots given) ∙ r.tested)) (pop.cause (state_of store meant old slots given) (store old.pages) b e k) }
@@ -282,9 +263,6 @@ module _ {P M : Type 0} (store : P → Store) (meant : M → Merge) (old : DbVal
           (refused error.NoMemory old (λ slots given. may_end slots given (store old.pages) error.NoMemory tt) refl (conducts_refused store meant old error.NoMemory refl) (λ must. refl)))
     ]
 
-    at_end : IsAtEnd store meant old tree is_end pair
-    at_end = record { named = r.named; there = r.there; ends = r.is }
-
     pub taken_steps : (found : Option (Key × Key)) (new : DbValue P M) → TakesOut store meant old tree pair found new → PopsBySteps store meant old tree is_end found new
     taken_steps found new t = record { is = inr (pair, at_end, t) }
 
@@ -293,102 +271,24 @@ module _ {P M : Type 0} (store : P → Store) (meant : M → Merge) (old : DbVal
 
     pub gives_up_untaken : (of : ℕ → ℕ) (e : Error) (new : DbValue P M) → RefusesToTake store meant old tree pair e new → GivesUpPop store meant old tree is_end of e
     gives_up_untaken of e new t = elim t.is [
-      | inl p ↦ record { is = λ turns. inr (record { named = r.named; there = r.there; pair = pair; ends = r.is; long = p.turns turns }) }
+      | inl p ↦ record { is = λ turns. inr (record { named = at_end.named; there = at_end.there; pair = pair; ends = at_end.ends; long = p.turns turns }) }
       | inr m ↦ record { is = λ turns. absurd (subst TellsTurns m.0 turns) }
     ]
 
   pub gives_up_unread : (of : ℕ → ℕ) (e : Error) → RefusesReading store meant old tree of e → GivesUpPop store meant old tree is_end of e
   gives_up_unread of e r = record { is = λ turns. inl (go e (must_refuse_of (db_state store meant old) (tree ∷ [])) r.is turns) }
     where
-      bug : (text : _) (o : Option MustRefuse) → refuses_reading_as store meant old tree of o (error.ReportableBug text) → MOST_PAGES ≤ of (tree_pages (now (store old.pages)) tree.name)
-      bug text None k = k.1
-      bug text (Some IsClosed) k = untold k
-        where
-          untold : {X : Type 0} → error.ReportableBug text ≡ error.Closed → X
-          untold e = cc
-      bug text (Some IsForeign) k = absurd k
-      bug text (Some (IsDropped name)) (inl k) = untold k
-        where
-          untold : {X : Type 0} → error.ReportableBug text ≡ error.CollectionNotFound name → X
-          untold e = cc
-      bug text (Some (IsDropped name)) (inr k) = untold k
-        where
-          untold : {X : Type 0} → error.ReportableBug text ≡ error.NoMemory → X
-          untold e = cc
-      bug text (Some HasNoOperator) k = absurd k
-
       go : (e : Error) (o : Option MustRefuse) → refuses_reading_as store meant old tree of o e → TellsTurns e → MOST_PAGES ≤ of (tree_pages (now (store old.pages)) tree.name)
-      go (error.ReportableBug text) o k turns = bug text o k
-      go error.NoMemory o k turns = absurd turns
-      go (error.Io fault) o k turns = absurd turns
-      go (error.CollectionNotFound name) o k turns = absurd turns
-      go (error.Unsupported text) o k turns = absurd turns
-      go (error.Corruption fault) o k turns = absurd turns
-      go error.Closed o k turns = absurd turns
+      go (error.ReportableBug text) None k turns = k.1
+      go e (Some must) k turns = absurd (untold_turns (Some must) e k turns)
+      go other None k turns = absurd turns
 
--- the same, of what the reads of an end say
 module _ {P M : Type 0} (store : P → Store) (meant : M → Merge) (old : DbValue P M) (tree : Tree) where
-  at_least : (read found : Option (Key × Key)) → read ≡ found → ReadsMap store meant old tree (λ map. IsSuccessor Unbounded map read) → ReadsMap store meant old tree (λ map. IsLeast map found)
-  at_least read found e r = record { tested = r.tested; named = r.named; there = r.there; is = least_is r.named.map found (subst (λ z. IsSuccessor Unbounded r.named.map z) e r.is) }
-
-  at_greatest : (read found : Option (Key × Key)) → read ≡ found → ReadsMap store meant old tree (λ map. IsPredecessor Unbounded map read) → ReadsMap store meant old tree (λ map. IsGreatest map found)
-  at_greatest read found e r = record { tested = r.tested; named = r.named; there = r.there; is = greatest_is r.named.map found (subst (λ z. IsPredecessor Unbounded r.named.map z) e r.is) }
-
-  pub min_none : IsDb store old → (read : Option (Key × Key)) → read ≡ None → ReadsMap store meant old tree (λ map. IsSuccessor Unbounded map read) → WholeDecided store meant old (PopMin tree) (Pair None) old
-  min_none db read e r = pop_none store meant old tree IsLeast (PopMin tree) (min_is tree) db (at_least read None e r)
-
-  pub max_none : IsDb store old → (read : Option (Key × Key)) → read ≡ None → ReadsMap store meant old tree (λ map. IsPredecessor Unbounded map read) → WholeDecided store meant old (PopMax tree) (Pair None) old
-  max_none db read e r = pop_none store meant old tree IsGreatest (PopMax tree) (max_is tree) db (at_greatest read None e r)
-
-  pub min_unread : (e : Error) → RefusesReading store meant old tree once e → WholeRefused store meant old (PopMin tree) e old
-  min_unread e r = pop_unread store meant old tree IsLeast (PopMin tree) (min_is tree) once e r
-
-  pub max_unread : (e : Error) → RefusesReading store meant old tree for_each e → WholeRefused store meant old (PopMax tree) e old
-  max_unread e r = pop_unread store meant old tree IsGreatest (PopMax tree) (max_is tree) for_each e r
-
-  pub min_gives_up : (e : Error) → RefusesReading store meant old tree once e → GivesUpPop store meant old tree IsLeast once e
-  min_gives_up e r = gives_up_unread store meant old tree IsLeast (PopMin tree) (min_is tree) once e r
-
-  pub max_gives_up : (e : Error) → RefusesReading store meant old tree for_each e → GivesUpPop store meant old tree IsGreatest for_each e
-  max_gives_up e r = gives_up_unread store meant old tree IsGreatest (PopMax tree) (max_is tree) for_each e r
-
   pub none_steps : (is_end : Map → Option (Key × Key) → Type 0) → PopsBySteps store meant old tree is_end None old
   none_steps is_end = record { is = inl (refl, refl) }
 
   pub unread_steps : (is_end : Map → Option (Key × Key) → Type 0) (of : ℕ → ℕ) (e : Error) → RefusesReading store meant old tree of e → PopRefusedBySteps store meant old tree is_end of e old
   unread_steps is_end of e r = record { is = inl (r, refl) }
-
-  -- what comes of taking out the pair that was read
-  module _ (new : DbValue P M) (pair : Key × Key) (read : Option (Key × Key)) (e : read ≡ Some pair) (result : Result (Option (Key × Key)) Error) where
-    pub min_found : ReadsMap store meant old tree (λ map. IsSuccessor Unbounded map read) → IfOk result (λ found. TakesOut store meant old tree pair found new) → IfOk result (λ found. WholeDecided store meant old (PopMin tree) (Pair found) new)
-    min_found r t = ok_weaker _ _ (λ found k. pop_found store meant old tree IsLeast (PopMin tree) (min_is tree) pair (at_least read (Some pair) e r) found new k) result t
-
-    pub max_found : ReadsMap store meant old tree (λ map. IsPredecessor Unbounded map read) → IfOk result (λ found. TakesOut store meant old tree pair found new) → IfOk result (λ found. WholeDecided store meant old (PopMax tree) (Pair found) new)
-    max_found r t = ok_weaker _ _ (λ found k. pop_found store meant old tree IsGreatest (PopMax tree) (max_is tree) pair (at_greatest read (Some pair) e r) found new k) result t
-
-    pub min_untaken : ReadsMap store meant old tree (λ map. IsSuccessor Unbounded map read) → IfErr result (λ e. RefusesToTake store meant old tree pair e new) → IfErr result (λ e. WholeRefused store meant old (PopMin tree) e new)
-    min_untaken r t = err_weaker _ _ (λ x k. pop_untaken store meant old tree IsLeast (PopMin tree) (min_is tree) pair (at_least read (Some pair) e r) x new k) result t
-
-    pub max_untaken : ReadsMap store meant old tree (λ map. IsPredecessor Unbounded map read) → IfErr result (λ e. RefusesToTake store meant old tree pair e new) → IfErr result (λ e. WholeRefused store meant old (PopMax tree) e new)
-    max_untaken r t = err_weaker _ _ (λ x k. pop_untaken store meant old tree IsGreatest (PopMax tree) (max_is tree) pair (at_greatest read (Some pair) e r) x new k) result t
-
-    pub min_steps : ReadsMap store meant old tree (λ map. IsSuccessor Unbounded map read) → IfOk result (λ found. TakesOut store meant old tree pair found new) → IfOk result (λ found. PopsBySteps store meant old tree IsLeast found new)
-    min_steps r t = ok_weaker _ _ (λ found k. taken_steps store meant old tree IsLeast (PopMin tree) (min_is tree) pair (at_least read (Some pair) e r) found new k) result t
-
-    pub max_steps : ReadsMap store meant old tree (λ map. IsPredecessor Unbounded map read) → IfOk result (λ found. TakesOut store meant old tree pair found new) → IfOk result (λ found. PopsBySteps store meant old tree IsGreatest found new)
-    max_steps r t = ok_weaker _ _ (λ found k. taken_steps store meant old tree IsGreatest (PopMax tree) (max_is tree) pair (at_greatest read (Some pair) e r) found new k) result t
-
-    pub min_stopped : ReadsMap store meant old tree (λ map. IsSuccessor Unbounded map read) → IfErr result (λ e. RefusesToTake store meant old tree pair e new) → IfErr result (λ e. PopRefusedBySteps store meant old tree IsLeast once e new)
-    min_stopped r t = err_weaker _ _ (λ x k. untaken_steps store meant old tree IsLeast (PopMin tree) (min_is tree) pair (at_least read (Some pair) e r) once x new k) result t
-
-    pub max_stopped : ReadsMap store meant old tree (λ map. IsPredecessor Unbounded map read) → IfErr result (λ e. RefusesToTake store meant old tree pair e new) → IfErr result (λ e. PopRefusedBySteps store meant old tree IsGreatest for_each e new)
-    max_stopped r t = err_weaker _ _ (λ x k. untaken_steps store meant old tree IsGreatest (PopMax tree) (max_is tree) pair (at_greatest read (Some pair) e r) for_each x new k) result t
-
-    pub min_gives_up_later : ReadsMap store meant old tree (λ map. IsSuccessor Unbounded map read) → IfErr result (λ e. RefusesToTake store meant old tree pair e new) → IfErr result (GivesUpPop store meant old tree IsLeast once)
-    min_gives_up_later r t = err_weaker _ _ (λ x k. gives_up_untaken store meant old tree IsLeast (PopMin tree) (min_is tree) pair (at_least read (Some pair) e r) once x new k) result t
-
-    pub max_gives_up_later : ReadsMap store meant old tree (λ map. IsPredecessor Unbounded map read) → IfErr result (λ e. RefusesToTake store meant old tree pair e new) → IfErr result (GivesUpPop store meant old tree IsGreatest for_each)
-    max_gives_up_later r t = err_weaker _ _ (λ x k. gives_up_untaken store meant old tree IsGreatest (PopMax tree) (max_is tree) pair (at_greatest read (Some pair) e r) for_each x new k) result t
 
 -- ---- clears
 
@@ -484,24 +384,24 @@ module _ {P M : Type 0} (store : P → Store) (meant : M → Merge) (old : DbVal
     }
 
     pub clearing_unread : IsDb store mid → (e : Error) → RefusesReading store meant mid tree once e → WholeRefused store meant old (Clear tree) e mid
-    clearing_unread db e r = clearing_stops db e mid (min_unread store meant mid tree e r)
+    clearing_unread db e r = clearing_stops db e mid (pop_unread store meant mid tree (min_is tree) once e r)
 
     pub clearing_unread_steps : (e : Error) → RefusesReading store meant mid tree once e → ClearRefusedBySteps store meant old tree e mid
-    clearing_unread_steps e r = record { mid = mid; clears = k.clears; refused = record { is = inl (r, refl) }; gives_up = min_gives_up store meant mid tree e r }
+    clearing_unread_steps e r = record { mid = mid; clears = k.clears; refused = record { is = inl (r, refl) }; gives_up = gives_up_unread store meant mid tree (min_is tree) once e r }
 
     module _ (pair : Key × Key) (read : Option (Key × Key)) (e : read ≡ Some pair) (r : ReadsMap store meant mid tree (λ map. IsSuccessor Unbounded map read)) where
       pub clearing_untaken : IsDb store mid → (x : Error) (new : DbValue P M) → PointRefused store meant mid tree (Remove pair.0) x new → WholeRefused store meant old (Clear tree) x new
-      clearing_untaken db x new p = clearing_stops db x new (pop_untaken store meant mid tree IsLeast (PopMin tree) (min_is tree) pair (at_least store meant mid tree read (Some pair) e r) x new (record { is = inl p }))
+      clearing_untaken db x new p = clearing_stops db x new (pop_untaken store meant mid tree (min_is tree) pair read e r x new (record { is = inl p }))
 
-      at : IsAtEnd store meant mid tree IsLeast pair
-      at = let l = at_least store meant mid tree read (Some pair) e r in record { named = l.named; there = l.there; ends = l.is }
+      abbrev at : IsAtEnd store meant mid tree IsLeast pair
+      at = at_end store meant mid tree (min_is tree) pair read e r
 
       pub clearing_untaken_steps : (x : Error) (new : DbValue P M) → PointRefused store meant mid tree (Remove pair.0) x new → ClearRefusedBySteps store meant old tree x new
       clearing_untaken_steps x new p = record {
         mid = mid;
         clears = k.clears;
         refused = record { is = inr (pair, at, record { is = inl p }) };
-        gives_up = gives_up_untaken store meant mid tree IsLeast (PopMin tree) (min_is tree) pair (at_least store meant mid tree read (Some pair) e r) once x new (record { is = inl p });
+        gives_up = gives_up_untaken store meant mid tree (min_is tree) pair read e r once x new (record { is = inl p });
       }
 
       -- .. and no part more is done

@@ -1,5 +1,5 @@
 -- Reads of a tree's map.
-use Rattle.std.proofs.Common.{◌≡◌, ℕ, ◌+◌, ◌<◌, Bool, true, false, not, ◌↔◌, IsTrue, [], ◌∷◌, ◌++◌, length, Option, Some, None, option_map, is_some, is_none, sym, refl, ap, ◌∙◌, subst, inl, inr, arith}
+use Rattle.std.proofs.Common.{◌≡◌, ℕ, ◌+◌, ◌<◌, Bool, true, false, not, ◌↔◌, IsTrue, [], ◌∷◌, ◌++◌, length, Option, Some, None, option_map, is_some, is_none, sym, refl, ap, ◌∙◌, subst, arith}
 use Rattle.std.specs.FinMap.Entries.{find}
 use Rattle.std.specs.declared.ops.Bound.{Bound}
 use Rattle.std.specs.declared.ops.Bound.TheVariants.{Included, Unbounded}
@@ -10,10 +10,10 @@ use Rattle.sled_nodes.specs.Ranges.{is_reversed}
 use Rattle.sled_store.specs.State.{nodes_of}
 use Rattle.sled_store.specs.Store.{Store, now, AreGiven}
 use Rattle.sled_nodes.specs.declared.error.Error.{Error}
-use Rattle.sled_nodes.specs.declared.error.Error.TheVariants.{CollectionNotFound, Unsupported, ReportableBug, Io, Corruption, NoMemory, Closed}
+use Rattle.sled_nodes.specs.declared.error.Error.TheVariants.{ReportableBug, Io, NoMemory}
 use Rattle.sled_model.specs.Maps.{Map, Merge}
 use Rattle.sled_model.specs.State.{NamedTree}
-use Rattle.sled_model.specs.Refusal.{MustRefuse, IsClosed, IsForeign, IsDropped, HasNoOperator, is_number, must_refuse_of, tells}
+use Rattle.sled_model.specs.Refusal.{MustRefuse, is_number, must_refuse_of}
 use Rattle.sled_model.specs.declared.tree.Tree.{Tree}
 use Rattle.tree_laws.specs.Contents.{pairs_under}
 use Rattle.tree_reads.specs.Walk.{RefusesWalk, refuses_walk_as, GivesUp, gives_up_as}
@@ -25,6 +25,7 @@ use Rattle.sled.specs.Values.{DbValue, numbers_of, named, db_state}
 use Rattle.sled.specs.Sound.{IsDb}
 use Rattle.sled.specs.Calls.{MustBeRefused, must_be_refused_as}
 use Rattle.sled.specs.Reads.{ReadsMap, BeginsRange, RefusesReading, refuses_reading_as, stops_reading, RefusesRange, refuses_range_as, GivesUpGet, gives_up_get_as}
+use Rattle.sled.proofs.Testing.{untold_bug}
 use Rattle.sled.proofs.Trees.{current}
 
 -- what reads need of a database between two calls: a forest that shows its pages well formed, and that its pages were given
@@ -84,10 +85,7 @@ module _ {P M : Type 0} (store : P → Store) (meant : M → Merge) (d : DbValue
         go NoMemory k = tt
         go (Io fault) k = k
         go (ReportableBug text) k = (k.0, k.1 db.forest db.is.formed tree.name there)
-        go (CollectionNotFound name) k = absurd k
-        go (Unsupported text) k = absurd k
-        go (Corruption fault) k = absurd k
-        go Closed k = absurd k
+        go other k = absurd k
 
     pub gives_up : (key : Key) (e : Error) → GivesUp (now (store d.pages)) root (Included key) 0 e → GivesUpGet store meant d tree key e
     gives_up key e g = record { is = go e (g.is key refl) }
@@ -96,13 +94,8 @@ module _ {P M : Type 0} (store : P → Store) (meant : M → Merge) (d : DbValue
         at_zero n h = omega arith
 
         go : (e : Error) → gives_up_as (now (store d.pages)) root key 0 e → gives_up_get_as store meant d tree key e
-        go NoMemory k = tt
-        go (Io fault) k = tt
         go (ReportableBug text) k = λ path c. at_zero (length path) (k true path (subst (λ r. Rattle.tree_laws.specs.Paths.CleanFrom (nodes_of (now (store d.pages))) (Included key) r true path) (some_is (sym c.is_root ∙ there)) c.clean))
-        go (CollectionNotFound name) k = tt
-        go (Unsupported text) k = tt
-        go (Corruption fault) k = tt
-        go Closed k = tt
+        go other k = tt
 
     pub no_memory : RefusesRange store meant d tree NoMemory
     no_memory = record { is = subst (λ m. refuses_range_as store meant d tree m NoMemory) (sym tested) refl }
@@ -124,30 +117,9 @@ module _ {P M : Type 0} (store : P → Store) (meant : M → Merge) (d : DbValue
   pub must_give_up : (key : Key) (e : Error) → MustBeRefused (must_refuse_of (db_state store meant d) (tree ∷ [])) e → GivesUpGet store meant d tree key e
   must_give_up key e m = record { is = go (must_refuse_of (db_state store meant d) (tree ∷ [])) e m.is }
     where
-      apart : {X : Type 0} (text : Rattle.std.proofs.Common.Bor Key) → ReportableBug text ≡ Closed → X
-      apart text e = cc
-
-      no_name : {X : Type 0} (text : Rattle.std.proofs.Common.Bor Key) (name : Key) → ReportableBug text ≡ CollectionNotFound name → X
-      no_name text name e = cc
-
-      no_want : {X : Type 0} (text : Rattle.std.proofs.Common.Bor Key) → ReportableBug text ≡ NoMemory → X
-      no_want text e = cc
-
-      bug : (must : MustRefuse) (text : Rattle.std.proofs.Common.Bor Key) → tells must (ReportableBug text) → gives_up_get_as store meant d tree key (ReportableBug text)
-      bug IsClosed text k = apart text k
-      bug IsForeign text k = absurd k
-      bug HasNoOperator text k = absurd k
-      bug (IsDropped name) text k = elim k [ inl a ↦ no_name text name a | inr a ↦ no_want text a ]
-
       go : (o : Option MustRefuse) (e : Error) → must_be_refused_as o e → gives_up_get_as store meant d tree key e
-      go None e k = absurd k
-      go (Some must) NoMemory k = tt
-      go (Some must) (Io fault) k = tt
-      go (Some must) (ReportableBug text) k = bug must text k
-      go (Some must) (CollectionNotFound name) k = tt
-      go (Some must) (Unsupported text) k = tt
-      go (Some must) (Corruption fault) k = tt
-      go (Some must) Closed k = tt
+      go o (ReportableBug text) k = absurd (untold_bug o text k)
+      go o other k = tt
 
   -- what follows of a map
   pub reads_more : (so more : Map → Type 0) → ((m : Map) → so m → more m) → ReadsMap store meant d tree so → ReadsMap store meant d tree more

@@ -342,11 +342,7 @@ module _ {P M : Type 0} (store : P → Store) (meant : M → Merge) (old : DbVal
       refused_as : (e : Error) → is_action_refused_as e (store old.pages) (store q) → refuses_drop_as store meant old name e q
       refused_as error.NoMemory t = (might, t)
       refused_as (error.Io fault) t = (might, t)
-      refused_as (error.CollectionNotFound text) t = absurd t
-      refused_as (error.Unsupported text) t = absurd t
-      refused_as (error.ReportableBug text) t = absurd t
-      refused_as (error.Corruption fault) t = absurd t
-      refused_as error.Closed t = absurd t
+      refused_as other t = absurd t
 
       pub refused_drop : (e : Error) → is_action_refused_as e (store old.pages) (store q) → RefusesDrop store meant old name e (record old { pages = q })
       refused_drop e t = let r = rests_refused e (store old.pages) (store q) t in record {
@@ -500,10 +496,7 @@ module _ {P M : Type 0} (store : P → Store) (meant : M → Merge) (old new : D
       at error.NoMemory k slots given = k
       at (error.Io fault) k slots given = k
       at (error.Unsupported text) k slots given = k
-      at (error.CollectionNotFound text) k slots given = absurd k
-      at (error.ReportableBug text) k slots given = absurd k
-      at (error.Corruption fault) k slots given = absurd k
-      at error.Closed k slots given = absurd k
+      at other k slots given = absurd k
 
   there_is : MightDrop store meant old name → (db_state store meant old).trees name ≢ None
   there_is m none = none_some (sym none ∙ m.there)

@@ -32,23 +32,14 @@ pub rests_faulted : {a b : Store} (n : ℕ) → b ≡ record a { faults = n } �
 rests_faulted n e = record { base = ap (λ (s : Store). s.base) e; recent = ap (λ (s : Store). s.recent) e; actions = ap (λ (s : Store). s.actions) e; mark = ap (λ (s : Store). s.mark) e; pids = ap (λ (s : Store). s.pids) e; versions = ap (λ (s : Store). s.versions) e }
 
 pub rests_only_faults : (e : Error) (a b : Store) → only_faults e a b → Rests a b
-rests_only_faults error.NoMemory a b t = rests_same t
 rests_only_faults (error.Io fault) a b t = rests_faulted (a.faults + 1) t
-rests_only_faults (error.CollectionNotFound name) a b t = rests_same t
-rests_only_faults (error.Unsupported text) a b t = rests_same t
-rests_only_faults (error.ReportableBug text) a b t = rests_same t
-rests_only_faults (error.Corruption fault) a b t = rests_same t
-rests_only_faults error.Closed a b t = rests_same t
+rests_only_faults other a b t = rests_same t
 
 pub rests_refused : (e : Error) (a b : Store) → is_action_refused_as e a b → Rests a b
 rests_refused error.NoMemory a b t = rests_same t
 rests_refused (error.Io fault) a b (inl t) = rests_faulted (a.faults + 1) t
 rests_refused (error.Io fault) a b (inr (t, p)) = rests_same t
-rests_refused (error.CollectionNotFound name) a b t = absurd t
-rests_refused (error.Unsupported text) a b t = absurd t
-rests_refused (error.ReportableBug text) a b t = absurd t
-rests_refused (error.Corruption fault) a b t = absurd t
-rests_refused error.Closed a b t = absurd t
+rests_refused other a b t = absurd t
 
 module _ {a b : Store} (r : Rests a b) where
   pub now_rests : now b ≡ now a

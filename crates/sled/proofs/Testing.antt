@@ -1,13 +1,18 @@
 -- The tests that come before a call.
-use Rattle.std.proofs.Common.{◌≡◌, Bool, true, false, not, ◌&&◌, cond, [], ◌∷◌, Option, Some, None, refl, sym, ap, ◌∙◌}
+use Rattle.std.proofs.Common.{◌≡◌, Bool, true, false, not, ◌&&◌, cond, [], ◌∷◌, Option, Some, None, Bor, refl, sym, ap, ◌∙◌, subst, inl, inr}
 use Rattle.sled_nodes.proofs.Basics.{none_some, not_true}
+use Rattle.sled_nodes.specs.Order.{Key}
+use Rattle.sled_nodes.specs.declared.error.Error.{Error}
+use Rattle.sled_nodes.specs.declared.error.Error.TheVariants as error
+use Rattle.sled_nodes.specs.declared.error.Fault.{Fault}
 use Rattle.sled_store.specs.Store.{Store, now}
 use Rattle.sled_model.specs.Maps.{Merge}
 use Rattle.sled_model.specs.State.{State}
-use Rattle.sled_model.specs.Refusal.{MustRefuse, IsClosed, HasNoOperator, first_of, must_refuse_of, must_refuse, operator_test, needs_operator, has_operator, foreign_test, dropped_test, ToPoint, ToCall}
+use Rattle.sled_model.specs.Refusal.{MustRefuse, IsClosed, IsDropped, HasNoOperator, TellsTurns, first_of, must_refuse_of, must_refuse, operator_test, needs_operator, has_operator, foreign_test, dropped_test, ToPoint, ToCall}
 use Rattle.sled_model.specs.declared.call.Call.{Call}
 use Rattle.sled_model.specs.declared.call.Whole.TheVariants.{Flush}
 use Rattle.sled_model.specs.declared.tree.Tree.{Tree}
+use Rattle.sled.specs.Calls.{must_be_refused_as}
 use Rattle.sled.specs.Values.{DbValue, db_state}
 
 pub first_alone : (a : Option MustRefuse) → first_of a None ≡ a
@@ -52,6 +57,27 @@ tested_open s t e = go s.is_open (first_of (foreign_test s.name (t ∷ [])) (dro
     go : (b : Bool) (later : Option MustRefuse) → first_of (cond b None (Some IsClosed)) later ≡ None → b ≡ true
     go true later e = refl
     go false later e = none_some (sym e)
+
+-- no test tells a bug, or that turns are used up
+pub untold_bug : (o : Option MustRefuse) (text : Bor Key) → must_be_refused_as o (error.ReportableBug text) → ⊥
+untold_bug (Some IsClosed) text t = cc
+untold_bug (Some (IsDropped name)) text (inl t) = cc
+untold_bug (Some (IsDropped name)) text (inr t) = cc
+untold_bug other text t = t
+
+pub untold_turns : (o : Option MustRefuse) (e : Error) → must_be_refused_as o e → TellsTurns e → ⊥
+untold_turns o (error.ReportableBug text) t tells = untold_bug o text t
+untold_turns o other t tells = tells
+
+-- .. or a fault
+pub untold_fault : (o : Option MustRefuse) (e : Error) → must_be_refused_as o e → (fault : Fault) → e ≡ error.Io fault → ⊥
+untold_fault o e t fault is = go o (subst (must_be_refused_as o) is t)
+  where
+    go : (o : Option MustRefuse) → must_be_refused_as o (error.Io fault) → ⊥
+    go (Some IsClosed) t = cc
+    go (Some (IsDropped name)) (inl t) = cc
+    go (Some (IsDropped name)) (inr t) = cc
+    go other t = t
 
 module _ {P M : Type 0} (store : P → Store) (meant : M → Merge) (old : DbValue P M) where
   -- .. and so no group is open

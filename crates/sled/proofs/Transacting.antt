@@ -9,7 +9,7 @@ use Rattle.std.specs.Str.{bytes_eq}
 use Rattle.sled_nodes.proofs.Basics.{none_some, some_is}
 use Rattle.sled_nodes.specs.Order.{Key, key_cmp}
 use Rattle.sled_nodes.specs.declared.error.Error.{Error}
-use Rattle.sled_nodes.specs.declared.error.Error.TheVariants.{CollectionNotFound, Unsupported, ReportableBug, Io, Corruption, NoMemory, Closed}
+use Rattle.sled_nodes.specs.declared.error.Error.TheVariants.{NoMemory}
 use Rattle.sled_batch.specs.Batch.{Writes}
 use Rattle.sled_store.specs.State.{State}
 use Rattle.sled_store.specs.Store.{Store, now}
@@ -176,12 +176,7 @@ root_at roots_of trees roots position tree root are tree_is root_is = some_is (
 -- a walk is refused for the same causes over pages that mean the same
 refuses_same : (of : ℕ → ℕ) (s : Store) (mark faults root : ℕ) (e : Error) → refuses_walk_as of (record s { mark = mark; faults = faults }) root e → refuses_walk_as of s root e
 refuses_same of s mark faults root NoMemory h = h
-refuses_same of s mark faults root (Io fault) h = h
-refuses_same of s mark faults root (ReportableBug text) h = h
-refuses_same of s mark faults root (CollectionNotFound name) h = h
-refuses_same of s mark faults root (Unsupported text) h = h
-refuses_same of s mark faults root (Corruption fault) h = h
-refuses_same of s mark faults root Closed h = h
+refuses_same of s mark faults root other h = h
 
 -- a cause that follows from another
 refused_by : (why so : Error → Type 0) → ((e : Error) → why e → so e) → (e : UnabortableTransactionError) → is_storage why e → is_storage so e

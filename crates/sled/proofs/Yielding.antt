@@ -3,7 +3,7 @@ use Rattle.std.proofs.Common.{◌≡◌, ℕ, ◌+◌, ◌<◌, Bool, true, fals
 use Rattle.std.specs.FinMap.Entries.{find}
 use Rattle.std.specs.Ordering.{nat_cmp}
 use Rattle.std.specs.declared.ops.Bound.{Bound}
-use Rattle.std.specs.declared.ops.Bound.TheVariants.{Included, Excluded, Unbounded}
+use Rattle.std.specs.declared.ops.Bound.TheVariants.{Included}
 use Rattle.sled_nodes.proofs.Basics.{none_some, some_is, true_false}
 use Rattle.sled_nodes.specs.Order.{Key}
 use Rattle.sled_nodes.specs.Node.{pairs}
@@ -18,7 +18,7 @@ use Rattle.sled_model.specs.State.{CallInFlight, NamedTree, IsOnKey, range_of}
 use Rattle.sled_model.specs.Scan.{Reads, is_read}
 use Rattle.sled_model.specs.Refusal.{must_refuse, ToStep, turns_limit}
 use Rattle.sled_model.specs.declared.call.Call.{Call}
-use Rattle.sled_model.specs.declared.call.Call.TheVariants.{Get, Insert, Remove, CompareAndSwap, Scan}
+use Rattle.sled_model.specs.declared.call.Call.TheVariants.{Scan}
 use Rattle.sled_model.specs.declared.call.Call.TheVariants as call
 use Rattle.sled_model.specs.declared.event.Event.{Event}
 use Rattle.sled_model.specs.declared.reply.Reply.{Reply}
@@ -70,27 +70,18 @@ off_key call range scan on_key = none_some (sym on_key ∙ scan)
 
 -- what a scan answers on any map: it changes nothing
 scan_answers : (op : Option Merge) (map : Map) (call : Call) (range : Range) → range_of call ≡ Some range → answer_of op call map ≡ record { map = map; reply = End; event = None }
-scan_answers op map (Get k) range scan = none_some scan
-scan_answers op map (Insert k v) range scan = none_some scan
-scan_answers op map (Remove k) range scan = none_some scan
-scan_answers op map (CompareAndSwap k a b) range scan = none_some scan
-scan_answers op map (call.Merge k bytes) range scan = none_some scan
 scan_answers op map (Scan lo hi back) range scan = refl
+scan_answers op map other range scan = none_some scan
 
 -- a walk of a scan aims at where it goes on
 start_is : (lo : Bound Key) → scanning.IsStart lo (start_of lo)
 start_is (Included k) = refl
-start_is (Excluded k) = refl
-start_is Unbounded = refl
+start_is other = refl
 
 first_starts : (call : Call) (range : Range) → range_of call ≡ Some range → scanning.starts_as range.back range.lo range.hi (first_aim call)
-first_starts (Get k) range scan = none_some scan
-first_starts (Insert k v) range scan = none_some scan
-first_starts (Remove k) range scan = none_some scan
-first_starts (CompareAndSwap k a b) range scan = none_some scan
-first_starts (call.Merge k bytes) range scan = none_some scan
 first_starts (Scan lo hi false) range scan = subst (λ (r : Range). scanning.starts_as r.back r.lo r.hi (Included (start_of lo))) (some_is scan) (start_of lo, refl, start_is lo)
 first_starts (Scan lo hi true) range scan = subst (λ (r : Range). scanning.starts_as r.back r.lo r.hi hi) (some_is scan) refl
+first_starts other range scan = none_some scan
 
 from_starts : (j : Job) (aim : Aim) (range : Range) → range_of j.call ≡ Some range → IsAimed (course j aim) → scanning.starts_as (range_from aim range).back (range_from aim range).lo (range_from aim range).hi (aim_of j aim)
 from_starts j Own range scan aimed = first_starts j.call range scan

@@ -59,10 +59,8 @@ next_of (Refused e) g = next.Refused e
 
 -- the maps that the step added
 abbrev pub maps_added : Went → Maps → List Maps
-maps_added Moved maps = []
-maps_added (Yielded key value) maps = []
 maps_added (Decided reply) maps = maps ∷ []
-maps_added (Refused e) maps = []
+maps_added other maps = []
 
 -- the step was decided, and brings this event, or none
 pub record BringsEvent {P M : Type 0} (store : P → Store) (meant : M → Merge) (old : DbValue P M) (f : InFlight) (went : Went) (event : Option Event) : Type 0 where
@@ -95,10 +93,8 @@ effect_of_step (Refused e) old new = IsStepRefused e old new
 
 -- a step fills the queues where it decides the call, and else leaves them as they are. It gives no subscriber a number
 abbrev pub keeps_queues : Went → QueuesValue → QueuesValue → Type 0
-keeps_queues Moved old new = Becomes (queue_at old) old.given new
-keeps_queues (Yielded key value) old new = Becomes (queue_at old) old.given new
 keeps_queues (Decided reply) old new = new.given ≡ old.given
-keeps_queues (Refused e) old new = Becomes (queue_at old) old.given new
+keeps_queues other old new = Becomes (queue_at old) old.given new
 
 -- One step of a call in flight: in whatever slot the call is, the machine makes this step; what a crash may leave grows by the map
 -- after the call, if it was decided; and nothing of the database changes but its pages and its queues
@@ -175,10 +171,8 @@ pub data DbSteps {P M : Type 0} (store : P → Store) (meant : M → Merge) : �
 
 -- the call was not refused for its turns
 abbrev pub has_turns : Went → Type 0
-has_turns Moved = Unit {0}
-has_turns (Yielded key value) = Unit {0}
-has_turns (Decided reply) = Unit {0}
 has_turns (Refused e) = TellsTurns e → ⊥
+has_turns other = Unit {0}
 
 -- the call went on at most once for each page of the path, and was not refused for its turns
 pub record TakesAtMost (moves : ℕ) (went : Went) (path : List ℕ) : Type 0 where

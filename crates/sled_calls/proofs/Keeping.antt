@@ -66,41 +66,27 @@ light_done r e = subst (λ (z : Reply). light_of z ≡ z) (sym e) refl
 
 decided_light : (w : Whole) → IsLight w → (old : Configuration) (reply : Reply) (new : State) (maps : List Maps) → WholeDecides old w reply new maps → light_copies (outcome.Decided reply) ≡ kept_of_whole w (outcome.Decided reply)
 decided_light Flush on old reply new maps d = copies_are reply (light_number reply _ d.1)
-decided_light (PopMin tree) on old reply new maps d = absurd on
-decided_light (PopMax tree) on old reply new maps d = absurd on
-decided_light (Clear tree) on old reply new maps d = absurd on
 decided_light (Group batches) on old reply new maps d = copies_are reply (light_done reply d.replies)
-decided_light (OpenTree name) on old reply new maps d = absurd on
 decided_light (DropTree name) on old reply new maps d = copies_are reply (light_flag reply _ d.replies)
 decided_light GenerateId on old reply new maps d = copies_are reply (light_number reply _ d.replies)
-decided_light (Import collections) on old reply new maps d = absurd on
 decided_light (Watch tree prefix) on old reply new maps d = copies_are reply (light_subscriber reply _ d.1)
 decided_light (Next subscriber) on old reply new maps d = ap (λ (z : Reply). light_copies (outcome.Decided z)) d.1
 decided_light (Unsubscribe subscriber) on old reply new maps d = copies_are reply (light_done reply d.0)
+decided_light other on old reply new maps d = absurd on
 
 light_is : (w : Whole) → IsLight w → (o : Outcome) (old new : Configuration) (maps : List Maps) → transition_as old (step.Whole w) o new maps → light_copies o ≡ kept_of_whole w o
 light_is w on (outcome.Decided reply) old new maps t = decided_light w on old reply new.state maps t
 light_is w on (outcome.Refused e) old new maps t = none_kept w e
-light_is w on (outcome.Begun slot) old new maps t = absurd t
-light_is w on outcome.Moved old new maps t = absurd t
-light_is w on (outcome.Yielded key value) old new maps t = absurd t
-light_is w on outcome.Abandoned old new maps t = absurd t
-light_is w on outcome.NoSuchSlot old new maps t = absurd t
+light_is w on other old new maps t = absurd t
 
 -- a call that is no pop, no clear, no opening and no import
 pub is_light : (w : Whole) → ((tree : _) → w ≢ PopMin tree) → ((tree : _) → w ≢ PopMax tree) → ((tree : _) → w ≢ Clear tree) → ((name : _) → w ≢ OpenTree name) → ((collections : _) → w ≢ Import collections) → IsLight w
-is_light Flush a b c d f = tt
 is_light (PopMin tree) a b c d f = absurd (a tree refl)
 is_light (PopMax tree) a b c d f = absurd (b tree refl)
 is_light (Clear tree) a b c d f = absurd (c tree refl)
-is_light (Group batches) a b c d f = tt
 is_light (OpenTree name) a b c d f = absurd (d name refl)
-is_light (DropTree name) a b c d f = tt
-is_light GenerateId a b c d f = tt
 is_light (Import collections) a b c d f = absurd (f collections refl)
-is_light (Watch tree prefix) a b c d f = tt
-is_light (Next subscriber) a b c d f = tt
-is_light (Unsubscribe subscriber) a b c d f = tt
+is_light other a b c d f = tt
 
 module _ {P M : Type 0} (store : P → Store) (number : P → ℕ) (meant : M → Merge) where
   counts_none : (old new : DbValue P M) (w : Whole) → IsLight w → (o : Outcome) → counts_as store meant old w o 0 new

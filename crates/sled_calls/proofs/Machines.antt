@@ -15,7 +15,7 @@ use Rattle.sled_model.specs.Refusal.{MustRefuse, MayRefuse, must_refuse, may_ref
 use Rattle.sled_model.specs.Transition.{Transition}
 use Rattle.sled_model.specs.declared.event.Event.{Event}
 use Rattle.sled_model.specs.declared.call.Call.{Call}
-use Rattle.sled_model.specs.declared.call.Call.TheVariants.{Get, Insert, Remove, CompareAndSwap, Scan}
+use Rattle.sled_model.specs.declared.call.Call.TheVariants.{Get}
 use Rattle.sled_model.specs.declared.call.Call.TheVariants as call
 use Rattle.sled_model.specs.declared.call.Whole.TheVariants.{Flush}
 use Rattle.sled_model.specs.declared.tree.Tree.{Tree}
@@ -89,11 +89,7 @@ other_or_new fs gs slot x e j f there = elim (same_or_not j slot) [
 -- a call that begins has nothing that waits, and all of its range to read
 begun_flying : (tree : Tree) (call : Call) → call_in_flight_of (record { job = record { tree = tree; call = call }; aim = Own; stage = Root; turns = 0 }) ≡ call_begun tree call
 begun_flying tree (Get key) = refl
-begun_flying tree (Insert key value) = refl
-begun_flying tree (Remove key) = refl
-begun_flying tree (CompareAndSwap key old new) = refl
-begun_flying tree (call.Merge key bytes) = refl
-begun_flying tree (Scan lo hi back) = refl
+begun_flying tree other = refl
 
 module _ {P M : Type 0} (store : P → Store) (number : P → ℕ) (meant : M → Merge) (v : MachineValue P M) (im : IsMachine (snapshot_of_db store v.db) v.flights v.slots_given) where
   -- a step that leaves the store, the maps and the other slots as they are

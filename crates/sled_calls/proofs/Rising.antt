@@ -75,15 +75,7 @@ one_given low high (told.Number id) r h = let e = number_is r in (omega arith, o
   where
     number_is : told.Number id ≡ told.Number (low + 1) → id ≡ low + 1
     number_is e = cc
-one_given low high (told.Value v) r h = omega arith
-one_given low high (told.Swapped v) r h = omega arith
-one_given low high told.Done r h = omega arith
-one_given low high (told.Pair p) r h = omega arith
-one_given low high (told.Tree t) r h = omega arith
-one_given low high (told.Flag b) r h = omega arith
-one_given low high (told.Subscriber s) r h = omega arith
-one_given low high (told.Next n) r h = omega arith
-one_given low high told.End r h = omega arith
+one_given low high other r h = omega arith
 
 whole_rises : (a b : Configuration) (w : Whole) (o : Outcome) (maps : List Maps) → transition_as a (step.Whole w) o b maps → RiseBetween a.state.greatest_id (id_of (step.Whole w) o) b.state.greatest_id
 whole_rises a b Flush (outcome.Decided reply) maps t = stays a.state b.state t.2
@@ -98,53 +90,32 @@ whole_rises a b (Import collections) (outcome.Decided reply) maps t = at_most _ 
 whole_rises a b (Watch tree prefix) (outcome.Decided reply) maps t = at_most _ _ (ap (λ (s : State). s.greatest_id) t.2.is)
 whole_rises a b (Next subscriber) (outcome.Decided reply) maps t = at_most _ _ (ap (λ (s : State). s.greatest_id) t.2.is)
 whole_rises a b (Unsubscribe subscriber) (outcome.Decided reply) maps t = at_most _ _ (ap (λ (s : State). s.greatest_id) t.1.is)
-whole_rises a b Flush (outcome.Refused e) maps t = stays a.state b.state t.1
-whole_rises a b (PopMin tree) (outcome.Refused e) maps t = stays a.state b.state t.1
-whole_rises a b (PopMax tree) (outcome.Refused e) maps t = stays a.state b.state t.1
 whole_rises a b (Clear tree) (outcome.Refused e) maps t = at_most _ _ (removed tree a.state b.state t.parts maps t.removes)
 whole_rises a b (Group batches) (outcome.Refused e) maps t = elim t.is [
   | inl same ↦ stays a.state b.state same
   | inr closed ↦ at_most _ _ (ap (λ (s : State). s.greatest_id) closed.1.is)
 ]
-whole_rises a b (OpenTree name) (outcome.Refused e) maps t = stays a.state b.state t.1
-whole_rises a b (DropTree name) (outcome.Refused e) maps t = stays a.state b.state t.1
-whole_rises a b GenerateId (outcome.Refused e) maps t = stays a.state b.state t.1
 whole_rises a b (Import collections) (outcome.Refused e) maps t = elim t.is [
   | inl none ↦ stays a.state b.state none.1
   | inr parts ↦ at_most _ _ (parts_done parts.1.does)
 ]
-whole_rises a b (Watch tree prefix) (outcome.Refused e) maps t = stays a.state b.state t.1
 whole_rises a b (Next subscriber) (outcome.Refused e) maps t = absurd t
 whole_rises a b (Unsubscribe subscriber) (outcome.Refused e) maps t = absurd t
-whole_rises a b w (outcome.Begun slot) maps t = absurd t
-whole_rises a b w outcome.Moved maps t = absurd t
-whole_rises a b w (outcome.Yielded key value) maps t = absurd t
-whole_rises a b w outcome.Abandoned maps t = absurd t
-whole_rises a b w outcome.NoSuchSlot maps t = absurd t
+whole_rises a b other (outcome.Refused e) maps t = stays a.state b.state t.1
+whole_rises a b w other maps t = absurd t
 
 pub step_rises : (a b : Configuration) (s : Step) (o : Outcome) (maps : List Maps) → transition_as a s o b maps → RiseBetween a.state.greatest_id (id_of s o) b.state.greatest_id
 step_rises a b (step.Whole w) o maps t = whole_rises a b w o maps t
 step_rises a b (step.Begin tree call) (outcome.Begun slot) maps t = at_most _ _ (ap (λ (s : State). s.greatest_id) t.0.is)
 step_rises a b (step.Begin tree call) (outcome.Refused e) maps t = stays a.state b.state t.1
-step_rises a b (step.Begin tree call) outcome.Moved maps t = absurd t
-step_rises a b (step.Begin tree call) (outcome.Yielded key value) maps t = absurd t
-step_rises a b (step.Begin tree call) (outcome.Decided reply) maps t = absurd t
-step_rises a b (step.Begin tree call) outcome.Abandoned maps t = absurd t
-step_rises a b (step.Begin tree call) outcome.NoSuchSlot maps t = absurd t
+step_rises a b (step.Begin tree call) other maps t = absurd t
 step_rises a b (step.Step slot) outcome.NoSuchSlot maps t = stays a.state b.state t.0.is
-step_rises a b (step.Step slot) outcome.Moved maps t = at_most _ _ (ap (λ (s : State). s.greatest_id) t.0.is)
-step_rises a b (step.Step slot) (outcome.Yielded key value) maps t = at_most _ _ (ap (λ (s : State). s.greatest_id) t.0.is)
-step_rises a b (step.Step slot) (outcome.Decided reply) maps t = at_most _ _ (ap (λ (s : State). s.greatest_id) t.0.is)
-step_rises a b (step.Step slot) (outcome.Refused e) maps t = at_most _ _ (ap (λ (s : State). s.greatest_id) t.0.is)
 step_rises a b (step.Step slot) (outcome.Begun i) maps t = absurd t
 step_rises a b (step.Step slot) outcome.Abandoned maps t = absurd t
+step_rises a b (step.Step slot) other maps t = at_most _ _ (ap (λ (s : State). s.greatest_id) t.0.is)
 step_rises a b (step.Abandon slot) outcome.NoSuchSlot maps t = stays a.state b.state t.0.is
 step_rises a b (step.Abandon slot) outcome.Abandoned maps t = at_most _ _ (ap (λ (s : State). s.greatest_id) t.0.is)
-step_rises a b (step.Abandon slot) (outcome.Begun i) maps t = absurd t
-step_rises a b (step.Abandon slot) outcome.Moved maps t = absurd t
-step_rises a b (step.Abandon slot) (outcome.Yielded key value) maps t = absurd t
-step_rises a b (step.Abandon slot) (outcome.Decided reply) maps t = absurd t
-step_rises a b (step.Abandon slot) (outcome.Refused e) maps t = absurd t
+step_rises a b (step.Abandon slot) other maps t = absurd t
 
 -- two lists one after the other
 pub rise_on : (low mid high : ℕ) (xs ys : List ℕ) → RiseBetween low xs mid → RiseBetween mid ys high → RiseBetween low (xs ++ ys) high

@@ -5,7 +5,7 @@ use Rattle.sled_store.specs.Store.{Store}
 use Rattle.sled_nodes.specs.declared.error.Error.{Error}
 use Rattle.sled_model.specs.Maps.{Maps, Merge}
 use Rattle.sled_model.specs.State.{maps_of}
-use Rattle.sled_model.specs.Transition.{Kind, Flushing, Telling, Changing, Grouping, InParts, Dropping, Listening, kind_of}
+use Rattle.sled_model.specs.Transition.{Kind, Flushing, kind_of}
 use Rattle.sled_model.specs.declared.call.Whole.{Whole}
 use Rattle.sled_model.specs.declared.call.Whole.TheVariants.{Flush, Group}
 use Rattle.sled_model.specs.declared.reply.Reply.{Reply}
@@ -26,12 +26,7 @@ use Rattle.sled_calls.proofs.Runs.{extended}
 -- a kind of whole calls that is not the flush
 abbrev pub IsOther : Kind → Type 0
 IsOther Flushing = ⊥
-IsOther Telling = Unit {0}
-IsOther Changing = Unit {0}
-IsOther Grouping = Unit {0}
-IsOther InParts = Unit {0}
-IsOther Dropping = Unit {0}
-IsOther Listening = Unit {0}
+IsOther other = Unit {0}
 
 kept_other : (w : Whole) → IsOther (kind_of w) → (reply : Reply) (added : List Maps) (after : Maps) (kept : List Maps) → crash_maps_after (step.Whole w) (outcome.Decided reply) added after kept ≡ kept ++ added
 kept_other Flush off reply added after kept = absurd off
@@ -43,21 +38,11 @@ kept_refused other e added after kept = refl
 
 loses_other : (k : Kind) → IsOther k → (lost : Option Key) (a b : Snapshot) → KeepsOrFreesTreePages lost a b → whole_keeps_tree_pages k lost a b
 loses_other Flushing off lost a b l = absurd off
-loses_other Telling off lost a b l = l
-loses_other Changing off lost a b l = l
-loses_other Grouping off lost a b l = l
-loses_other InParts off lost a b l = l
-loses_other Dropping off lost a b l = l
-loses_other Listening off lost a b l = l
+loses_other other off lost a b l = l
 
 tested_other : (k : Kind) → IsOther k → (T : Type 0) → T → whole_tested k T
 tested_other Flushing off T t = absurd off
-tested_other Telling off T t = t
-tested_other Changing off T t = t
-tested_other Grouping off T t = t
-tested_other InParts off T t = t
-tested_other Dropping off T t = t
-tested_other Listening off T t = t
+tested_other other off T t = t
 
 module _ {P M : Type 0} (store : P → Store) (number : P → ℕ) (meant : M → Merge) (v : MachineValue P M) (w : Whole) (off : IsOther (kind_of w)) (db : DbValue P M) where
   decided : (reply : Reply) → WholeDecided store meant v.db w reply db → way_of_whole store meant v.db w (outcome.Decided reply) db → MachineStepContract store number meant v (step.Whole w) (outcome.Decided reply) (record v { db = db })

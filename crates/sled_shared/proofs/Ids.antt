@@ -8,7 +8,7 @@ use Rattle.sled_model.specs.State.{CallInFlight, range_of}
 use Rattle.sled_model.specs.Transition.{transition_as}
 use Rattle.sled_model.specs.declared.call.Call.{Call}
 use Rattle.sled_model.specs.declared.call.Whole.{Whole}
-use Rattle.sled_model.specs.declared.call.Whole.TheVariants.{Flush, PopMin, PopMax, Clear, Group, OpenTree, DropTree, GenerateId, Import, Watch, Next, Unsubscribe}
+use Rattle.sled_model.specs.declared.call.Whole.TheVariants.{Flush, GenerateId}
 use Rattle.sled_model.specs.declared.tree.Tree.{Tree}
 use Rattle.sled_model.specs.declared.reply.Reply.{Reply}
 use Rattle.sled_model.specs.declared.reply.Reply.TheVariants as told
@@ -45,37 +45,12 @@ none_as n (Some range) tree call reply = refl
 
 none_in : (n : ℕ) (o : Outcome) (slot : Option CallInFlight) → ids_made (entries_of n (noted_in o slot)) ≡ []
 none_in n (outcome.Decided reply) (Some f) = none_as n (range_of f.call) f.tree f.call reply
-none_in n (outcome.Decided reply) None = refl
-none_in n (outcome.Begun slot) s = refl
-none_in n outcome.Moved s = refl
-none_in n (outcome.Yielded key value) s = refl
-none_in n (outcome.Refused e) s = refl
-none_in n outcome.Abandoned s = refl
-none_in n outcome.NoSuchSlot s = refl
+none_in n other s = refl
 
 -- a whole call is noted with the id that it gives
 decided_ids : (n : ℕ) (w : Whole) (reply : Reply) (k : ℕ) → ids_made (entries_of n (noted_whole w (outcome.Decided reply) k)) ≡ id_of (step.Whole w) (outcome.Decided reply)
-decided_ids n Flush reply k = refl
-decided_ids n (PopMin tree) reply k = refl
-decided_ids n (PopMax tree) reply k = refl
-decided_ids n (Clear tree) reply k = refl
-decided_ids n (Group batches) reply k = refl
-decided_ids n (OpenTree name) reply k = refl
-decided_ids n (DropTree name) reply k = refl
 decided_ids n GenerateId (told.Number id) k = refl
-decided_ids n GenerateId (told.Value v) k = refl
-decided_ids n GenerateId (told.Swapped v) k = refl
-decided_ids n GenerateId told.Done k = refl
-decided_ids n GenerateId (told.Pair p) k = refl
-decided_ids n GenerateId (told.Tree t) k = refl
-decided_ids n GenerateId (told.Flag b) k = refl
-decided_ids n GenerateId (told.Subscriber s) k = refl
-decided_ids n GenerateId (told.Next x) k = refl
-decided_ids n GenerateId told.End k = refl
-decided_ids n (Import collections) reply k = refl
-decided_ids n (Watch tree prefix) reply k = refl
-decided_ids n (Next subscriber) reply k = refl
-decided_ids n (Unsubscribe subscriber) reply k = refl
+decided_ids n other reply k = refl
 
 -- .. and one that is refused with none
 parts_ids : (n : ℕ) (v : WholeValue) (k : ℕ) → ids_made (entries_of n (noted_with v None k)) ≡ []
@@ -84,17 +59,7 @@ parts_ids n v (suc k) = refl
 
 refused_ids : (n : ℕ) (w : Whole) (x : Error) (k : ℕ) → ids_made (entries_of n (noted_whole w (outcome.Refused x) k)) ≡ id_of (step.Whole w) (outcome.Refused x)
 refused_ids n Flush x k = parts_ids n (whole_value Flush) k
-refused_ids n (PopMin tree) x k = parts_ids n (whole_value (PopMin tree)) k
-refused_ids n (PopMax tree) x k = parts_ids n (whole_value (PopMax tree)) k
-refused_ids n (Clear tree) x k = parts_ids n (whole_value (Clear tree)) k
-refused_ids n (Group batches) x k = parts_ids n (whole_value (Group batches)) k
-refused_ids n (OpenTree name) x k = parts_ids n (whole_value (OpenTree name)) k
-refused_ids n (DropTree name) x k = parts_ids n (whole_value (DropTree name)) k
-refused_ids n GenerateId x k = parts_ids n (whole_value GenerateId) k
-refused_ids n (Import collections) x k = parts_ids n (whole_value (Import collections)) k
-refused_ids n (Watch tree prefix) x k = parts_ids n (whole_value (Watch tree prefix)) k
-refused_ids n (Next subscriber) x k = parts_ids n (whole_value (Next subscriber)) k
-refused_ids n (Unsubscribe subscriber) x k = parts_ids n (whole_value (Unsubscribe subscriber)) k
+refused_ids n other x k = parts_ids n (whole_value other) k
 
 module _ {P M : Type 0} (store : P → Store) (number : P → ℕ) (meant : M → Merge) (a b : MachineValue P M) where
   -- a step of a slot, a begin and the end of a call
@@ -126,11 +91,7 @@ module _ {P M : Type 0} (store : P → Store) (number : P → ℕ) (meant : M �
       (step_rises (configuration_of store number meant a) (configuration_of store number meant b) (step.Whole w) (outcome.Decided reply) maps t)
   came_risen n w (outcome.Refused x) maps k t = subst (λ l. RiseBetween a.db.greatest_id l b.db.greatest_id) (sym (refused_ids n w x k))
       (step_rises (configuration_of store number meant a) (configuration_of store number meant b) (step.Whole w) (outcome.Refused x) maps t)
-  came_risen n w (outcome.Begun i) maps k t = absurd t
-  came_risen n w outcome.Moved maps k t = absurd t
-  came_risen n w (outcome.Yielded key value) maps k t = absurd t
-  came_risen n w outcome.NoSuchSlot maps k t = absurd t
-  came_risen n w outcome.Abandoned maps k t = absurd t
+  came_risen n w other maps k t = absurd t
 
   noted_risen : (n : ℕ) (w : Whole) (r : Outcome) (more : List MadeValue) → ComesToWhole store number meant a w r b more → RiseBetween a.db.greatest_id (ids_made (entries_of n more)) b.db.greatest_id
   noted_risen n w r more (inl d) = subst (λ l. RiseBetween a.db.greatest_id (ids_made (entries_of n l)) b.db.greatest_id) (sym d.notes) (came_risen n w r d.step.step.maps d.number d.step.step.step.is)

@@ -16,7 +16,7 @@ use Rattle.sled_model.specs.Collections.{Content}
 use Rattle.sled_model.specs.State.{State, NamedTree, maps_of, range_of}
 use Rattle.sled_model.specs.Transition.{transition_as, Decide}
 use Rattle.sled_model.specs.declared.call.Call.{Call}
-use Rattle.sled_model.specs.declared.call.Call.TheVariants.{Get, Insert, Remove, CompareAndSwap, Merge as Merges, Scan}
+use Rattle.sled_model.specs.declared.call.Call.TheVariants.{Merge as Merges, Scan}
 use Rattle.sled_model.specs.declared.decision.Decision.{Decision}
 use Rattle.sled_model.specs.declared.tree.Tree.{Tree}
 use Rattle.sled_model.specs.declared.reply.Reply.{Reply}
@@ -39,22 +39,14 @@ legal_end e (OneEntry x rest) h = OneEntry x (legal_end e rest h)
 
 -- a call comes to one of those things that it may come to
 comes : (merge : Option Merge) (c : Call) (value : Option Key) → comes_to c value (decision_of merge c value)
-comes merge (Get k) value = refl
-comes merge (Insert k v) value = refl
-comes merge (Remove k) value = refl
-comes merge (CompareAndSwap k old new) value = refl
 comes None (Merges k bytes) value = (None, refl)
 comes (Some merge) (Merges k bytes) value = (merge k value bytes, refl)
-comes merge (Scan lo hi back) value = refl
+comes merge other value = refl
 
 -- a scan changes no map
 scan_keeps : (call : Call) (r : Range) → range_of call ≡ Some r → (value : Option Key) (d : Decision) → comes_to call value d → (k : Key) (m : Map) → map_after d.effect k m ≡ m
-scan_keeps (Get key) r e value d c k m = none_some e
-scan_keeps (Insert key v) r e value d c k m = none_some e
-scan_keeps (Remove key) r e value d c k m = none_some e
-scan_keeps (CompareAndSwap key old new) r e value d c k m = none_some e
-scan_keeps (Merges key bytes) r e value d c k m = none_some e
 scan_keeps (Scan lo hi back) r e value d c k m = ap (λ (x : Decision). map_after x.effect k m) c
+scan_keeps other r e value d c k m = none_some e
 
 -- to put a map where it stands changes nothing
 put_same : (maps : Maps) (name : Key) (m : Map) → maps name ≡ Some m → put_name maps name (Some m) ≡ maps
@@ -125,13 +117,10 @@ module _ {P M : Type 0} (store : P → Store) (number : P → ℕ) (meant : M �
       → transition_as (configuration_of store number meant a) (step.Step slot) o (configuration_of store number meant b) maps
       → more ≡ history ++ entries_of n (noted_in o (slots_of a.flights slot))
       → (IsOpen store a → IsLegal (maps_from opening) history (maps_now store a)) → IsOpen store b → IsLegal (maps_from opening) more (maps_now store b)
-  stays_legal opening n slot outcome.NoSuchSlot maps history more t r h o = silent opening history more r (ap (λ (s : State). s.is_open) t.0.is) (ap maps_of t.0.is) h o
-  stays_legal opening n slot outcome.Moved maps history more t r h o = silent opening history more r (ap (λ (s : State). s.is_open) t.0.is) (ap maps_of t.0.is) h o
-  stays_legal opening n slot (outcome.Yielded key value) maps history more t r h o = silent opening history more r (ap (λ (s : State). s.is_open) t.0.is) (ap maps_of t.0.is) h o
-  stays_legal opening n slot (outcome.Refused x) maps history more t r h o = silent opening history more r (ap (λ (s : State). s.is_open) t.0.is) (ap maps_of t.0.is) h o
   stays_legal opening n slot (outcome.Decided reply) maps history more t r h o = decided opening n slot reply history more t.0 r h o (range_of t.0.flying.call) refl
   stays_legal opening n slot (outcome.Begun i) maps history more t r h o = absurd t
   stays_legal opening n slot outcome.Abandoned maps history more t r h o = absurd t
+  stays_legal opening n slot other maps history more t r h o = silent opening history more r (ap (λ (s : State). s.is_open) t.0.is) (ap maps_of t.0.is) h o
 
   -- what holds of a state after a begin,
   begun_legal : (opening : List Content) (history : List EntryValue) (tree : Tree) (call : Call) (i : ℕ) (maps : List Maps)
@@ -156,11 +145,7 @@ module _ {P M : Type 0} (store : P → Store) (number : P → ℕ) (meant : M �
       → (IsOpen store a → IsLegal (maps_from opening) history (maps_now store a)) → IsOpen store b → IsLegal (maps_from opening) history (maps_now store b)
   abandoned_legal opening history slot outcome.NoSuchSlot maps t h = quiet opening history (ap (λ (s : State). s.is_open) t.0.is) (ap maps_of t.0.is) h
   abandoned_legal opening history slot outcome.Abandoned maps t h = quiet opening history (ap (λ (s : State). s.is_open) t.0.is) (ap maps_of t.0.is) h
-  abandoned_legal opening history slot outcome.Moved maps t h = absurd t
-  abandoned_legal opening history slot (outcome.Yielded key value) maps t h = absurd t
-  abandoned_legal opening history slot (outcome.Refused x) maps t h = absurd t
-  abandoned_legal opening history slot (outcome.Decided reply) maps t h = absurd t
-  abandoned_legal opening history slot (outcome.Begun i) maps t h = absurd t
+  abandoned_legal opening history slot other maps t h = absurd t
 
   pub abandon_state : (opening : List Content) (history : List EntryValue) (total slot : ℕ) (o : Outcome)
       → MachineStepContract store number meant a (step.Abandon slot) o b → IsState store a opening history total → IsState store b opening history total

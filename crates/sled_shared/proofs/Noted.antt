@@ -27,12 +27,8 @@ use Rattle.sled_shared.specs.theory.Noting.{is_on_key_in}
 
 -- the reply of a scan is its end, and of no call on a key
 scan_ends : (merge : Option Merge) (call : Call) (value : Option Key) (r : Range) → range_of call ≡ Some r → (decision_of merge call value).reply ≡ told.End
-scan_ends merge (Get k) value r e = none_some e
-scan_ends merge (Insert k v) value r e = none_some e
-scan_ends merge (Remove k) value r e = none_some e
-scan_ends merge (CompareAndSwap k old new) value r e = none_some e
-scan_ends merge (Merges k bytes) value r e = none_some e
 scan_ends merge (Scan lo hi back) value r e = refl
+scan_ends merge other value r e = none_some e
 
 either_no_end : (b : Bool) (x y : Decision) → (x.reply ≡ told.End → ⊥) → (y.reply ≡ told.End → ⊥) → (cond b x y).reply ≡ told.End → ⊥
 either_no_end true x y f g h = f h
@@ -53,15 +49,7 @@ no_end merge (Scan lo hi back) value e h = none_some (sym e)
 -- a reply that is no end comes to the list
 adds_reply : (reply : Reply) (tree : Tree) (call : Call) (made more : List MadeValue) → reply ≢ told.End → more ≡ made ++ PointMade tree call reply ∷ [] → AddsReply reply made more
 adds_reply told.End tree call made more off e = absurd (off refl)
-adds_reply (told.Value v) tree call made more off e = (tree, call, e)
-adds_reply (told.Swapped v) tree call made more off e = (tree, call, e)
-adds_reply (told.Number v) tree call made more off e = (tree, call, e)
-adds_reply told.Done tree call made more off e = (tree, call, e)
-adds_reply (told.Pair v) tree call made more off e = (tree, call, e)
-adds_reply (told.Tree v) tree call made more off e = (tree, call, e)
-adds_reply (told.Flag v) tree call made more off e = (tree, call, e)
-adds_reply (told.Subscriber v) tree call made more off e = (tree, call, e)
-adds_reply (told.Next v) tree call made more off e = (tree, call, e)
+adds_reply other tree call made more off e = (tree, call, e)
 
 decided_adds : (old new : State) (slot : ℕ) (reply : Reply) (made more : List MadeValue) → Decide old slot reply new → more ≡ made ++ noted_in (outcome.Decided reply) (old.slots slot) → AddsReply reply made more
 decided_adds old new slot reply made more d e = go (range_of d.flying.call) refl
@@ -80,12 +68,9 @@ step_adds store number meant a b slot o made more s e = go o _ s.step.step.is e
   where
     go : (o : Outcome) (maps : List Maps) → transition_as (configuration_of store number meant a) (step.Step slot) o (configuration_of store number meant b) maps → more ≡ made ++ noted_in o (slots_of a.flights slot) → AddsStep o made more
     go (outcome.Decided reply) maps t e = decided_adds _ _ slot reply made more t.0 e
-    go outcome.Moved maps t e = e ∙ append-nil made
-    go (outcome.Yielded key value) maps t e = e ∙ append-nil made
-    go (outcome.Refused x) maps t e = e ∙ append-nil made
-    go outcome.NoSuchSlot maps t e = e ∙ append-nil made
     go outcome.Abandoned maps t e = absurd t
     go (outcome.Begun i) maps t e = absurd t
+    go other maps t e = e ∙ append-nil made
 
 -- where there was memory to make a call on a key it is one
 pub on_key_made : (made : Result Call Error) (call : Call) → IfOk made (λ it. it ≡ call) → IsOnKey call → IfOk made IsOnKey
@@ -100,9 +85,4 @@ not_noted_as (Some r) tree call reply e = refl
 pub not_noted : (o : Outcome) (slot : Option CallInFlight) → is_on_key_in slot ≡ false → [] ≡ noted_in o slot
 not_noted (outcome.Decided reply) None e = refl
 not_noted (outcome.Decided reply) (Some f) e = not_noted_as (range_of f.call) f.tree f.call reply e
-not_noted outcome.Moved slot e = refl
-not_noted (outcome.Yielded key value) slot e = refl
-not_noted (outcome.Refused x) slot e = refl
-not_noted outcome.NoSuchSlot slot e = refl
-not_noted outcome.Abandoned slot e = refl
-not_noted (outcome.Begun i) slot e = refl
+not_noted other slot e = refl

@@ -6,7 +6,7 @@ use Rattle.sled_store.specs.Store.{Store}
 use Rattle.sled_model.specs.Maps.{Maps, Merge}
 use Rattle.sled_model.specs.Transition.{Configuration, transition_as, kind_of, InParts}
 use Rattle.sled_model.specs.declared.call.Whole.{Whole}
-use Rattle.sled_model.specs.declared.call.Whole.TheVariants.{Flush, PopMin, PopMax, Clear, Group, OpenTree, DropTree, GenerateId, Import, Watch, Next, Unsubscribe}
+use Rattle.sled_model.specs.declared.call.Whole.TheVariants.{Clear, Import}
 use Rattle.sled_model.specs.declared.outcome.Outcome.{Outcome}
 use Rattle.sled_model.specs.declared.outcome.Outcome.TheVariants as outcome
 use Rattle.sled_model.specs.declared.outcome.Step.TheVariants as step
@@ -22,27 +22,14 @@ pub adds_refused : (w : Whole) (x : Error) (made : List MadeValue) → AddsWhole
 adds_refused w x made = record { answers = tt; number = 0; parts = λ h. refl; adds = sym (append-nil made) ∙ ap (λ k. made ++ noted_with (whole_value w) k 0) (sym (refused_kept w x)) }
 
 no_parts : {P M : Type 0} (store : P → Store) (meant : M → Merge) (a b : DbValue P M) (w : Whole) (o : Outcome) (n : ℕ) → counts_as store meant a w o n b → kind_of w ≢ InParts → n ≡ 0
-no_parts store meant a b Flush o n c h = c
-no_parts store meant a b (PopMin tree) o n c h = c
-no_parts store meant a b (PopMax tree) o n c h = c
 no_parts store meant a b (Clear tree) o n c h = absurd (h refl)
-no_parts store meant a b (Group batches) o n c h = c
-no_parts store meant a b (OpenTree name) o n c h = c
-no_parts store meant a b (DropTree name) o n c h = c
-no_parts store meant a b GenerateId o n c h = c
 no_parts store meant a b (Import collections) o n c h = absurd (h refl)
-no_parts store meant a b (Watch tree prefix) o n c h = c
-no_parts store meant a b (Next subscriber) o n c h = c
-no_parts store meant a b (Unsubscribe subscriber) o n c h = c
+no_parts store meant a b other o n c h = c
 
 answers : (a b : Configuration) (w : Whole) (o : Outcome) (maps : List Maps) → transition_as a (step.Whole w) o b maps → IsAnswer o
 answers a b w (outcome.Decided reply) maps t = tt
 answers a b w (outcome.Refused x) maps t = tt
-answers a b w (outcome.Begun i) maps t = absurd t
-answers a b w outcome.Moved maps t = absurd t
-answers a b w (outcome.Yielded key value) maps t = absurd t
-answers a b w outcome.NoSuchSlot maps t = absurd t
-answers a b w outcome.Abandoned maps t = absurd t
+answers a b w other maps t = absurd t
 
 came : {P M : Type 0} (store : P → Store) (number : P → ℕ) (meant : M → Merge) (a b : MachineValue P M) (w : Whole) (o : Outcome) (made noted : List MadeValue) → ComesToWhole store number meant a w o b noted → AddsWhole w o made (made ++ noted)
 came store number meant a b w o made noted (inl d) = record { answers = answers _ _ w o d.step.step.maps d.step.step.step.is; number = d.number; parts = no_parts store meant a.db b.db w o d.number d.counts.is; adds = ap (λ l. made ++ l) d.notes }

@@ -11,7 +11,7 @@ use Rattle.sled_model.specs.State.{State, maps_of}
 use Rattle.sled_model.specs.Transition.{transition_as, WholeDecides, WholeRefuses}
 use Rattle.sled_model.specs.Whole.{RemovesLeast, RemovesNone, RemovesOne}
 use Rattle.sled_model.specs.declared.call.Whole.{Whole}
-use Rattle.sled_model.specs.declared.call.Whole.TheVariants.{Flush, PopMin, PopMax, Clear, Group, OpenTree, DropTree, GenerateId, Import, Watch, Next, Unsubscribe}
+use Rattle.sled_model.specs.declared.call.Whole.TheVariants.{Clear, Group, Import, Next, Unsubscribe}
 use Rattle.sled_model.specs.declared.tree.Tree.{Tree}
 use Rattle.sled_model.specs.declared.reply.Reply.{Reply}
 use Rattle.sled_model.specs.declared.reply.Reply.TheVariants.{Done}
@@ -23,7 +23,7 @@ use Rattle.sled.specs.Parts.{told_parts, parts_before, ClearsParts}
 use Rattle.sled.specs.Values.{DbValue, db_state, state_of}
 use Rattle.sled_calls.specs.Kept.{counts_as}
 use Rattle.sled_calls.specs.Values.{MachineValue, configuration_of, slots_of}
-use Rattle.sled_shared.specs.Made.{EntryValue, MadeValue, WholeMade, PartsMade}
+use Rattle.sled_shared.specs.Made.{EntryValue, MadeValue, WholeMade, PartsMade, whole_value}
 use Rattle.sled_shared.specs.Wholes.{WholeValue}
 use Rattle.sled_shared.specs.Wholes as value
 use Rattle.sled_shared.specs.WholeMade.{makes_whole_as, makes_parts_as, MakesParts}
@@ -125,41 +125,21 @@ module _ {P M : Type 0} (store : P → Store) (number : P → ℕ) (meant : M �
         shut e = cc
 
     decided : (w : Whole) (reply : Reply) (maps : List Maps) (k : ℕ) → WholeDecides (configuration_of store number meant a) w reply B maps → Legal (noted_whole w (outcome.Decided reply) k)
-    decided Flush reply maps k t = whole_entry value.Flush reply (stays_open (configuration_of store number meant a) Flush reply B maps t) (makes (configuration_of store number meant a) Flush reply B maps t)
-    decided (PopMin tree) reply maps k t = whole_entry (value.PopMin tree) reply (stays_open (configuration_of store number meant a) (PopMin tree) reply B maps t) (makes (configuration_of store number meant a) (PopMin tree) reply B maps t)
-    decided (PopMax tree) reply maps k t = whole_entry (value.PopMax tree) reply (stays_open (configuration_of store number meant a) (PopMax tree) reply B maps t) (makes (configuration_of store number meant a) (PopMax tree) reply B maps t)
-    decided (Clear tree) reply maps k t = whole_entry (value.Clear tree) reply (stays_open (configuration_of store number meant a) (Clear tree) reply B maps t) (makes (configuration_of store number meant a) (Clear tree) reply B maps t)
-    decided (Group batches) reply maps k t = whole_entry (value.Group batches.items) reply (stays_open (configuration_of store number meant a) (Group batches) reply B maps t) (makes (configuration_of store number meant a) (Group batches) reply B maps t)
-    decided (OpenTree name) reply maps k t = whole_entry (value.OpenTree name) reply (stays_open (configuration_of store number meant a) (OpenTree name) reply B maps t) (makes (configuration_of store number meant a) (OpenTree name) reply B maps t)
-    decided (DropTree name) reply maps k t = whole_entry (value.DropTree name) reply (stays_open (configuration_of store number meant a) (DropTree name) reply B maps t) (makes (configuration_of store number meant a) (DropTree name) reply B maps t)
-    decided GenerateId reply maps k t = whole_entry value.GenerateId reply (stays_open (configuration_of store number meant a) GenerateId reply B maps t) (makes (configuration_of store number meant a) GenerateId reply B maps t)
-    decided (Import collections) reply maps k t = whole_entry (value.Import (contents_of collections.items)) reply (stays_open (configuration_of store number meant a) (Import collections) reply B maps t) (makes (configuration_of store number meant a) (Import collections) reply B maps t)
-    decided (Watch tree prefix) reply maps k t = whole_entry (value.Watch tree prefix) reply (stays_open (configuration_of store number meant a) (Watch tree prefix) reply B maps t) (makes (configuration_of store number meant a) (Watch tree prefix) reply B maps t)
     decided (Next subscriber) reply maps k t = whole_entry (value.Next subscriber) Done (stays_open (configuration_of store number meant a) (Next subscriber) reply B maps t) (makes (configuration_of store number meant a) (Next subscriber) reply B maps t)
-    decided (Unsubscribe subscriber) reply maps k t = whole_entry (value.Unsubscribe subscriber) reply (stays_open (configuration_of store number meant a) (Unsubscribe subscriber) reply B maps t) (makes (configuration_of store number meant a) (Unsubscribe subscriber) reply B maps t)
+    decided other reply maps k t = whole_entry (whole_value other) reply (stays_open (configuration_of store number meant a) other reply B maps t) (makes (configuration_of store number meant a) other reply B maps t)
 
     refused : (w : Whole) (x : Error) (maps : List Maps) (k : ℕ) → WholeRefuses A (store a.db.pages) (store b.db.pages) w x B maps → counts_as store meant a.db w (outcome.Refused x) k b.db → Legal (noted_whole w (outcome.Refused x) k)
-    refused Flush x maps k t c = unnoted value.Flush k c t.1
-    refused (PopMin tree) x maps k t c = unnoted (value.PopMin tree) k c t.1
-    refused (PopMax tree) x maps k t c = unnoted (value.PopMax tree) k c t.1
     refused (Clear tree) x maps k t c = clear_stops tree k c
     refused (Group batches) x maps k t c = subst (λ i. Legal (noted_with (value.Group batches.items) None i)) (sym c) (group_stops _ t.is)
-    refused (OpenTree name) x maps k t c = unnoted (value.OpenTree name) k c t.1
-    refused (DropTree name) x maps k t c = unnoted (value.DropTree name) k c t.1
-    refused GenerateId x maps k t c = unnoted value.GenerateId k c t.1
     refused (Import collections) x maps k t c = import_refused (contents_of collections.items) x k c.is.maps c.is.refuses c.told
-    refused (Watch tree prefix) x maps k t c = unnoted (value.Watch tree prefix) k c t.1
     refused (Next subscriber) x maps k t c = absurd t
     refused (Unsubscribe subscriber) x maps k t c = absurd t
+    refused other x maps k t c = unnoted (whole_value other) k c t.1
 
     came : (w : Whole) (r : Outcome) (maps : List Maps) (k : ℕ) → transition_as (configuration_of store number meant a) (step.Whole w) r (configuration_of store number meant b) maps → counts_as store meant a.db w r k b.db → Legal (noted_whole w r k)
     came w (outcome.Decided reply) maps k t c = decided w reply maps k t
     came w (outcome.Refused x) maps k t c = refused w x maps k t c
-    came w (outcome.Begun i) maps k t c = absurd t
-    came w outcome.Moved maps k t c = absurd t
-    came w (outcome.Yielded key value) maps k t c = absurd t
-    came w outcome.NoSuchSlot maps k t c = absurd t
-    came w outcome.Abandoned maps k t c = absurd t
+    came w other maps k t c = absurd t
 
     noted : (w : Whole) (r : Outcome) (more : List MadeValue) → ComesToWhole store number meant a w r b more → Legal more
     noted w r more (inl d) = subst (λ l. Legal l) (sym d.notes) (came w r d.step.step.maps d.number d.step.step.step.is d.counts.is)

@@ -15,7 +15,7 @@ use Rattle.sled_model.specs.Collections.{contents_of}
 use Rattle.sled_model.specs.Refusal.{MustRefuse, IsClosed, IsForeign, IsDropped, must_refuse_of, first_of, foreign_test, dropped_test, is_number, trees_of_batches}
 use Rattle.sled_model.specs.Whole.{IsSameWhole, is_same_whole, RemovesLeast, RemovesNone}
 use Rattle.sled_model.specs.declared.call.Whole.{Whole}
-use Rattle.sled_model.specs.declared.call.Whole.TheVariants.{Flush, PopMin, PopMax, Clear, Group, OpenTree, DropTree, GenerateId, Import, Watch, Next, Unsubscribe}
+use Rattle.sled_model.specs.declared.call.Whole.TheVariants.{Flush, Clear, Group, Import, Watch, Next, Unsubscribe}
 use Rattle.sled_model.specs.declared.tree.Tree.{Tree}
 use Rattle.sled_model.specs.declared.reply.Reply.{Reply}
 use Rattle.sled_model.specs.declared.outcome.Outcome.{Outcome}
@@ -39,46 +39,17 @@ use Rattle.sled_shared.specs.WholeNotes.{noted_with, whole_test, DoesWhole, Come
 
 -- copies
 group_same : (x : Vec (Tree × Writes)) (b : Whole) → is_same_whole (Group x) b → whole_value (Group x) ≡ whole_value b
-group_same x Flush h = absurd h
-group_same x (PopMin tree) h = absurd h
-group_same x (PopMax tree) h = absurd h
-group_same x (Clear tree) h = absurd h
 group_same x (Group y) h = ap value.Group h
-group_same x (OpenTree name) h = absurd h
-group_same x (DropTree name) h = absurd h
-group_same x GenerateId h = absurd h
-group_same x (Import collections) h = absurd h
-group_same x (Watch tree prefix) h = absurd h
-group_same x (Next subscriber) h = absurd h
-group_same x (Unsubscribe subscriber) h = absurd h
+group_same x other h = absurd h
 
 import_same : (x : Vec (Vec ℕ × Vec ℕ × Vec (Key × Key))) (b : Whole) → is_same_whole (Import x) b → whole_value (Import x) ≡ whole_value b
-import_same x Flush h = absurd h
-import_same x (PopMin tree) h = absurd h
-import_same x (PopMax tree) h = absurd h
-import_same x (Clear tree) h = absurd h
-import_same x (Group batches) h = absurd h
-import_same x (OpenTree name) h = absurd h
-import_same x (DropTree name) h = absurd h
-import_same x GenerateId h = absurd h
 import_same x (Import y) h = ap value.Import h
-import_same x (Watch tree prefix) h = absurd h
-import_same x (Next subscriber) h = absurd h
-import_same x (Unsubscribe subscriber) h = absurd h
+import_same x other h = absurd h
 
 same_value : (a b : Whole) → is_same_whole a b → whole_value a ≡ whole_value b
-same_value Flush b h = ap whole_value h
-same_value (PopMin tree) b h = ap whole_value h
-same_value (PopMax tree) b h = ap whole_value h
-same_value (Clear tree) b h = ap whole_value h
 same_value (Group x) b h = group_same x b h
-same_value (OpenTree name) b h = ap whole_value h
-same_value (DropTree name) b h = ap whole_value h
-same_value GenerateId b h = ap whole_value h
 same_value (Import x) b h = import_same x b h
-same_value (Watch tree prefix) b h = ap whole_value h
-same_value (Next subscriber) b h = ap whole_value h
-same_value (Unsubscribe subscriber) b h = ap whole_value h
+same_value other b h = ap whole_value h
 
 pub same_whole_value : (a b : Whole) → IsSameWhole a b → whole_value a ≡ whole_value b
 same_whole_value a b h = same_value a b h.is
@@ -86,35 +57,15 @@ same_whole_value a b h = same_value a b h.is
 -- two equal replies are kept
 reply_twice : (o : Outcome) → IfSome (kept_of o) (λ k. k.1 ≡ k.0)
 reply_twice (outcome.Decided reply) = refl
-reply_twice (outcome.Refused x) = tt
-reply_twice (outcome.Begun i) = tt
-reply_twice outcome.Moved = tt
-reply_twice (outcome.Yielded key value) = tt
-reply_twice outcome.NoSuchSlot = tt
-reply_twice outcome.Abandoned = tt
+reply_twice other = tt
 
 done_twice : (subscriber : ℕ) (o : Outcome) → IfSome (kept_of_whole (Next subscriber) o) (λ k. k.1 ≡ k.0)
 done_twice subscriber (outcome.Decided reply) = refl
-done_twice subscriber (outcome.Refused x) = tt
-done_twice subscriber (outcome.Begun i) = tt
-done_twice subscriber outcome.Moved = tt
-done_twice subscriber (outcome.Yielded key value) = tt
-done_twice subscriber outcome.NoSuchSlot = tt
-done_twice subscriber outcome.Abandoned = tt
+done_twice subscriber other = tt
 
 whole_twice : (w : Whole) (o : Outcome) → IfSome (kept_of_whole w o) (λ k. k.1 ≡ k.0)
-whole_twice Flush o = reply_twice o
-whole_twice (PopMin tree) o = reply_twice o
-whole_twice (PopMax tree) o = reply_twice o
-whole_twice (Clear tree) o = reply_twice o
-whole_twice (Group batches) o = reply_twice o
-whole_twice (OpenTree name) o = reply_twice o
-whole_twice (DropTree name) o = reply_twice o
-whole_twice GenerateId o = reply_twice o
-whole_twice (Import collections) o = reply_twice o
-whole_twice (Watch tree prefix) o = reply_twice o
 whole_twice (Next subscriber) o = done_twice subscriber o
-whole_twice (Unsubscribe subscriber) o = reply_twice o
+whole_twice other o = reply_twice o
 
 pub kept_twice : (w : Whole) (o : Outcome) (kept : Option (Reply × Reply)) → kept ≡ kept_of_whole w o → IfSome kept (λ k. k.1 ≡ k.0)
 kept_twice w o kept e = subst (λ (k : Option (Reply × Reply)). IfSome k (λ k. k.1 ≡ k.0)) (sym e) (whole_twice w o)
@@ -122,17 +73,7 @@ kept_twice w o kept e = subst (λ (k : Option (Reply × Reply)). IfSome k (λ k.
 -- nothing is kept of a call that is refused
 pub refused_kept : (w : Whole) (x : Error) → kept_of_whole w (outcome.Refused x) ≡ None
 refused_kept Flush x = refl
-refused_kept (PopMin tree) x = refl
-refused_kept (PopMax tree) x = refl
-refused_kept (Clear tree) x = refl
-refused_kept (Group batches) x = refl
-refused_kept (OpenTree name) x = refl
-refused_kept (DropTree name) x = refl
-refused_kept GenerateId x = refl
-refused_kept (Import collections) x = refl
-refused_kept (Watch tree prefix) x = refl
-refused_kept (Next subscriber) x = refl
-refused_kept (Unsubscribe subscriber) x = refl
+refused_kept other x = refl
 
 -- parts that were done are noted
 pub some_parts : (v : WholeValue) (n : ℕ) → n ≢ 0 → noted_with v None n ≡ PartsMade v n ∷ []
@@ -212,17 +153,13 @@ module _ {P M : Type 0} (store : P → Store) (number : P → ℕ) (meant : M �
 
   refused_by_test : (w : Whole) (reply : Reply) (maps : List Maps) → transition_as (configuration_of store number meant a) (step.Whole w) (outcome.Decided reply) (configuration_of store number meant b) maps → Tested w → ⊥
   refused_by_test Flush reply maps t h = h t.0
-  refused_by_test (PopMin tree) reply maps t h = h t.free
-  refused_by_test (PopMax tree) reply maps t h = h t.free
   refused_by_test (Clear tree) reply maps t h = h t.1.free
   refused_by_test (Group batches) reply maps t h = h (of_test _ t.free)
-  refused_by_test (OpenTree name) reply maps t h = h t.free
-  refused_by_test (DropTree name) reply maps t h = h t.free
-  refused_by_test GenerateId reply maps t h = h t.free
   refused_by_test (Import collections) reply maps t h = h (of_test _ t.1.free)
   refused_by_test (Watch tree prefix) reply maps t h = h t.2.free
   refused_by_test (Next subscriber) reply maps t h = h refl
   refused_by_test (Unsubscribe subscriber) reply maps t h = h refl
+  refused_by_test other reply maps t h = h t.free
 
   import_counts : (all : List (Key × Key × List (Key × Key))) (x : Error) (r : ImportRefused store meant a.db all x b.db) → must_refuse_of (db_state store meant a.db) [] ≢ None → ImportRefusedAfter store meant a.db all 0 x b.db
   import_counts all x r h = elim r.refuses [
@@ -231,28 +168,15 @@ module _ {P M : Type 0} (store : P → Store) (number : P → ℕ) (meant : M �
   ]
 
   counts : (w : Whole) (x : Error) → MachineStepContract store number meant a (step.Whole w) (outcome.Refused x) b → Tested w → CountsParts store meant a.db w (outcome.Refused x) 0 b.db
-  counts Flush x c h = record { is = refl }
-  counts (PopMin tree) x c h = record { is = refl }
-  counts (PopMax tree) x c h = record { is = refl }
   counts (Clear tree) x c h = record { is = record { parts = 0; told = refl; maps = []; removes = λ slots given. subst (λ (d : DbValue P M). RemovesLeast tree (state_of store meant a.db slots given) 0 (state_of store meant d slots given) []) (sym (ap (λ (m : MachineValue P M). m.db) (c.tested.is h))) RemovesNone } }
-  counts (Group batches) x c h = record { is = refl }
-  counts (OpenTree name) x c h = record { is = refl }
-  counts (DropTree name) x c h = record { is = refl }
-  counts GenerateId x c h = record { is = refl }
   counts (Import collections) x c h = record { is = import_counts (contents_of collections.items) x c.way.is (λ e. h (of_test _ e)) }
-  counts (Watch tree prefix) x c h = record { is = refl }
-  counts (Next subscriber) x c h = record { is = refl }
-  counts (Unsubscribe subscriber) x c h = record { is = refl }
+  counts other x c h = record { is = refl }
 
   -- .. and nothing is noted of it
   pub tested : (w : Whole) (o : Outcome) → MachineStepContract store number meant a (step.Whole w) o b → Tested w → ComesToWhole store number meant a w o b []
   tested w (outcome.Refused x) c h = inl (record { step = c; number = 0; counts = counts w x c h; notes = sym (ap (λ k. noted_with (whole_value w) k 0) (refused_kept w x)) })
   tested w (outcome.Decided reply) c h = absurd (refused_by_test w reply c.step.maps c.step.step.is h)
-  tested w (outcome.Begun i) c h = absurd c.step.step.is
-  tested w outcome.Moved c h = absurd c.step.step.is
-  tested w (outcome.Yielded key value) c h = absurd c.step.step.is
-  tested w outcome.NoSuchSlot c h = absurd c.step.step.is
-  tested w outcome.Abandoned c h = absurd c.step.step.is
+  tested w other c h = absurd c.step.step.is
 
   -- a whole call whose reply is kept
   pub does_whole : (w : Whole) (v : WholeValue) (o : Outcome) (kept : Option (Reply × Reply)) (n : ℕ) (noted : List MadeValue) → v ≡ whole_value w → MachineStepContract store number meant a (step.Whole w) o b → kept ≡ kept_of_whole w o
