@@ -19,7 +19,6 @@ use Rattle.sled_model.specs.Scan.{Reads, is_read}
 use Rattle.sled_model.specs.Refusal.{must_refuse, ToStep, turns_limit}
 use Rattle.sled_model.specs.declared.call.Call.{Call}
 use Rattle.sled_model.specs.declared.call.Call.TheVariants.{Scan}
-use Rattle.sled_model.specs.declared.call.Call.TheVariants as call
 use Rattle.sled_model.specs.declared.event.Event.{Event}
 use Rattle.sled_model.specs.declared.reply.Reply.{Reply}
 use Rattle.sled_model.specs.declared.reply.Reply.TheVariants.{End}

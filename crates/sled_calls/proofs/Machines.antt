@@ -16,7 +16,6 @@ use Rattle.sled_model.specs.Transition.{Transition}
 use Rattle.sled_model.specs.declared.event.Event.{Event}
 use Rattle.sled_model.specs.declared.call.Call.{Call}
 use Rattle.sled_model.specs.declared.call.Call.TheVariants.{Get}
-use Rattle.sled_model.specs.declared.call.Call.TheVariants as call
 use Rattle.sled_model.specs.declared.call.Whole.TheVariants.{Flush}
 use Rattle.sled_model.specs.declared.tree.Tree.{Tree}
 use Rattle.sled_model.specs.declared.reply.Reply.TheVariants.{Number}
