@@ -107,25 +107,45 @@ changes_only Flush old new = new ≡ record old { pages = new.pages }
 changes_only (OpenTree name) old new = new ≡ record old { pages = new.pages; trees = new.trees; trees_given = new.trees_given }
 changes_only (DropTree name) old new = new ≡ record old { pages = new.pages; trees = new.trees; operators = new.operators }
 changes_only GenerateId old new = new ≡ record old { pages = new.pages; greatest_id = new.greatest_id }
+changes_only (PopMin tree) old new = new ≡ record old { pages = new.pages; queues = new.queues }
+changes_only (PopMax tree) old new = new ≡ record old { pages = new.pages; queues = new.queues }
+changes_only (Clear tree) old new = new ≡ record old { pages = new.pages; queues = new.queues }
+changes_only (Group batches) old new = new ≡ record old { pages = new.pages; queues = new.queues }
 changes_only (Import collections) old new = new ≡ record old { pages = new.pages; queues = new.queues; trees = new.trees; trees_given = new.trees_given }
 changes_only (Watch tree prefix) old new = new ≡ record old { queues = new.queues }
 changes_only (Next subscriber) old new = new ≡ record old { queues = new.queues }
 changes_only (Unsubscribe subscriber) old new = new ≡ record old { queues = new.queues }
-changes_only other old new = new ≡ record old { pages = new.pages; queues = new.queues }
 
 -- .. and one that is refused. A clear may have removed some keys, and an import keeps the parts that it did
 abbrev pub changes_refused : {P M : Type 0} → Whole → DbValue P M → DbValue P M → Type 0
+changes_refused Flush old new = new ≡ record old { pages = new.pages }
 changes_refused (PopMin tree) old new = new ≡ record old { pages = new.pages; queues = new.queues }
 changes_refused (PopMax tree) old new = new ≡ record old { pages = new.pages; queues = new.queues }
 changes_refused (Clear tree) old new = new ≡ record old { pages = new.pages; queues = new.queues }
+changes_refused (OpenTree name) old new = new ≡ record old { pages = new.pages }
+changes_refused (DropTree name) old new = new ≡ record old { pages = new.pages }
+changes_refused GenerateId old new = new ≡ record old { pages = new.pages }
 changes_refused (Group batches) old new = new ≡ record old { pages = new.pages; queues = new.queues }
 changes_refused (Import collections) old new = new ≡ record old { pages = new.pages; queues = new.queues; trees = new.trees; trees_given = new.trees_given }
-changes_refused other old new = new ≡ record old { pages = new.pages }
+changes_refused (Watch tree prefix) old new = new ≡ record old { pages = new.pages }
+changes_refused (Next subscriber) old new = new ≡ record old { pages = new.pages }
+changes_refused (Unsubscribe subscriber) old new = new ≡ record old { pages = new.pages }
 
 -- the tree that a decided whole call drops, if it drops one
 abbrev pub lost_of : Whole → Reply → Option Key
+lost_of Flush reply = None
+lost_of (PopMin tree) reply = None
+lost_of (PopMax tree) reply = None
+lost_of (Clear tree) reply = None
+lost_of (OpenTree name) reply = None
 lost_of (DropTree name) (Flag true) = Some name
-lost_of other reply = None
+lost_of (DropTree name) reply = None
+lost_of GenerateId reply = None
+lost_of (Group batches) reply = None
+lost_of (Import collections) reply = None
+lost_of (Watch tree prefix) reply = None
+lost_of (Next subscriber) reply = None
+lost_of (Unsubscribe subscriber) reply = None
 
 -- a call as it begins
 abbrev pub begun_flight : Tree → Call → InFlight

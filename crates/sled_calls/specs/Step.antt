@@ -12,7 +12,7 @@ use Rattle.sled_model.specs.Imports.{parts_of}
 use Rattle.sled_model.specs.Transition.{Transition, Kind, Flushing, kind_of}
 use Rattle.sled_nodes.specs.declared.error.Error.{Error}
 use Rattle.sled_model.specs.declared.call.Whole.{Whole}
-use Rattle.sled_model.specs.declared.call.Whole.TheVariants.{PopMin, PopMax, Clear, Group, OpenTree, DropTree, Import}
+use Rattle.sled_model.specs.declared.call.Whole.TheVariants.{Flush, PopMin, PopMax, Clear, Group, OpenTree, DropTree, GenerateId, Import, Watch, Next, Unsubscribe}
 use Rattle.sled_model.specs.declared.reply.Reply.TheVariants.{Pair, Flag}
 use Rattle.sled_model.specs.declared.tree.Tree.{Tree}
 use Rattle.sled_model.specs.declared.outcome.Step.{Step}
@@ -172,9 +172,18 @@ pub record MachineLeaksNoPage {P M : Type 0} (store : P → Store) (old : Machin
 
 -- when a whole call may be told that its turns were used up: a pop only where the tree is large or its way to the key is long
 abbrev pub whole_gives_up : {P M : Type 0} → (P → Store) → (M → Merge) → DbValue P M → Whole → Error → Type 0
+whole_gives_up store meant old Flush e = Unit {0}
 whole_gives_up store meant old (PopMin tree) e = GivesUpPop store meant old tree IsLeast once e
 whole_gives_up store meant old (PopMax tree) e = GivesUpPop store meant old tree IsGreatest for_each e
-whole_gives_up store meant old other e = Unit {0}
+whole_gives_up store meant old (Clear tree) e = Unit {0}
+whole_gives_up store meant old (Group batches) e = Unit {0}
+whole_gives_up store meant old (OpenTree name) e = Unit {0}
+whole_gives_up store meant old (DropTree name) e = Unit {0}
+whole_gives_up store meant old GenerateId e = Unit {0}
+whole_gives_up store meant old (Import collections) e = Unit {0}
+whole_gives_up store meant old (Watch tree prefix) e = Unit {0}
+whole_gives_up store meant old (Next subscriber) e = Unit {0}
+whole_gives_up store meant old (Unsubscribe subscriber) e = Unit {0}
 
 abbrev pub gives_up_as : {P M : Type 0} → (P → Store) → (M → Merge) → DbValue P M → Step → Outcome → Type 0
 gives_up_as store meant old (step.Whole whole) (Refused e) = whole_gives_up store meant old whole e
@@ -231,14 +240,18 @@ imports_as store meant old all (Refused e) new = ImportRefused store meant old a
 imports_as store meant old all o new = Unit {0}
 
 abbrev pub way_of_whole : {P M : Type 0} → (P → Store) → (M → Merge) → DbValue P M → Whole → Outcome → DbValue P M → Type 0
+way_of_whole store meant old Flush o new = Unit {0}
 way_of_whole store meant old (PopMin tree) o new = pops_as store meant old tree IsLeast once o new
 way_of_whole store meant old (PopMax tree) o new = pops_as store meant old tree IsGreatest for_each o new
 way_of_whole store meant old (Clear tree) o new = clears_as store meant old tree o new
 way_of_whole store meant old (Group batches) o new = groups_as store meant old batches.items o new
 way_of_whole store meant old (OpenTree name) o new = opens_as store old name o new
 way_of_whole store meant old (DropTree name) o new = drops_tree_as store meant old name o new
+way_of_whole store meant old GenerateId o new = Unit {0}
 way_of_whole store meant old (Import collections) o new = imports_as store meant old (contents_of collections.items) o new
-way_of_whole store meant old other o new = Unit {0}
+way_of_whole store meant old (Watch tree prefix) o new = Unit {0}
+way_of_whole store meant old (Next subscriber) o new = Unit {0}
+way_of_whole store meant old (Unsubscribe subscriber) o new = Unit {0}
 
 abbrev pub way_as : {P M : Type 0} → (P → Store) → (M → Merge) → DbValue P M → Step → Outcome → DbValue P M → Type 0
 way_as store meant old (step.Whole whole) o new = way_of_whole store meant old whole o new

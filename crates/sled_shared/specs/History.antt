@@ -13,7 +13,7 @@ use Rattle.sled_model.specs.declared.decision.Decision.{Decision}
 use Rattle.sled_model.specs.declared.reply.Reply.{Reply}
 use Rattle.sled_model.specs.declared.reply.Reply.TheVariants.{Number}
 use Rattle.sled_model.specs.declared.tree.Tree.{Tree}
-use Rattle.sled_shared.specs.Wholes.{WholeValue, GenerateId}
+use Rattle.sled_shared.specs.Wholes.{WholeValue, Flush, PopMin, PopMax, Clear, Group, OpenTree, DropTree, GenerateId, Import, Watch, Next, Unsubscribe}
 use Rattle.sled_shared.specs.Made.{MadeValue, PointMade, WholeMade, PartsMade, EntryValue}
 use Rattle.sled_shared.specs.WholeMade.{makes_whole_as, makes_parts_as}
 
@@ -50,8 +50,19 @@ pub data IsLegal : Maps → List EntryValue → Maps → Type 0 where
 
 -- the id that a whole call gave, if it gave one
 abbrev pub id_given : WholeValue → Reply → List ℕ
+id_given Flush reply = []
+id_given (PopMin tree) reply = []
+id_given (PopMax tree) reply = []
+id_given (Clear tree) reply = []
+id_given (Group batches) reply = []
+id_given (OpenTree name) reply = []
+id_given (DropTree name) reply = []
 id_given GenerateId (Number id) = id ∷ []
-id_given other reply = []
+id_given GenerateId reply = []
+id_given (Import all) reply = []
+id_given (Watch tree prefix) reply = []
+id_given (Next subscriber) reply = []
+id_given (Unsubscribe subscriber) reply = []
 
 -- the id that was given, if one was
 abbrev pub id_made : MadeValue → List ℕ

@@ -133,6 +133,15 @@ pub record MakesImportParts (old : Maps) (all : List Content) (number : ℕ) (ne
 
 -- so many parts of a whole call are done, and no other call is done in parts
 abbrev pub makes_parts_as : Maps → WholeValue → ℕ → Maps → Type 0
+makes_parts_as old Flush number new = ⊥
+makes_parts_as old (PopMin tree) number new = ⊥
+makes_parts_as old (PopMax tree) number new = ⊥
 makes_parts_as old (Clear tree) number new = MakesClearParts old tree number new
+makes_parts_as old (Group batches) number new = ⊥
+makes_parts_as old (OpenTree name) number new = ⊥
+makes_parts_as old (DropTree name) number new = ⊥
+makes_parts_as old GenerateId number new = ⊥
 makes_parts_as old (Import all) number new = MakesImportParts old all number new
-makes_parts_as old other number new = ⊥
+makes_parts_as old (Watch tree prefix) number new = ⊥
+makes_parts_as old (Next subscriber) number new = ⊥
+makes_parts_as old (Unsubscribe subscriber) number new = ⊥

@@ -3,7 +3,7 @@ use Rattle.std.specs.Prelude.{◌≡◌, ℕ, Option, Some, None}
 use Rattle.sled_store.specs.Store.{Store}
 use Rattle.sled_model.specs.Maps.{Merge}
 use Rattle.sled_model.specs.declared.call.Whole.{Whole}
-use Rattle.sled_model.specs.declared.call.Whole.TheVariants.{PopMin, PopMax, Clear, OpenTree, Import}
+use Rattle.sled_model.specs.declared.call.Whole.TheVariants.{Flush, PopMin, PopMax, Clear, Group, OpenTree, DropTree, GenerateId, Import, Watch, Next, Unsubscribe}
 use Rattle.sled_model.specs.declared.reply.Reply.{Reply}
 use Rattle.sled_model.specs.declared.reply.Reply.TheVariants.{Number, Flag, Done}
 use Rattle.sled_model.specs.declared.reply.Reply.TheVariants as told
@@ -27,12 +27,18 @@ light_copies o = None
 
 -- a whole call, not done in parts, whose reply owns no memory or is not kept
 abbrev pub IsLight : Whole → Type 0
+IsLight Flush = Unit {0}
 IsLight (PopMin tree) = ⊥
 IsLight (PopMax tree) = ⊥
 IsLight (Clear tree) = ⊥
+IsLight (Group batches) = Unit {0}
 IsLight (OpenTree name) = ⊥
+IsLight (DropTree name) = Unit {0}
+IsLight GenerateId = Unit {0}
 IsLight (Import collections) = ⊥
-IsLight other = Unit {0}
+IsLight (Watch tree prefix) = Unit {0}
+IsLight (Next subscriber) = Unit {0}
+IsLight (Unsubscribe subscriber) = Unit {0}
 
 -- all that is said of a whole call whose reply is kept
 pub record KeepsWhole {P M : Type 0} (store : P → Store) (flush_number : P → ℕ) (meant : M → Merge) (old : MachineValue P M) (w : Whole) (told : Outcome × Option (Reply × Reply) × ℕ) (new : MachineValue P M) : Type 0 where
