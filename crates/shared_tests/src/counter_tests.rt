@@ -1,7 +1,7 @@
 //! Threads that count up one number together: by merges, and by reads and swaps. None is lost, and none is told twice.
 use crate::asking::{Ask, Told};
 use crate::beside::try_out;
-use crate::trial::{Trial, Wanted};
+use crate::trial::{TWO_CALLERS, Trial, Wanted};
 use crate::turns::{Signal, Turn};
 
 // So often each thread adds one.
@@ -12,15 +12,25 @@ const TURNS: [Turn<'static>; 2] = [
     Turn::Made(TIMES),
 ];
 
+const TWO: Trial<'static> = Trial {
+    first: &TURNS,
+    others: &TURNS,
+    wanted: Wanted::Counted(2 * TIMES),
+    ..TWO_CALLERS
+};
+
+const FOUR: Trial<'static> = Trial {
+    callers: 4,
+    first: &TURNS,
+    others: &TURNS,
+    wanted: Wanted::Counted(4 * TIMES),
+    ..TWO_CALLERS
+};
+
 #[test]
 fn two_and_four_threads_add(rt: HostRuntime) {
-    let two = Trial::of_two(&TURNS, &TURNS, Wanted::Counted(2 * TIMES));
-    try_out(&rt, rt.alloc(), &two);
-    let four = Trial {
-        callers: 4,
-        ..Trial::of_two(&TURNS, &TURNS, Wanted::Counted(4 * TIMES))
-    };
-    try_out(&rt, rt.alloc(), &four);
+    try_out(&rt, rt.alloc(), &TWO);
+    try_out(&rt, rt.alloc(), &FOUR);
 }
 
 const RAISES: Turn<'static> = Turn::Count(Ask::Raise(b"number"), TIMES);
@@ -34,8 +44,13 @@ const FIRST: [Turn<'static>; 3] = [
 
 const SECOND: [Turn<'static>; 2] = [RAISES, Turn::Set(Signal::Ended)];
 
+const TRIAL: Trial<'static> = Trial {
+    first: &FIRST,
+    others: &SECOND,
+    ..TWO_CALLERS
+};
+
 #[test]
 fn two_threads_raise(rt: HostRuntime) {
-    let trial = Trial::of_two(&FIRST, &SECOND, Wanted::Any);
-    try_out(&rt, rt.alloc(), &trial);
+    try_out(&rt, rt.alloc(), &TRIAL);
 }

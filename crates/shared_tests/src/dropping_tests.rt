@@ -1,7 +1,7 @@
 //! A thread that inserts into a tree until another one drops it.
 use crate::asking::{Ask, Told};
 use crate::beside::try_out;
-use crate::trial::{EMPTY, Start, Trial, Wanted};
+use crate::trial::{EMPTY, Start, TWO_CALLERS, Trial, Wanted};
 use crate::turns::{Place, Signal, Turn};
 
 // So many keys are inserted. Then the test fails, since the other thread did nothing.
@@ -15,17 +15,19 @@ const SECOND: [Turn<'static>; 2] = [
     Turn::Ask(Ask::DropTree, Told::Dropped),
 ];
 
-const START: Start = Start {
-    name: b"t",
-    trees: 2,
-    ..EMPTY
+const TRIAL: Trial<'static> = Trial {
+    start: Start {
+        name: b"t",
+        trees: 2,
+        ..EMPTY
+    },
+    first: &FIRST,
+    others: &SECOND,
+    wanted: Wanted::Dropped(KEYS),
+    ..TWO_CALLERS
 };
 
 #[test]
 fn an_insert_finds_its_tree_dropped(rt: HostRuntime) {
-    let trial = Trial {
-        start: START,
-        ..Trial::of_two(&FIRST, &SECOND, Wanted::Dropped(KEYS))
-    };
-    try_out(&rt, rt.alloc(), &trial);
+    try_out(&rt, rt.alloc(), &TRIAL);
 }

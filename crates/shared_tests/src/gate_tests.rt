@@ -1,7 +1,7 @@
 //! Two threads at one key: the second makes its call while the first stands between two steps, with the lock free.
 use crate::asking::{Ask, Told};
 use crate::beside::try_out;
-use crate::trial::{Trial, Wanted};
+use crate::trial::{TWO_CALLERS, Trial, Wanted};
 use crate::turns::{Signal, Turn};
 
 // The first thread makes one call.
@@ -21,10 +21,16 @@ const SECOND: [Turn<'static>; 6] = [
     Turn::Made(2),
 ];
 
+const TRIAL: Trial<'static> = Trial {
+    first: &FIRST,
+    others: &SECOND,
+    wanted: Wanted::Calls(3, &[]),
+    ..TWO_CALLERS
+};
+
 #[test]
 fn one_call_between_two_steps_of_another(rt: HostRuntime) {
-    let trial = Trial::of_two(&FIRST, &SECOND, Wanted::Calls(3, &[]));
-    try_out(&rt, rt.alloc(), &trial);
+    try_out(&rt, rt.alloc(), &TRIAL);
 }
 
 // Where the second thread gives the call up meanwhile, the first has none any more.
@@ -39,8 +45,14 @@ const SECOND_ENDING: [Turn<'static>; 3] = [
     Turn::Set(Signal::Answered),
 ];
 
+const ENDED: Trial<'static> = Trial {
+    first: &FIRST_ENDED,
+    others: &SECOND_ENDING,
+    wanted: Wanted::Calls(0, &[]),
+    ..TWO_CALLERS
+};
+
 #[test]
 fn a_call_whose_slot_another_ends(rt: HostRuntime) {
-    let trial = Trial::of_two(&FIRST_ENDED, &SECOND_ENDING, Wanted::Calls(0, &[]));
-    try_out(&rt, rt.alloc(), &trial);
+    try_out(&rt, rt.alloc(), &ENDED);
 }

@@ -2,7 +2,7 @@
 //! at in each trial.
 use crate::asking::{Ask, Told};
 use crate::beside::try_out;
-use crate::trial::{Trial, Wanted};
+use crate::trial::{TWO_CALLERS, Trial, Wanted};
 use crate::turns::Turn;
 
 const FIRST: [Turn<'static>; 2] = [
@@ -15,8 +15,14 @@ const SECOND: [Turn<'static>; 2] = [
     Turn::MadeInsert(b"other"),
 ];
 
+const TRIAL: Trial<'static> = Trial {
+    first: &FIRST,
+    others: &SECOND,
+    wanted: Wanted::Calls(2, &[]),
+    ..TWO_CALLERS
+};
+
 #[test]
 fn a_state_waits_for_all_handles(rt: HostRuntime) {
-    let trial = Trial::of_two(&FIRST, &SECOND, Wanted::Calls(2, &[]));
-    try_out(&rt, rt.alloc(), &trial);
+    try_out(&rt, rt.alloc(), &TRIAL);
 }

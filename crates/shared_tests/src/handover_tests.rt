@@ -1,7 +1,7 @@
 //! Calls that one thread leaves half done, which another finishes, or makes again once they are given up.
 use crate::asking::{Ask, Told};
 use crate::beside::try_out;
-use crate::trial::{EMPTY, Start, Trial, Wanted};
+use crate::trial::{EMPTY, Start, TWO_CALLERS, Trial, Wanted};
 use crate::turns::{Signal, Turn};
 use std::alloc::Global;
 use std::process::Abort;
@@ -50,30 +50,33 @@ const SECOND_AGAIN: [Turn<'static>; 2] = [
     Turn::Ask(Ask::Remove(&[10]), Told::Value(10)),
 ];
 
-const WANTED: Wanted<'static> = Wanted::Calls(1, &[(2, Told::Value(10))]);
-
-// A removal that is handed over after each number of steps, by what each thread does. It is the second caller's alone.
-fn hand_over<'a, R: Threads + Wait + Abort + Sync>(
-    rt: &R,
-    alloc: Global,
-    first: &'a [Turn<'a>],
-    second: &'a [Turn<'a>],
-) {
-    let trial = Trial {
-        start: TWO_LEAVES,
-        ..Trial::of_two(first, second, WANTED)
-    };
+// A removal that is handed over after each number of steps. It is the second caller's alone.
+fn hand_over<R: Threads + Wait + Abort + Sync>(rt: &R, alloc: Global, trial: Trial<'_>) {
     for moves in 0..=MOVES {
         try_out(rt, alloc, &Trial { moves, ..trial });
     }
 }
 
+const FINISHED: Trial<'static> = Trial {
+    start: TWO_LEAVES,
+    first: &FIRST,
+    others: &SECOND,
+    wanted: Wanted::Calls(1, &[(2, Told::Value(10))]),
+    ..TWO_CALLERS
+};
+
+const MADE_AGAIN: Trial<'static> = Trial {
+    first: &FIRST_GIVING_UP,
+    others: &SECOND_AGAIN,
+    ..FINISHED
+};
+
 #[test]
 fn a_call_is_finished_by_another_thread(rt: HostRuntime) {
-    hand_over(&rt, rt.alloc(), &FIRST, &SECOND);
+    hand_over(&rt, rt.alloc(), FINISHED);
 }
 
 #[test]
 fn a_call_that_is_given_up_is_made_by_another_thread(rt: HostRuntime) {
-    hand_over(&rt, rt.alloc(), &FIRST_GIVING_UP, &SECOND_AGAIN);
+    hand_over(&rt, rt.alloc(), MADE_AGAIN);
 }

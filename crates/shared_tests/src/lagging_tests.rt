@@ -1,6 +1,6 @@
 //! Two threads that insert under a subscriber, which nobody asks meanwhile: it is told the latest events, and how many it missed.
 use crate::beside::try_out;
-use crate::trial::{Trial, Wanted};
+use crate::trial::{TWO_CALLERS, Trial, Wanted};
 use crate::turns::{Place, Signal, Turn};
 
 // So often each thread inserts.
@@ -24,8 +24,14 @@ const SECOND: [Turn<'static>; 3] = [
     LAG,
 ];
 
+const TRIAL: Trial<'static> = Trial {
+    first: &FIRST,
+    others: &SECOND,
+    wanted: Wanted::Calls(CALLS as usize, &[]),
+    ..TWO_CALLERS
+};
+
 #[test]
 fn a_subscriber_lags_behind_two_threads(rt: HostRuntime) {
-    let trial = Trial::of_two(&FIRST, &SECOND, Wanted::Calls(CALLS as usize, &[]));
-    try_out(&rt, rt.alloc(), &trial);
+    try_out(&rt, rt.alloc(), &TRIAL);
 }

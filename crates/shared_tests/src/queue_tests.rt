@@ -1,7 +1,7 @@
 //! A thread that puts jobs into a queue, and another that takes them: each once, and in order.
 use crate::asking::{Ask, Told};
 use crate::beside::try_out;
-use crate::trial::{Trial, Wanted};
+use crate::trial::{TWO_CALLERS, Trial, Wanted};
 use crate::turns::{Place, Taken, Turn};
 
 // So many jobs are put in: the numbers from 1 on.
@@ -17,8 +17,14 @@ const SECOND: [Turn<'static>; 2] = [
     Turn::Ask(Ask::Take, Told::NoValue),
 ];
 
+const TRIAL: Trial<'static> = Trial {
+    first: &FIRST,
+    others: &SECOND,
+    wanted: Wanted::Calls(CALLS, &[]),
+    ..TWO_CALLERS
+};
+
 #[test]
 fn jobs_are_taken_beside_others_that_come(rt: HostRuntime) {
-    let trial = Trial::of_two(&FIRST, &SECOND, Wanted::Calls(CALLS, &[]));
-    try_out(&rt, rt.alloc(), &trial);
+    try_out(&rt, rt.alloc(), &TRIAL);
 }

@@ -1,7 +1,7 @@
 //! A scan that two threads step: the first takes one pair of it, and the second the others. Nothing is noted of it.
 use crate::asking::{Ask, Told};
 use crate::beside::try_out;
-use crate::trial::{EMPTY, Start, Trial, Wanted};
+use crate::trial::{EMPTY, Start, TWO_CALLERS, Trial, Wanted};
 use crate::turns::{Signal, Turn};
 
 // One step reads the leaf that is the root. Then each gives a pair.
@@ -22,13 +22,15 @@ const SECOND: [Turn<'static>; 6] = [
     Turn::Made(0),
 ];
 
-const START: Start = Start { keys: 2, ..EMPTY };
+const TRIAL: Trial<'static> = Trial {
+    start: Start { keys: 2, ..EMPTY },
+    first: &FIRST,
+    others: &SECOND,
+    wanted: Wanted::Calls(0, &[]),
+    ..TWO_CALLERS
+};
 
 #[test]
 fn a_scan_is_stepped_by_two_threads(rt: HostRuntime) {
-    let trial = Trial {
-        start: START,
-        ..Trial::of_two(&FIRST, &SECOND, Wanted::Calls(0, &[]))
-    };
-    try_out(&rt, rt.alloc(), &trial);
+    try_out(&rt, rt.alloc(), &TRIAL);
 }

@@ -1,7 +1,7 @@
 //! A swap, what a handle tells of its caller, and calls of a state outside the lock, once all handles are back.
 use crate::asking::{Ask, Told, call_of, outcome_told};
 use crate::beside::{Gathered, Scene, require, try_out};
-use crate::trial::{EMPTY, Start, Trial, Wanted};
+use crate::trial::{EMPTY, Start, TWO_CALLERS, Trial, Wanted};
 use crate::turns::Turn;
 use std::process::Abort;
 use std::sync::ledger::Ledger;
@@ -29,15 +29,15 @@ const SECOND: [Turn<'static>; 2] = [
     Turn::Ask(SWAP, Told::Conflict),
 ];
 
-const WANTED: Wanted<'static> = Wanted::Calls(2, &[(2, Told::Swapped), (2, Told::Conflict)]);
-
-const START: Start = Start { keys: 1, ..EMPTY };
+const TRIAL: Trial<'static> = Trial {
+    start: Start { keys: 1, ..EMPTY },
+    first: &FIRST,
+    others: &SECOND,
+    wanted: Wanted::Calls(2, &[(2, Told::Swapped), (2, Told::Conflict)]),
+    ..TWO_CALLERS
+};
 
 #[test]
 fn what_a_state_tells(rt: HostRuntime) {
-    let trial = Trial {
-        start: START,
-        ..Trial::of_two(&FIRST, &SECOND, WANTED)
-    };
-    try_out(&rt, rt.alloc(), &trial);
+    try_out(&rt, rt.alloc(), &TRIAL);
 }

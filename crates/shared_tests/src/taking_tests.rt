@@ -1,6 +1,6 @@
 //! A thread that inserts new keys, and another that takes the events meanwhile: they are told in order, and none is lost without a word.
 use crate::beside::try_out;
-use crate::trial::{Trial, Wanted};
+use crate::trial::{TWO_CALLERS, Trial};
 use crate::turns::{Place, Signal, Taken, Turn};
 
 // So many keys are inserted: the numbers from 1 on.
@@ -14,8 +14,13 @@ const FIRST: [Turn<'static>; 3] = [
 
 const SECOND: [Turn<'static>; 2] = [Turn::Watch, Turn::Take(Taken::Events, KEYS)];
 
+const TRIAL: Trial<'static> = Trial {
+    first: &FIRST,
+    others: &SECOND,
+    ..TWO_CALLERS
+};
+
 #[test]
 fn events_are_taken_beside_inserts(rt: HostRuntime) {
-    let trial = Trial::of_two(&FIRST, &SECOND, Wanted::Any);
-    try_out(&rt, rt.alloc(), &trial);
+    try_out(&rt, rt.alloc(), &TRIAL);
 }

@@ -53,19 +53,15 @@ pub struct Trial<'a> {
     pub wanted: Wanted<'a>,
 }
 
-impl<'a> Trial<'a> {
-    /// Two callers of a database with nothing in it, neither of whom hands over a call.
-    pub fn of_two(first: &'a [Turn<'a>], others: &'a [Turn<'a>], wanted: Wanted<'a>) -> Trial<'a> {
-        Trial {
-            start: EMPTY,
-            callers: 2,
-            first,
-            others,
-            moves: 0,
-            wanted,
-        }
-    }
-}
+/// Two callers of a database with nothing in it, who do nothing, and whatever the history has then.
+pub const TWO_CALLERS: Trial<'static> = Trial {
+    start: EMPTY,
+    callers: 2,
+    first: &[],
+    others: &[],
+    moves: 0,
+    wanted: Wanted::Any,
+};
 
 // Whether the history has an entry of this caller that tells this.
 fn has_entry(history: &[Entry], by: u64, told: Told) -> bool {

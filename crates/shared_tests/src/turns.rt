@@ -117,10 +117,21 @@ impl Gate for Meets<'_> {
     }
 }
 
-// What came of the insert, and how often it passed the gate.
-fn meet<C: Caller>(scene: &Scene, caller: &mut C, key: &[u8], value: &[u8]) -> (Told, u64) {
+// An insert that passes the gate so often, and tells this.
+fn meet<C: Caller>(
+    scene: &Scene,
+    caller: &mut C,
+    (key, value): (&[u8], &[u8]),
+    wanted: Told,
+    times: u64,
+) {
     let told = caller.insert_past(key, value, &Meets { scene });
-    (told, scene.count.load(Ordering::SeqCst))
+    let passed = scene.count.load(Ordering::SeqCst);
+    let came = scene.vain.load(Ordering::SeqCst) == 0;
+    caller.require(
+        told == wanted && passed == times && came,
+        "the others' call between",
+    );
 }
 
 // The call that puts these bytes there.
@@ -264,14 +275,7 @@ fn take_turn<C: Caller>(scene: &Scene, caller: &mut C, turn: Turn<'_>) {
             let told = caller.ask(ask);
             caller.require(told == wanted, "what the call is to tell");
         }
-        Turn::Meet(key, value, wanted, times) => {
-            let (told, passed) = meet(scene, caller, key, value);
-            let came = scene.vain.load(Ordering::SeqCst) == 0;
-            caller.require(
-                told == wanted && passed == times && came,
-                "the others' call between",
-            );
-        }
+        Turn::Meet(key, value, wanted, times) => meet(scene, caller, (key, value), wanted, times),
         Turn::Put(place, times) => put_on(scene, caller, place, times),
         Turn::Count(ask, times) => count_on(caller, ask, times),
         Turn::GoOn => go_on(scene, caller, 0, scene.moves),

@@ -1,7 +1,7 @@
 //! Whole calls of two callers, and the entries of them.
 use crate::asking::{Ask, Told};
 use crate::beside::try_out;
-use crate::trial::{Trial, Wanted};
+use crate::trial::{TWO_CALLERS, Trial, Wanted};
 use crate::turns::{Signal, Turn};
 
 // The first caller fills the tree with two keys and pops the least of them.
@@ -31,14 +31,18 @@ const SECOND: [Turn<'static>; 13] = [
     Turn::Made(11),
 ];
 
-const WANTED: Wanted<'static> = Wanted::Calls(
-    14,
-    &[(1, Told::Popped), (2, Told::Done), (2, Told::Parts(2))],
-);
-
 // The pop, the clear and the import that was refused are told by their entries.
+const TRIAL: Trial<'static> = Trial {
+    first: &FIRST,
+    others: &SECOND,
+    wanted: Wanted::Calls(
+        14,
+        &[(1, Told::Popped), (2, Told::Done), (2, Told::Parts(2))],
+    ),
+    ..TWO_CALLERS
+};
+
 #[test]
 fn whole_calls_are_noted(rt: HostRuntime) {
-    let trial = Trial::of_two(&FIRST, &SECOND, WANTED);
-    try_out(&rt, rt.alloc(), &trial);
+    try_out(&rt, rt.alloc(), &TRIAL);
 }
