@@ -14,7 +14,7 @@ use Rattle.sled_model.specs.declared.reply.Reply.{Reply}
 use Rattle.sled_model.specs.declared.reply.Reply.TheVariants.{Value}
 use Rattle.sled_model.specs.declared.outcome.Step.TheVariants as step
 use Rattle.sled_model.specs.declared.outcome.Outcome.{Outcome}
-use Rattle.sled_model.specs.declared.outcome.Outcome.TheVariants.{Begun, Moved, Yielded, Decided, Refused, Abandoned, NoSuchSlot}
+use Rattle.sled_model.specs.declared.outcome.Outcome.TheVariants.{Decided}
 use Rattle.tree_steps.specs.Outcomes.{kept_of}
 use Rattle.sled.specs.Values.{db_state}
 use Rattle.sled_calls.specs.Step.{MachineStep}
@@ -41,15 +41,11 @@ module _ {P M : Type 0} (store : P → Store) (flush_number : P → ℕ) (meant 
   Told claim = (reply : Reply) → Decide before slot reply after → claim (reply, reply)
 
   of_kept : (claim : Reply × Reply → Type 0) (o : Outcome) (copies : Option (Reply × Reply)) → Told claim → copies ≡ kept_of o → MachineStep store flush_number meant old (step.Step slot) o new → IfSome copies claim
-  of_kept claim o copies told kept one = subst (λ c. IfSome c claim) (sym kept) (elim o as (λ o. MachineStep store flush_number meant old (step.Step slot) o new → IfSome (kept_of o) claim) [
-    | Decided reply ↦ λ one. told reply one.step.is.0
-    | Begun s ↦ λ one. tt
-    | Moved ↦ λ one. tt
-    | Yielded k v ↦ λ one. tt
-    | Refused e ↦ λ one. tt
-    | Abandoned ↦ λ one. tt
-    | NoSuchSlot ↦ λ one. tt
-  ] one)
+  of_kept claim o copies told kept one = subst (λ c. IfSome c claim) (sym kept) (go o one)
+    where
+      go : (o : Outcome) → MachineStep store flush_number meant old (step.Step slot) o new → IfSome (kept_of o) claim
+      go (Decided reply) one = told reply one.step.is.0
+      go other one = tt
 
   pub replies_kept : (o : Outcome) (copies : Option (Reply × Reply)) → copies ≡ kept_of o → MachineStep store flush_number meant old (step.Step slot) o new → IfSome copies (RepliesAt before slot)
   replies_kept o copies = of_kept (RepliesAt before slot) o copies (λ reply d. record { flying = d.flying; here = d.here; tree = d.tree; there = d.there; one = d.replies; other = d.replies })

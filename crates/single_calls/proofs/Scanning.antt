@@ -10,7 +10,7 @@ use Rattle.sled_model.specs.declared.tree.Tree.{Tree}
 use Rattle.sled_model.specs.declared.outcome.Step.{Step}
 use Rattle.sled_model.specs.declared.outcome.Step.TheVariants as step
 use Rattle.sled_model.specs.declared.outcome.Outcome.{Outcome}
-use Rattle.sled_model.specs.declared.outcome.Outcome.TheVariants.{Begun, Moved, Yielded, Decided, Refused, Abandoned, NoSuchSlot}
+use Rattle.sled_model.specs.declared.outcome.Outcome.TheVariants.{Moved, Yielded}
 use Rattle.scan_laws.specs.Scanned.{HasKey, RunsBeside, NoSteps, OneMore, OneBeside, AtOwnSteps}
 use Rattle.sled_calls.specs.Run.{MakesSteps, NoStep, OneStep}
 use Rattle.sled_calls.specs.Scans.{Scans, run_of, steps_alone}
@@ -31,11 +31,7 @@ leaves a b (step.Abandon slot) Moved maps q t = absurd t
 leaves a b (step.Abandon slot) (Yielded key value) maps q t = absurd t
 leaves a b (step.Whole whole) Moved maps q t = absurd t
 leaves a b (step.Whole whole) (Yielded key value) maps q t = absurd t
-leaves a b s (Begun slot) maps q t = false_true q
-leaves a b s (Decided reply) maps q t = false_true q
-leaves a b s (Refused e) maps q t = false_true q
-leaves a b s Abandoned maps q t = false_true q
-leaves a b s NoSuchSlot maps q t = false_true q
+leaves a b s other maps q t = false_true q
 
 -- what is so at each moment is so at the scan's own steps
 own : (is : State → Type 0) (slot : ℕ) {a b : Configuration} {steps : List Step} {outcomes : List Outcome} (run : RunsBeside a steps outcomes b) → AtEachMoment is run → AtOwnSteps slot is run

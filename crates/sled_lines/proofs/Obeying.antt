@@ -21,16 +21,9 @@ use Rattle.sled_lines.proofs.Printing.{prints_then, prints_onto}
 
 module _ {P M : Type 0} (store : P → Store) (flush_number : P → ℕ) (meant : M → Merge) where
   obeys_by : (old : Session P M) (c : Command) (show : Shown) (o : Outcome) (new : Session P M) → performs store flush_number meant old c show o new → new.tree ≡ current_after c old.tree o → obeys store flush_number meant old c (outcome_line show o) new
-  obeys_by old (command.Point call) show o new does tree = (show, o, does, tree, refl)
-  obeys_by old (command.Begin call) show o new does tree = (show, o, does, tree, refl)
-  obeys_by old (command.Step n) show o new does tree = (show, o, does, tree, refl)
-  obeys_by old (command.Finish n) show o new does tree = (show, o, does, tree, refl)
-  obeys_by old (command.Abandon n) show o new does tree = (show, o, does, tree, refl)
-  obeys_by old (command.Batch writes) show o new does tree = (show, o, does, tree, refl)
-  obeys_by old command.Flush show o new does tree = (show, o, does, tree, refl)
   obeys_by old (command.Crash keep) show o new does tree = absurd does
   obeys_by old command.Dump show o new does tree = absurd does
-  obeys_by old (command.OpenTree name) show o new does tree = (show, o, does, tree, refl)
+  obeys_by old other show o new does tree = (show, o, does, tree, refl)
 
   -- a command came out so, and its line is gathered
   pub obeyed : (old : Session P M) (c : Command) (show : Shown) (o : Outcome) (new : Session P M) (held : Option (List ℕ)) (gathered gathered_then : List ℕ) → performs store flush_number meant old c show o new → new.tree ≡ current_after c old.tree o

@@ -115,15 +115,7 @@ begins_copied left after line slice text read is some rest same ends reads =
 
 pub is_crash : (c : Command) (keep : ℕ) → crash_of c ≡ Some keep → c ≡ command.Crash keep
 is_crash (command.Crash k) keep e = cc
-is_crash (command.Point call) keep e = cc
-is_crash (command.Begin call) keep e = cc
-is_crash (command.Step n) keep e = cc
-is_crash (command.Finish n) keep e = cc
-is_crash (command.Abandon n) keep e = cc
-is_crash (command.Batch writes) keep e = cc
-is_crash command.Flush keep e = cc
-is_crash command.Dump keep e = cc
-is_crash (command.OpenTree name) keep e = cc
+is_crash other keep e = cc
 
 -- ---- over several lines
 

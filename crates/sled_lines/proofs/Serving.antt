@@ -1,5 +1,6 @@
 -- Sessions of the program, one after the other.
-use Rattle.std.proofs.Common.{◌≡◌, ℕ, Bool, true, false, List, [], ◌++◌, Option, Some, None, IfSome, codes, refl, ap, ◌∙◌, subst, sym}
+use Rattle.std.proofs.Common.{◌≡◌, ℕ, Bool, true, false, List, [], ◌++◌, Option, IfSome, codes, refl, ap, ◌∙◌, subst, sym}
+use Rattle.std.proofs.lemmas.Option.{IfSome_then}
 use Rattle.std.specs.Io.KnownBytes.{Keeps}
 use Rattle.sled_store.specs.Crash.{Crashes}
 use Rattle.sled_pages.specs.Memory.{store_of, flush_number_of, empty_store}
@@ -13,7 +14,7 @@ use Rattle.sled.specs.Operators.{without_operators}
 use Rattle.sled.specs.Values.{DbValue}
 use Rattle.line_words.specs.Print.{Prints}
 use Rattle.sled_lines.specs.Serve.{lines_of, no_meaning, recovered_text, OpensSession, ToTheEnd, ToABadLine, ToACrash, Served}
-use Rattle.sled_lines.specs.theory.Serve.{Place, LivesOn, LivedOn, LivedFrom, ServesOn, ServesFrom}
+use Rattle.sled_lines.specs.theory.Serve.{Place, LivesOn, LivedFrom, ServesOn, ServesFrom}
 use Rattle.sled_lines.specs.declared.operator.NoOperator.{NoOperator}
 use Rattle.sled_lines.specs.declared.serve.End.{End}
 use Rattle.sled_lines.specs.declared.serve.End.TheVariants as end
@@ -46,22 +47,16 @@ opens_without store before called d o = record {
 }
 
 -- a session that lived over these lines, after the first thing that it printed
-lived_by : (l : Option (List ℕ)) (n : ℕ) (before : Store) (s last : Session MemPages NoOperator) (held held_then : Option (List ℕ)) (gathered gathered_then : List ℕ) (e : End) (there : Place) → OpensSession before s → Prints held gathered held_then gathered_then (recovered_text before.recovered)
-    → IfSome l (LivesOn store_of flush_number_of no_meaning s (record { number = n; left = l; held = held_then; gathered = gathered_then }) e last there)
-    → IfSome l (LivedOn before (record { number = n; left = l; held = held; gathered = gathered }) e (store_of last.machine.db.pages) there)
-lived_by None n before s last held held_then gathered gathered_then e there opens first on = tt
-lived_by (Some text) n before s last held held_then gathered gathered_then e there opens first on = record {
+pub lived_from : (before : Store) (s last : Session MemPages NoOperator) (here : Place) (held : Option (List ℕ)) (gathered : List ℕ) (e : End) (there : Place) → OpensSession before s → Prints here.held here.gathered held gathered (recovered_text before.recovered)
+    → IfSome here.left (LivesOn store_of flush_number_of no_meaning s (record { number = here.number; left = here.left; held = held; gathered = gathered }) e last there)
+    → LivedFrom before here e (store_of last.machine.db.pages) there
+lived_from before s last here held gathered e there opens first lives = IfSome_then here.left lives (λ text on. record {
   texts = recovered_text before.recovered ++ on.texts;
   rest = on.rest;
   lived = record { first = s; last = last; opens = opens; texts = on.texts; lives = on.lives; is = refl; left = refl };
   left = on.left;
   prints = prints_then _ _ _ _ _ _ _ _ first on.prints;
-}
-
-pub lived_from : (before : Store) (s last : Session MemPages NoOperator) (here : Place) (held : Option (List ℕ)) (gathered : List ℕ) (e : End) (there : Place) → OpensSession before s → Prints here.held here.gathered held gathered (recovered_text before.recovered)
-    → IfSome here.left (LivesOn store_of flush_number_of no_meaning s (record { number = here.number; left = here.left; held = held; gathered = gathered }) e last there)
-    → LivedFrom before here e (store_of last.machine.db.pages) there
-lived_from before s last here held gathered e there opens first on = lived_by here.left here.number before s last here.held held here.gathered gathered e there opens first on
+})
 
 -- .. over what was opened, and what it left
 pub lived : {B : Type 0} (before : Store) (db : DbValue MemPages B) (d out : DbValue MemPages NoOperator) (s last : Session MemPages NoOperator) (here : Place) (held : Option (List ℕ)) (gathered : List ℕ) (e : End) (there : Place) (left : MemPages)
@@ -77,45 +72,25 @@ lived before db d out s last here held gathered e there left opens without same 
     (subst (λ r. Prints here.held here.gathered held gathered (recovered_text r)) over.recovered first)
     lives)
 
-end_by : (l : Option (List ℕ)) (n : ℕ) (before after : Store) (held : Option (List ℕ)) (gathered : List ℕ) (there : Place) → IfSome l (LivedOn before (record { number = n; left = l; held = held; gathered = gathered }) end.NoLine after there)
-    → IfSome l (ServesOn before (record { number = n; left = l; held = held; gathered = gathered }) true there)
-end_by None n before after held gathered there lived = tt
-end_by (Some text) n before after held gathered there lived = record { texts = lived.texts; serves = ToTheEnd lived.lived; prints = lived.prints }
-
 -- the last session ends with the lines
 pub serves_end : (before after : Store) (here there : Place) → LivedFrom before here end.NoLine after there → ServesFrom before here true there
-serves_end before after here there lived = end_by here.left here.number before after here.held here.gathered there lived
-
-bad_by : (l : Option (List ℕ)) (n : ℕ) (before after : Store) (held : Option (List ℕ)) (gathered : List ℕ) (there : Place) → IfSome l (LivedOn before (record { number = n; left = l; held = held; gathered = gathered }) end.BadLine after there)
-    → IfSome l (ServesOn before (record { number = n; left = l; held = held; gathered = gathered }) false there)
-bad_by None n before after held gathered there lived = tt
-bad_by (Some text) n before after held gathered there lived = record { texts = lived.texts; serves = ToABadLine lived.lived; prints = lived.prints }
+serves_end before after here there lived = IfSome_then here.left lived (λ text on. record { texts = on.texts; serves = ToTheEnd on.lived; prints = on.prints })
 
 -- .. or at one that cannot be read
 pub serves_bad : (before after : Store) (here there : Place) → LivedFrom before here end.BadLine after there → ServesFrom before here false there
-serves_bad before after here there lived = bad_by here.left here.number before after here.held here.gathered there lived
-
-crash_by : (l : Option (List ℕ)) (n keep : ℕ) (before after next : Store) (held : Option (List ℕ)) (gathered : List ℕ) (mid there : Place) (read : Bool) → IfSome l (LivedOn before (record { number = n; left = l; held = held; gathered = gathered }) (end.Crash keep) after mid)
-    → Crashes keep after next → IfSome mid.left (ServesOn next mid read there) → IfSome l (ServesOn before (record { number = n; left = l; held = held; gathered = gathered }) read there)
-crash_by None n keep before after next held gathered mid there read lived crashes others = tt
-crash_by (Some text) n keep before after next held gathered mid there read lived crashes others =
-    let on : ServesOn next mid read there lived.rest = subst (λ o. IfSome o (ServesOn next mid read there)) lived.left others in
-    record { texts = lived.texts ++ on.texts; serves = ToACrash lived.lived crashes on.serves; prints = prints_then _ _ _ _ _ _ _ _ lived.prints on.prints }
+serves_bad before after here there lived = IfSome_then here.left lived (λ text on. record { texts = on.texts; serves = ToABadLine on.lived; prints = on.prints })
 
 -- a crash ends a session, and others follow over what it left
 pub serves_crash : (keep : ℕ) (before after next : Store) (here mid there : Place) (read : Bool) → LivedFrom before here (end.Crash keep) after mid → Crashes keep after next → ServesFrom next mid read there → ServesFrom before here read there
-serves_crash keep before after next here mid there read lived crashes others = crash_by here.left here.number keep before after next here.held here.gathered mid there read lived crashes others
-
-served_by : (l : Option (List ℕ)) (held : Option (List ℕ)) (gathered : List ℕ) (there : Place) (held_then : Option (List ℕ)) (read : Bool) → gathered ≡ [] → there.gathered ≡ [] → Keeps there.held held_then
-    → IfSome l (ServesOn empty_store (record { number = 0; left = l; held = held; gathered = gathered }) read there) → IfSome l (λ text. Served text held held_then read)
-served_by None held gathered there held_then read none written keeps serves = tt
-served_by (Some text) held gathered there held_then read none written keeps serves = record {
-  printed = serves.texts ++ [];
-  serves = subst (λ z. Rattle.sled_lines.specs.Serve.Serves 0 empty_store (lines_of text) z read) (sym (Rattle.std.proofs.Common.append-nil serves.texts)) serves.serves;
-  prints = subst (λ g. Prints held g held_then [] (serves.texts ++ [])) none (prints_then _ _ _ _ _ _ _ _ serves.prints (prints_kept _ _ _ _ keeps (sym written)));
-}
+serves_crash keep before after next here mid there read lived crashes others = IfSome_then here.left lived (λ text on.
+    let more : ServesOn next mid read there on.rest = subst (λ o. IfSome o (ServesOn next mid read there)) on.left others in
+    record { texts = on.texts ++ more.texts; serves = ToACrash on.lived crashes more.serves; prints = prints_then _ _ _ _ _ _ _ _ on.prints more.prints })
 
 -- all that was printed is written
 pub served : (left held : Option (List ℕ)) (gathered : List ℕ) (there : Place) (held_then : Option (List ℕ)) (read : Bool) → gathered ≡ [] → there.gathered ≡ [] → Keeps there.held held_then
     → ServesFrom empty_store (record { number = 0; left = left; held = held; gathered = gathered }) read there → IfSome left (λ text. Served text held held_then read)
-served left held gathered there held_then read none written keeps serves = served_by left held gathered there held_then read none written keeps serves
+served left held gathered there held_then read none written keeps serves = IfSome_then left serves (λ text on. record {
+  printed = on.texts ++ [];
+  serves = subst (λ z. Rattle.sled_lines.specs.Serve.Serves 0 empty_store (lines_of text) z read) (sym (Rattle.std.proofs.Common.append-nil on.texts)) on.serves;
+  prints = subst (λ g. Prints held g held_then [] (on.texts ++ [])) none (prints_then _ _ _ _ _ _ _ _ on.prints (prints_kept _ _ _ _ keeps (sym written)));
+})
