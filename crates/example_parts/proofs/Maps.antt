@@ -1,19 +1,21 @@
 -- The maps of a database and of its pages, and what the tests of a call tell of both.
 use Rattle.std.proofs.Common.{◌≡◌, ℕ, Bool, true, false, not, cond, List, ◌∷◌, Option, Some, None, option_map, is_some, sym, refl, ◌∙◌}
 use Rattle.std.proofs.Math.Path.{fun_ext}
+use Rattle.std.specs.Str.{bytes_eq}
 use Rattle.sled_nodes.proofs.Basics.{none_some, false_true, not_true}
 use Rattle.sled_nodes.specs.Order.{Key}
 use Rattle.sled_store.specs.State.{nodes_of}
 use Rattle.sled_store.specs.Store.{Store, now}
-use Rattle.sled_model.specs.Maps.{Map, Merge}
+use Rattle.sled_model.specs.Maps.{Map, Maps, Merge}
 use Rattle.sled_model.specs.Refusal.{MustRefuse, IsClosed, IsDropped, first_of, foreign_test, dropped_test, is_number, must_refuse_of}
 use Rattle.sled_model.specs.State.{State, NamedTree}
 use Rattle.sled_model.specs.declared.tree.Tree.{Tree}
 use Rattle.tree_laws.specs.Contents.{trees_of, pairs_under}
+use Rattle.sled.specs.Opens.{or_empty, with_tree}
 use Rattle.sled.specs.Sound.{IsDb}
 use Rattle.sled.specs.Values.{DbValue, db_state, numbers_of, named}
 use Rattle.sled.proofs.Grouped.{tested_open}
-use Rattle.example_parts.specs.Reads.{maps_now}
+use Rattle.example_parts.specs.Reads.{found_in, maps_now}
 
 -- ---- maps and pages
 
@@ -33,6 +35,15 @@ numbered store d is t = go (numbers_of d.trees t) ((now (store d.pages)).roots t
     go (Some n) (Some r) e f = refl
     go None (Some r) e f = let k = is.is.numbered t r f in none_some (sym e ∙ k.1)
     go (Some n) None e f = let k = is.is.rooted t n e in none_some (sym f ∙ k.1)
+
+-- an empty tree that is new has no key
+pub with_tree_alike : (tree : Key) (maps : Maps) (name key : Key) → found_in (with_tree tree maps name) key ≡ found_in (maps name) key
+with_tree_alike tree maps name key = go (bytes_eq name tree) (maps name)
+  where
+    go : (b : Bool) (o : Option Map) → found_in (cond b (or_empty o) o) key ≡ found_in o key
+    go true None = refl
+    go true (Some m) = refl
+    go false o = refl
 
 -- ---- tests
 

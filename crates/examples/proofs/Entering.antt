@@ -15,26 +15,16 @@ use Rattle.examples.specs.Stock.{entry_key, Agree, item_taken, entry_taken, item
 -- ---- what a change writes
 
 pub items_rise : (item : Key) (from to : Option Key) → T (is_sorted key_cmp (item_put item to (item_taken item from [])))
-items_rise item from to = put_rises to (item_taken item from []) (taken_rises from)
-  where
-    taken_rises : (from : Option Key) → T (is_sorted key_cmp (item_taken item from []))
-    taken_rises None = tt
-    taken_rises (Some p) = tt
-
-    put_rises : (to : Option Key) (ws : Writes) → T (is_sorted key_cmp ws) → T (is_sorted key_cmp (item_put item to ws))
-    put_rises None ws rises = rises
-    put_rises (Some p) ws rises = is_sorted-put key_cmp key_total item (Some p) ws rises
+items_rise item None None = tt
+items_rise item (Some f) None = tt
+items_rise item None (Some p) = is_sorted-put key_cmp key_total item (Some p) [] tt
+items_rise item (Some f) (Some p) = is_sorted-put key_cmp key_total item (Some p) (item_taken item (Some f) []) tt
 
 pub entries_rise : (item : Key) (from to : Option Key) → T (is_sorted key_cmp (entry_put item to (entry_taken item from [])))
-entries_rise item from to = put_rises to (entry_taken item from []) (taken_rises from)
-  where
-    taken_rises : (from : Option Key) → T (is_sorted key_cmp (entry_taken item from []))
-    taken_rises None = tt
-    taken_rises (Some p) = tt
-
-    put_rises : (to : Option Key) (ws : Writes) → T (is_sorted key_cmp ws) → T (is_sorted key_cmp (entry_put item to ws))
-    put_rises None ws rises = rises
-    put_rises (Some p) ws rises = is_sorted-put key_cmp key_total (entry_key p item) (Some item) ws rises
+entries_rise item None None = tt
+entries_rise item (Some f) None = tt
+entries_rise item None (Some p) = is_sorted-put key_cmp key_total (entry_key p item) (Some item) [] tt
+entries_rise item (Some f) (Some p) = is_sorted-put key_cmp key_total (entry_key p item) (Some item) (entry_taken item (Some f) []) tt
 
 item_put_off : (q item : Key) (to : Option Key) (ws : Writes) → q ≢ item → find key_cmp q (item_put item to ws) ≡ find key_cmp q ws
 item_put_off q item None ws off = refl

@@ -1,7 +1,6 @@
 -- What the calls on a stock make of its two trees, now and after a crash.
-use Rattle.std.proofs.Common.{◌≡◌, ◌≢◌, ℕ, Bool, true, false, not, cond, List, [], ◌∷◌, ◌++◌, Option, Some, None, option_map, unwrap_or, sym, refl, ap, ◌∙◌, subst, inl, inr}
+use Rattle.std.proofs.Common.{◌≡◌, ◌≢◌, ℕ, true, false, not, List, [], ◌∷◌, ◌++◌, Option, Some, None, option_map, unwrap_or, sym, refl, ap, ◌∙◌, subst, inl, inr}
 use Rattle.std.specs.FinMap.Entries.{find}
-use Rattle.std.specs.Str.{bytes_eq}
 use Rattle.sled_nodes.proofs.Basics.{none_some}
 use Rattle.ordered_keys.specs.Keys.{IsOneToOne}
 use Rattle.sled_nodes.specs.Order.{Key, key_cmp}
@@ -12,7 +11,7 @@ use Rattle.sled_store.specs.State.{State as PageState}
 use Rattle.sled_store.specs.Store.{Store, now}
 use Rattle.sled_store.specs.Crash.{Crashes}
 use Rattle.sled_store.specs.theory.Facts.{may_leave_crashed}
-use Rattle.sled_model.specs.Maps.{Map, Maps, Merge}
+use Rattle.sled_model.specs.Maps.{Maps, Merge}
 use Rattle.sled_model.specs.Groups.{writes_on, after_writes, DecidesGroup}
 use Rattle.sled_model.specs.Refusal.{MustRefuse, first_of, must_refuse_of}
 use Rattle.sled_model.specs.State.{State, NamedTree, default_name, maps_of}
@@ -25,13 +24,13 @@ use Rattle.tree_laws.specs.Crashes.{AddsCrashStates}
 use Rattle.tree_laws.proofs.Crashing.{extends_same}
 use Rattle.sled.specs.Direct.{LeavesAll, WholeDecided, WholeRefused}
 use Rattle.sled.specs.Groups.{GroupDecided, GroupRefused}
-use Rattle.sled.specs.Opens.{or_empty, with_tree, with_default, Opens}
+use Rattle.sled.specs.Opens.{with_tree, with_default, Opens}
 use Rattle.sled.specs.Reads.{ReadsMap}
 use Rattle.sled.specs.Sound.{IsDb}
 use Rattle.sled.specs.Values.{DbValue, db_state}
 use Rattle.sled.proofs.Written.{after_both, writes_elsewhere}
 use Rattle.example_parts.specs.Reads.{found_in, maps_now}
-use Rattle.example_parts.proofs.Maps.{maps_are, open_now, open_before, first_there, second_there}
+use Rattle.example_parts.proofs.Maps.{maps_are, with_tree_alike, open_now, open_before, first_there, second_there}
 use Rattle.example_parts.proofs.Added.{left_by}
 use Rattle.example_parts.proofs.Written.{Holds, batch_there}
 use Rattle.examples.specs.Stock.{entry_key, AgreeIn, Agrees, Moves, Stays, item_taken, entry_taken, item_put, entry_put}
@@ -47,15 +46,6 @@ agree_alike a b table index alike agree = record {
   has = λ item place e. alike index (entry_key place item) ∙ agree.has item place (sym (alike table item) ∙ e);
   only = λ key item e. let found = agree.only key item (sym (alike index key) ∙ e) in (found.0, alike table item ∙ found.1, found.2);
 }
-
--- .. as where an empty tree is new
-with_tree_alike : (tree : Key) (maps : Maps) (name key : Key) → found_in (with_tree tree maps name) key ≡ found_in (maps name) key
-with_tree_alike tree maps name key = go (bytes_eq name tree) (maps name)
-  where
-    go : (b : Bool) (o : Option Map) → found_in (cond b (or_empty o) o) key ≡ found_in o key
-    go true None = refl
-    go true (Some m) = refl
-    go false o = refl
 
 -- .. or where neither has a key
 pub none_agree : (maps : Maps) (table index : Key) → ((name : Key) → maps name ≡ None) → AgreeIn maps table index

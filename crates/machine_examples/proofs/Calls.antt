@@ -309,9 +309,4 @@ module _ {P M : Type 0} (store : P → Store) (number : P → ℕ) (meant : M �
 
       go : (o : Outcome) → ((e : Error) → o ≡ outcome.Refused e → TellsTurns e → ⊥) → HasTurns o
       go (outcome.Refused e) u = u e refl
-      go (outcome.Decided reply) u = tt
-      go (outcome.Begun i) u = tt
-      go outcome.Moved u = tt
-      go (outcome.Yielded key value) u = tt
-      go outcome.Abandoned u = tt
-      go outcome.NoSuchSlot u = tt
+      go o u = tt

@@ -8,7 +8,7 @@ use Rattle.sled_model.specs.Collections.{Content, contents_of}
 use Rattle.sled_model.specs.State.{State, maps_of}
 use Rattle.sled_model.specs.Refusal.{Asked, ToCall, ToStep, must_refuse}
 use Rattle.sled_model.specs.Transition.{Configuration, Transition}
-use Rattle.sled_model.specs.declared.call.Whole.TheVariants.{Flush, PopMin, PopMax, Clear, Group, OpenTree, DropTree, GenerateId, Import, Watch, Next, Unsubscribe}
+use Rattle.sled_model.specs.declared.call.Whole.TheVariants.{Flush, PopMin, PopMax, Clear, Group, OpenTree, DropTree, Import}
 use Rattle.sled_model.specs.declared.outcome.Step.{Step}
 use Rattle.sled_model.specs.declared.outcome.Step.TheVariants as step
 use Rattle.sled_model.specs.declared.outcome.Outcome.{Outcome}
@@ -52,167 +52,74 @@ module _ {P M : Type 0} (store : P → Store) (number : P → ℕ) (meant : M �
   module _ (a b : MachineValue P M) where
     plain_follows : (s : Step) (o : Outcome) → follows_stage_as store meant a s o b → follows_stage_as store (λ m. m) (plain_machine a) s o (plain_machine b)
     plain_follows (step.Step slot) o h = λ f there must fits. let k = h f there (sym (same_tests store meant a.db (ToStep (call_in_flight_of f))) ∙ must) fits in record { went = k.went; next = k.next; outcome = k.outcome; there = k.there; follows = k.follows }
-    plain_follows (step.Begin tree call) o h = h
-    plain_follows (step.Abandon slot) o h = h
-    plain_follows (step.Whole whole) o h = h
+    plain_follows s o h = h
 
     plain_passes : (s : Step) (o : Outcome) → advances_on_path_as store a s o b → advances_on_path_as store (plain_machine a) s o (plain_machine b)
     plain_passes (step.Step slot) outcome.Moved h = λ path ahead walks.
         let k = h path (record { flight = ahead.flight; here = ahead.here; clean = ahead.clean }) walks in
         (k.0, k.1, record { flight = k.2.flight; here = k.2.here; clean = k.2.clean })
-    plain_passes (step.Step slot) (outcome.Yielded key value) h = h
-    plain_passes (step.Step slot) (outcome.Begun i) h = h
-    plain_passes (step.Step slot) (outcome.Decided reply) h = h
-    plain_passes (step.Step slot) (outcome.Refused e) h = h
-    plain_passes (step.Step slot) outcome.Abandoned h = h
-    plain_passes (step.Step slot) outcome.NoSuchSlot h = h
-    plain_passes (step.Begin tree call) o h = h
-    plain_passes (step.Abandon slot) o h = h
-    plain_passes (step.Whole whole) o h = h
+    plain_passes s o h = h
 
     plain_starts : (s : Step) (o : Outcome) → starts_as s o b → starts_as s o (plain_machine b)
     plain_starts (step.Begin tree call) (outcome.Begun slot) h = h
-    plain_starts (step.Begin tree call) outcome.Moved h = h
-    plain_starts (step.Begin tree call) (outcome.Yielded key value) h = h
-    plain_starts (step.Begin tree call) (outcome.Decided reply) h = h
-    plain_starts (step.Begin tree call) (outcome.Refused e) h = h
-    plain_starts (step.Begin tree call) outcome.Abandoned h = h
-    plain_starts (step.Begin tree call) outcome.NoSuchSlot h = h
-    plain_starts (step.Step slot) o h = h
-    plain_starts (step.Abandon slot) o h = h
-    plain_starts (step.Whole whole) o h = h
+    plain_starts s o h = h
 
     plain_leaves : (s : Step) (o : Outcome) → leaks_no_page_at store a s o b → leaks_no_page_at store (plain_machine a) s o (plain_machine b)
     plain_leaves (step.Step slot) (outcome.Refused e) h = h
-    plain_leaves (step.Step slot) outcome.Moved h = h
-    plain_leaves (step.Step slot) (outcome.Yielded key value) h = h
-    plain_leaves (step.Step slot) (outcome.Begun i) h = h
-    plain_leaves (step.Step slot) (outcome.Decided reply) h = h
-    plain_leaves (step.Step slot) outcome.Abandoned h = h
-    plain_leaves (step.Step slot) outcome.NoSuchSlot h = h
-    plain_leaves (step.Begin tree call) o h = h
-    plain_leaves (step.Abandon slot) o h = h
-    plain_leaves (step.Whole whole) o h = h
+    plain_leaves s o h = h
 
     plain_turns : (s : Step) (o : Outcome) → gives_up_as store meant a.db s o → gives_up_as store (λ m. m) (plain store meant a.db) s o
     plain_turns (step.Whole (PopMin tree)) (outcome.Refused e) h = plain_gives_up store meant a.db tree IsLeast once e h
     plain_turns (step.Whole (PopMax tree)) (outcome.Refused e) h = plain_gives_up store meant a.db tree IsGreatest for_each e h
-    plain_turns (step.Whole Flush) (outcome.Refused e) h = h
-    plain_turns (step.Whole (Clear tree)) (outcome.Refused e) h = h
-    plain_turns (step.Whole (Group batches)) (outcome.Refused e) h = h
-    plain_turns (step.Whole (OpenTree name)) (outcome.Refused e) h = h
-    plain_turns (step.Whole (DropTree name)) (outcome.Refused e) h = h
-    plain_turns (step.Whole GenerateId) (outcome.Refused e) h = h
-    plain_turns (step.Whole (Import collections)) (outcome.Refused e) h = h
-    plain_turns (step.Whole (Watch tree prefix)) (outcome.Refused e) h = h
-    plain_turns (step.Whole (Next subscriber)) (outcome.Refused e) h = h
-    plain_turns (step.Whole (Unsubscribe subscriber)) (outcome.Refused e) h = h
-    plain_turns (step.Whole whole) (outcome.Begun slot) h = h
-    plain_turns (step.Whole whole) outcome.Moved h = h
-    plain_turns (step.Whole whole) (outcome.Yielded key value) h = h
-    plain_turns (step.Whole whole) (outcome.Decided reply) h = h
-    plain_turns (step.Whole whole) outcome.Abandoned h = h
-    plain_turns (step.Whole whole) outcome.NoSuchSlot h = h
-    plain_turns (step.Begin tree call) o h = h
-    plain_turns (step.Step slot) o h = h
-    plain_turns (step.Abandon slot) o h = h
+    plain_turns s o h = h
 
     plain_untouched : (asked : Asked) → (must_refuse (db_state store meant a.db) asked ≢ None → b ≡ a) → must_refuse (db_state store (λ m. m) (plain store meant a.db)) asked ≢ None → plain_machine b ≡ plain_machine a
     plain_untouched asked h must = ap plain_machine (h (subst (λ (s : State). must_refuse s asked ≢ None) (same_db store meant a.db) must))
 
     plain_tested : (s : Step) (o : Outcome) → tested_as store meant a s o b → tested_as store (λ m. m) (plain_machine a) s o (plain_machine b)
     plain_tested (step.Whole Flush) (outcome.Refused e) h = h
-    plain_tested (step.Whole (PopMin tree)) (outcome.Refused e) h = plain_untouched (ToCall (PopMin tree)) h
-    plain_tested (step.Whole (PopMax tree)) (outcome.Refused e) h = plain_untouched (ToCall (PopMax tree)) h
-    plain_tested (step.Whole (Clear tree)) (outcome.Refused e) h = plain_untouched (ToCall (Clear tree)) h
-    plain_tested (step.Whole (Group batches)) (outcome.Refused e) h = plain_untouched (ToCall (Group batches)) h
-    plain_tested (step.Whole (OpenTree name)) (outcome.Refused e) h = plain_untouched (ToCall (OpenTree name)) h
-    plain_tested (step.Whole (DropTree name)) (outcome.Refused e) h = plain_untouched (ToCall (DropTree name)) h
-    plain_tested (step.Whole GenerateId) (outcome.Refused e) h = plain_untouched (ToCall GenerateId) h
-    plain_tested (step.Whole (Import collections)) (outcome.Refused e) h = plain_untouched (ToCall (Import collections)) h
-    plain_tested (step.Whole (Watch tree prefix)) (outcome.Refused e) h = plain_untouched (ToCall (Watch tree prefix)) h
-    plain_tested (step.Whole (Next subscriber)) (outcome.Refused e) h = plain_untouched (ToCall (Next subscriber)) h
-    plain_tested (step.Whole (Unsubscribe subscriber)) (outcome.Refused e) h = plain_untouched (ToCall (Unsubscribe subscriber)) h
-    plain_tested (step.Whole whole) (outcome.Begun slot) h = h
-    plain_tested (step.Whole whole) outcome.Moved h = h
-    plain_tested (step.Whole whole) (outcome.Yielded key value) h = h
-    plain_tested (step.Whole whole) (outcome.Decided reply) h = h
-    plain_tested (step.Whole whole) outcome.Abandoned h = h
-    plain_tested (step.Whole whole) outcome.NoSuchSlot h = h
-    plain_tested (step.Begin tree call) o h = h
-    plain_tested (step.Step slot) o h = h
-    plain_tested (step.Abandon slot) o h = h
+    plain_tested (step.Whole whole) (outcome.Refused e) h = plain_untouched (ToCall whole) h
+    plain_tested s o h = h
 
     plain_pops_as : (tree : Tree) (is_end : Map → Option (Key × Key) → Type 0) (of : ℕ → ℕ) (o : Outcome) → pops_as store meant a.db tree is_end of o b.db → pops_as store (λ m. m) (plain store meant a.db) tree is_end of o (plain store meant b.db)
     plain_pops_as tree is_end of (outcome.Decided reply) h = (h.0, h.1, plain_pops store meant a.db tree is_end h.0 b.db h.2)
     plain_pops_as tree is_end of (outcome.Refused e) h = plain_stops store meant a.db tree is_end of e b.db h
-    plain_pops_as tree is_end of (outcome.Begun slot) h = h
-    plain_pops_as tree is_end of outcome.Moved h = h
-    plain_pops_as tree is_end of (outcome.Yielded key value) h = h
-    plain_pops_as tree is_end of outcome.Abandoned h = h
-    plain_pops_as tree is_end of outcome.NoSuchSlot h = h
+    plain_pops_as tree is_end of o h = h
 
     plain_groups : (batches : List (Tree × Writes)) (o : Outcome) → groups_as store meant a.db batches o b.db → groups_as store (λ m. m) (plain store meant a.db) batches o (plain store meant b.db)
     plain_groups batches (outcome.Decided reply) h = (plain_quiet store meant batches a.db b.db h.0, plain_loud store meant batches a.db b.db h.1)
     plain_groups batches (outcome.Refused e) h = plain_quiet store meant batches a.db b.db h
-    plain_groups batches (outcome.Begun slot) h = h
-    plain_groups batches outcome.Moved h = h
-    plain_groups batches (outcome.Yielded key value) h = h
-    plain_groups batches outcome.Abandoned h = h
-    plain_groups batches outcome.NoSuchSlot h = h
+    plain_groups batches o h = h
 
     plain_clears_as : (tree : Tree) (o : Outcome) → clears_as store meant a.db tree o b.db → clears_as store (λ m. m) (plain store meant a.db) tree o (plain store meant b.db)
     plain_clears_as tree (outcome.Decided reply) h = plain_clears store meant tree h
     plain_clears_as tree (outcome.Refused e) h = plain_clear_stops store meant tree a.db e b.db h
-    plain_clears_as tree (outcome.Begun slot) h = h
-    plain_clears_as tree outcome.Moved h = h
-    plain_clears_as tree (outcome.Yielded key value) h = h
-    plain_clears_as tree outcome.Abandoned h = h
-    plain_clears_as tree outcome.NoSuchSlot h = h
+    plain_clears_as tree o h = h
 
     plain_opens_as : (name : Key) (o : Outcome) → opens_as store a.db name o b.db → opens_as store (plain store meant a.db) name o (plain store meant b.db)
     plain_opens_as name (outcome.Decided reply) h = plain_opens_by store meant name a.db b.db h
     plain_opens_as name (outcome.Refused e) h = plain_opens_not store meant name a.db e b.db h
-    plain_opens_as name (outcome.Begun slot) h = h
-    plain_opens_as name outcome.Moved h = h
-    plain_opens_as name (outcome.Yielded key value) h = h
-    plain_opens_as name outcome.Abandoned h = h
-    plain_opens_as name outcome.NoSuchSlot h = h
+    plain_opens_as name o h = h
 
     plain_drops_as : (name : Key) (o : Outcome) → drops_tree_as store meant a.db name o b.db → drops_tree_as store (λ m. m) (plain store meant a.db) name o (plain store meant b.db)
     plain_drops_as name (outcome.Decided reply) h = (h.0, h.1, plain_drops store meant a.db name h.0 b.db h.2)
     plain_drops_as name (outcome.Refused e) h = plain_drops_not store meant a.db name e b.db h
-    plain_drops_as name (outcome.Begun slot) h = h
-    plain_drops_as name outcome.Moved h = h
-    plain_drops_as name (outcome.Yielded key value) h = h
-    plain_drops_as name outcome.Abandoned h = h
-    plain_drops_as name outcome.NoSuchSlot h = h
+    plain_drops_as name o h = h
 
     plain_imports_as : (all : List Content) (o : Outcome) → imports_as store meant a.db all o b.db → imports_as store (λ m. m) (plain store meant a.db) all o (plain store meant b.db)
     plain_imports_as all (outcome.Decided reply) h = plain_imports store meant h
     plain_imports_as all (outcome.Refused e) h = plain_imports_not store meant all a.db e b.db h
-    plain_imports_as all (outcome.Begun slot) h = h
-    plain_imports_as all outcome.Moved h = h
-    plain_imports_as all (outcome.Yielded key value) h = h
-    plain_imports_as all outcome.Abandoned h = h
-    plain_imports_as all outcome.NoSuchSlot h = h
+    plain_imports_as all o h = h
 
     plain_way : (s : Step) (o : Outcome) → way_as store meant a.db s o b.db → way_as store (λ m. m) (plain store meant a.db) s o (plain store meant b.db)
-    plain_way (step.Whole Flush) o h = h
     plain_way (step.Whole (PopMin tree)) o h = plain_pops_as tree IsLeast once o h
     plain_way (step.Whole (PopMax tree)) o h = plain_pops_as tree IsGreatest for_each o h
     plain_way (step.Whole (Clear tree)) o h = plain_clears_as tree o h
     plain_way (step.Whole (Group batches)) o h = plain_groups batches.items o h
     plain_way (step.Whole (OpenTree name)) o h = plain_opens_as name o h
     plain_way (step.Whole (DropTree name)) o h = plain_drops_as name o h
-    plain_way (step.Whole GenerateId) o h = h
     plain_way (step.Whole (Import collections)) o h = plain_imports_as (contents_of collections.items) o h
-    plain_way (step.Whole (Watch tree prefix)) o h = h
-    plain_way (step.Whole (Next subscriber)) o h = h
-    plain_way (step.Whole (Unsubscribe subscriber)) o h = h
-    plain_way (step.Begin tree call) o h = h
-    plain_way (step.Step slot) o h = h
-    plain_way (step.Abandon slot) o h = h
+    plain_way s o h = h
 
     plain_reaches : (s : Step) (o : Outcome) → MachineStepContract store number meant a s o b → MachineStepContract store number (λ m. m) (plain_machine a) s o (plain_machine b)
     plain_reaches s o r = record {

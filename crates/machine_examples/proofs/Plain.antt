@@ -31,7 +31,7 @@ use Rattle.tree_reads.specs.Walk.{once}
 use Rattle.sled_tree.specs.declared.flight.InFlight.{InFlight}
 use Rattle.sled_tree.specs.declared.flight.Went.{Went}
 use Rattle.sled_tree.specs.declared.flight.Went.TheVariants.{Moved}
-use Rattle.sled.specs.Direct.{Conducts, PointDecided, PointRefused}
+use Rattle.sled.specs.Direct.{Conducts, LeavesAll, PointDecided, PointRefused}
 use Rattle.sled.specs.Drops.{DropsNamed, DropsTree, MightDrop, refuses_drop_as, RefusesDrop}
 use Rattle.tree_steps.specs.Outcomes.{outcome_of}
 use Rattle.sled.specs.Flights.{call_in_flight_of, BringsEvent, DbStepContract, DbSteps, Ends, GoesOn, DbRunsToEnd, slot_after, maps_added}
@@ -136,8 +136,11 @@ module _ {P M : Type 0} (store : P → Store) (meant : M → Merge) where
   -- ---- calls that are made at once
 
   module _ (old new : DbValue P M) where
+    plain_leaves : {maps : List Maps} {lost : Option Key} → LeavesAll store maps lost old new → LeavesAll store maps lost (plain old) (plain new)
+    plain_leaves l = record { extends = l.extends; others = l.others; loses = l.loses; sound = λ d. plain_sound new (l.sound (meant_sound old d)) }
+
     plain_conducts : (maps : List Maps) (refused : Option Error) → Conducts store maps refused old new → Conducts store maps refused (plain old) (plain new)
-    plain_conducts maps refused c = record { acts = c.acts; leaves = record { extends = c.leaves.extends; others = c.leaves.others; loses = c.leaves.loses; sound = λ d. plain_sound new (c.leaves.sound (meant_sound old d)) }; same = ap plain c.same }
+    plain_conducts maps refused c = record { acts = c.acts; leaves = plain_leaves c.leaves; same = ap plain c.same }
 
     plain_decided : (tree : Tree) (call : Call) (reply : Reply) → PointDecided store meant old tree call reply new → PointDecided store (λ m. m) (plain old) tree call reply (plain new)
     plain_decided tree call reply p = record {
@@ -222,20 +225,17 @@ module _ {P M : Type 0} (store : P → Store) (meant : M → Merge) where
     plain_might m = record { free = still_open old m.free; off = m.off; tree = m.tree; there = same_tree old name ∙ m.there }
 
     plain_refuses : (e : Error) (q : P) → refuses_drop_as store meant old name e q → refuses_drop_as store (λ m. m) (plain old) name e q
-    plain_refuses error.Closed q h = h
     plain_refuses (error.Unsupported text) q h = (still_open old h.0, h.1, h.2, h.3)
     plain_refuses error.NoMemory q h = (plain_might h.0, h.1)
     plain_refuses (error.Io fault) q h = (plain_might h.0, h.1)
-    plain_refuses (error.CollectionNotFound text) q h = h
-    plain_refuses (error.ReportableBug text) q h = h
-    plain_refuses (error.Corruption fault) q h = h
+    plain_refuses e q h = h
 
     pub plain_drops_not : (e : Error) (new : DbValue P M) → RefusesDrop store meant old name e new → RefusesDrop store (λ m. m) (plain old) name e (plain new)
     plain_drops_not e new r = record {
       is = plain_refuses e new.pages r.is;
       same = ap plain r.same;
       state = λ slots given. same_state new slots given ∙ r.state slots given ∙ sym (same_state old slots given);
-      leaves = record { extends = r.leaves.extends; others = r.leaves.others; loses = r.leaves.loses; sound = λ d. plain_sound new (r.leaves.sound (meant_sound old d)) };
+      leaves = plain_leaves old new r.leaves;
     }
 
   -- ---- imports
@@ -252,12 +252,7 @@ module _ {P M : Type 0} (store : P → Store) (meant : M → Merge) where
       plain_cause : (o : Option MustRefuse) (e : Error) → refuses_reading_as store meant d tree of o e → refuses_reading_as store (λ m. m) (plain d) tree of o e
       plain_cause (Some must) e k = k
       plain_cause None error.NoMemory k = k
-      plain_cause None (error.Io fault) k = k
-      plain_cause None (error.ReportableBug text) k = k
-      plain_cause None (error.CollectionNotFound name) k = k
-      plain_cause None (error.Unsupported text) k = k
-      plain_cause None (error.Corruption fault) k = k
-      plain_cause None error.Closed k = k
+      plain_cause None e k = k
 
   plain_part_not : (old : DbValue P M) (part : Part) (e : Error) (new : DbValue P M) → PartRefusedBySteps store meant old part e new → PartRefusedBySteps store (λ m. m) (plain old) part e (plain new)
   plain_part_not old (OpensName name) e new h = record { is = plain_opens_not name old e new h.is }
@@ -300,7 +295,7 @@ module _ {P M : Type 0} (store : P → Store) (meant : M → Merge) where
       | inr stops ↦ inr (plain_import_stops all old e new h.maps stops)
     ];
     acts = h.acts;
-    leaves = record { extends = h.leaves.extends; others = h.leaves.others; loses = h.leaves.loses; sound = λ d. plain_sound new (h.leaves.sound (meant_sound old d)) };
+    leaves = plain_leaves old new h.leaves;
     same = ap plain h.same;
     tested = λ must. ap plain (h.tested (subst (λ (s : State). must_refuse_of s [] ≢ None) (same_db old) must));
   }

@@ -15,7 +15,7 @@ use Rattle.sled_shared.specs.WholeNotes.{noted_with, AddsWhole}
 use Rattle.sled_shared.specs.Wholes.{WholeValue, PopMin, GenerateId}
 use Rattle.example_parts.specs.Counters.{number_in}
 use Rattle.shared_examples.specs.Counting.{AddsOne}
-use Rattle.shared_examples.specs.Queueing.{noted_of_whole, Pushes, Puts, PushesNone}
+use Rattle.shared_examples.specs.Queueing.{noted_of_whole, Pushes, PushesNone}
 
 -- ---- a merge
 
@@ -48,15 +48,13 @@ pub id_or_none : (o : Outcome) (made more : List MadeValue) → more ≡ made ++
 id_or_none (outcome.Decided reply) made more adds = inr (reply, adds)
 id_or_none o made more adds = inl (adds ∙ append-nil made)
 
-pub puts : (queue : Tree) (job bytes : Key) (id : ℕ) (reply : Reply) (made more : List MadeValue) → bytes ≡ to_be_bytes w64 id → more ≡ made ++ PointMade queue (Insert bytes job) reply ∷ []
-    → Puts queue job id made more
-puts queue job bytes id reply made more same adds = (reply, adds ∙ ap (λ b. made ++ PointMade queue (Insert b job) reply ∷ []) same)
-
-pub pushes : (queue : Tree) (job : Key) (id : ℕ) (made mid more : List MadeValue) → mid ≡ made ++ WholeMade GenerateId (Number id) ∷ [] → Puts queue job id mid more → Pushes queue job id made more
-pushes queue job id made mid more given put = record {
-  reply = put.0;
+pub pushes : (queue : Tree) (job bytes : Key) (id : ℕ) (reply : Reply) (made mid more : List MadeValue) → mid ≡ made ++ WholeMade GenerateId (Number id) ∷ [] → bytes ≡ to_be_bytes w64 id
+    → more ≡ mid ++ PointMade queue (Insert bytes job) reply ∷ [] → Pushes queue job id made more
+pushes queue job bytes id reply made mid more given same adds = record {
+  reply = reply;
   adds =
-      put.1
-      ∙ ap (λ l. l ++ PointMade queue (Insert (to_be_bytes w64 id) job) put.0 ∷ []) given
-      ∙ append_assoc made (WholeMade GenerateId (Number id) ∷ []) (PointMade queue (Insert (to_be_bytes w64 id) job) put.0 ∷ []);
+      adds
+      ∙ ap (λ b. mid ++ PointMade queue (Insert b job) reply ∷ []) same
+      ∙ ap (λ l. l ++ PointMade queue (Insert (to_be_bytes w64 id) job) reply ∷ []) given
+      ∙ append_assoc made (WholeMade GenerateId (Number id) ∷ []) (PointMade queue (Insert (to_be_bytes w64 id) job) reply ∷ []);
 }

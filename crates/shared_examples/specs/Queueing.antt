@@ -25,10 +25,6 @@ pub record Pushes (queue : Tree) (job : Key) (id : ℕ) (made more : List MadeVa
   pub reply : Reply
   pub adds : more ≡ made ++ WholeMade GenerateId (Number id) ∷ PointMade queue (Insert (to_be_bytes w64 id) job) reply ∷ []
 
--- an insert of the job at the eight bytes of the id came to a list
-abbrev pub Puts : Tree → Key → ℕ → List MadeValue → List MadeValue → Type 0
-Puts queue job id made more = (reply : Reply) × (more ≡ made ++ PointMade queue (Insert (to_be_bytes w64 id) job) reply ∷ [])
-
 -- nothing came to a list but an id, if one was given
 abbrev pub PushesNone : List MadeValue → List MadeValue → Type 0
 PushesNone made more = (more ≡ made) ⊎ ((reply : Reply) × (more ≡ made ++ WholeMade GenerateId reply ∷ []))

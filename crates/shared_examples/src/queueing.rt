@@ -1,10 +1,10 @@
 //! A queue of work in a tree that threads share. A job is put in at the key of an id that the database gives, and taken out from the front. No job
 //! is taken twice, and none is lost unless another is put in at its key; of jobs that `push` puts in each has a key of its own, since ids rise.
-ghost use Rattle.std.specs.Prelude.{◌≡◌, ◌++◌, ◌∷◌, [], IfSome, IfOk, IfErr, OnOk, OnErr};
+ghost use Rattle.std.specs.Prelude.{◌≡◌, ◌++◌, ◌∷◌, [], IfOk, IfErr, OnErr};
 ghost use Rattle.sled_model.specs.declared.reply.Reply.TheVariants.{Number, Pair};
 ghost use Rattle.sled_shared.specs.Made.{WholeMade};
 ghost use Rattle.sled_shared.specs.Wholes as value;
-ghost use Rattle.shared_examples.specs.Queueing.{Pushes, PushesNone, Puts, QueueLaw, noted_of_whole};
+ghost use Rattle.shared_examples.specs.Queueing.{Pushes, PushesNone, QueueLaw, noted_of_whole};
 
 use sled_machine::shared::Handle;
 use sled_model::{MergeOperator, Outcome, Reply, Tree, Whole};
@@ -15,28 +15,7 @@ use std::sync::Wait;
 use std::sync::ledger::Ledger;
 
 // Asks for an id.
-fn ask_id<P: Pages, L: Ledger, M: MergeOperator>(
-    rt: &impl Wait,
-    handle: &mut Handle<P, L, M>,
-) -> Outcome
-    ensures made { handle.new.made ≡ handle.old.made ++ noted_of_whole result value.GenerateId }
-    ensures number { handle.new.number ≡ handle.old.number }
-{
-    handle.whole(rt, Whole::GenerateId)
-}
-
-// The number in a reply.
-fn number_told(reply: &Reply) -> Option<u64>
-    ensures { IfSome result (λ number. reply.now ≡ Number number) }
-{
-    match reply {
-        Reply::Number(number) => Some(*number),
-        _ => None,
-    }
-}
-
-// The id that was given.
-#[tactic(auto, using(crate::proofs::Noting::id_or_none))]
+#[tactic(auto, using(crate::proofs::Noting::adds_id, crate::proofs::Noting::id_or_none))]
 fn next_id<P: Pages, L: Ledger, M: MergeOperator>(
     rt: &impl Wait,
     handle: &mut Handle<P, L, M>,
@@ -45,52 +24,9 @@ fn next_id<P: Pages, L: Ledger, M: MergeOperator>(
     ensures err { OnErr result (PushesNone handle.old.made handle.new.made) }
     ensures number { handle.new.number ≡ handle.old.number }
 {
-    match ask_id(rt, handle) {
-        Outcome::Decided(reply) => match number_told(&reply) {
-            Some(id) => {
-                drop(reply);
-                Ok(id)
-            }
-            None => Err(Outcome::Decided(reply)),
-        },
+    match handle.whole(rt, Whole::GenerateId) {
+        Outcome::Decided(Reply::Number(id)) => Ok(id),
         other => Err(other),
-    }
-}
-
-// Inserts a job at an id.
-fn put<P: Pages, L: Ledger, M: MergeOperator>(
-    rt: &impl Wait,
-    alloc: Global,
-    handle: &mut Handle<P, L, M>,
-    queue: &Tree,
-    id: u64,
-    job: &[u8],
-) -> Result<(), Outcome>
-    ensures ok { OnOk result (Puts queue.now job.now id handle.old.made handle.new.made) }
-    ensures err { OnErr result (handle.new.made ≡ handle.old.made) }
-    ensures number { handle.new.number ≡ handle.old.number }
-{
-    match handle.insert(rt, alloc, queue, &id.to_be_bytes(), job) {
-        Outcome::Decided(reply) => {
-            drop(reply);
-            Ok(())
-        }
-        other => Err(other),
-    }
-}
-
-// Pops the first pair.
-fn pop<P: Pages, L: Ledger, M: MergeOperator>(
-    rt: &impl Wait,
-    handle: &mut Handle<P, L, M>,
-    queue: &Tree,
-) -> Outcome
-    ensures made { handle.new.made ≡ handle.old.made ++ noted_of_whole result (value.PopMin queue.now) }
-    ensures number { handle.new.number ≡ handle.old.number }
-{
-    match queue.clone() {
-        Ok(tree) => handle.whole(rt, Whole::PopMin(tree)),
-        Err(e) => Outcome::Refused(e),
     }
 }
 
@@ -114,13 +50,13 @@ pub fn push<P: Pages, L: Ledger, M: MergeOperator>(
     ensures err { OnErr result (PushesNone handle.old.made handle.new.made) }
     ensures number { handle.new.number ≡ handle.old.number }
 {
-    let id = match next_id(rt, handle) {
-        Ok(id) => id,
-        Err(outcome) => return Err(outcome),
-    };
-    match put(rt, alloc, handle, queue, id, job) {
-        Ok(()) => Ok(id),
-        Err(outcome) => Err(outcome),
+    let id = next_id(rt, handle)?;
+    match handle.insert(rt, alloc, queue, &id.to_be_bytes(), job) {
+        Outcome::Decided(reply) => {
+            drop(reply);
+            Ok(id)
+        }
+        other => Err(other),
     }
 }
 
@@ -146,7 +82,11 @@ pub fn take<P: Pages, L: Ledger, M: MergeOperator>(
     ensures err { IfErr result (λ o. handle.new.made ≡ handle.old.made ++ noted_of_whole o (value.PopMin queue.now)) }
     ensures number { handle.new.number ≡ handle.old.number }
 {
-    match pop(rt, handle, queue) {
+    let tree = match queue.clone() {
+        Ok(tree) => tree,
+        Err(e) => return Err(Outcome::Refused(e)),
+    };
+    match handle.whole(rt, Whole::PopMin(tree)) {
         Outcome::Decided(Reply::Pair(job)) => Ok(job),
         other => Err(other),
     }

@@ -1,5 +1,5 @@
 -- What the writing of a row makes of the table and of its index.
-use Rattle.std.proofs.Common.{◌≡◌, ◌≢◌, ◌⊎◌, ℕ, false, Bool, List, [], ◌∷◌, zip, T, Option, Some, None, unwrap_or, Result, Ok, Err, IfOk, IfErr, sym, refl, ap, ◌∙◌, subst, inl, inr}
+use Rattle.std.proofs.Common.{◌≡◌, ◌≢◌, ◌⊎◌, ℕ, false, Bool, List, [], ◌∷◌, zip, T, Option, Some, None, Result, Ok, Err, IfOk, IfErr, sym, refl, ap, ◌∙◌, subst, inl, inr}
 use Rattle.std.specs.FinMap.Entries.{find, put, is_sorted, is_sorted-put}
 use Rattle.sled_nodes.proofs.Basics.{none_some, some_is, key_total}
 use Rattle.sled_nodes.proofs.Put.{found_here, found_there}
@@ -28,7 +28,7 @@ use Rattle.transaction_examples.specs.declared.indexed.EmailTaken.{EmailTaken}
 use Rattle.transaction_examples.specs.theory.Indexed.{TakesEntry, PutsInside, GivesUpPut}
 use Rattle.transaction_examples.proofs.Attempted.{makes_group, stops_before, LastAll, last_all_made, last_all_given_up, shown_at}
 use Rattle.transaction_examples.proofs.Jobbing.{first_changed, second_changed}
-use Rattle.transaction_examples.proofs.Made.{Wrote, MakesGroup, Stopped, NotWritten, same_maps, made_holds, stopped_holds, stopped_stays, first_wrote, second_wrote, two_kept}
+use Rattle.transaction_examples.proofs.Made.{Wrote, found_by, MakesGroup, Stopped, NotWritten, same_maps, made_holds, stopped_holds, stopped_stays, first_wrote, second_wrote, two_kept}
 
 -- ---- the index agrees with the table still
 
@@ -175,11 +175,11 @@ module _ {P M F R : Type 0} (store : P → Store) (flush_number : P → ℕ) (me
     puts_row = record {
       free = λ owner there. p.free.is owner (owner_was (Ok was) writes flushes l p.free.owner p.free.shows ∙ there);
       was = sym (row_was (Ok was) writes flushes l was p.had);
-      is = table_wrote.has id ∙ ap (λ o. unwrap_or o (found_in (before table.name) id)) (found_here id (Some email) []);
-      users = λ other off. table_wrote.has other ∙ ap (λ o. unwrap_or o (found_in (before table.name) other)) (found_there other id (Some email) [] off);
-      entry = index_wrote.has email ∙ ap (λ o. unwrap_or o (found_in (before index.name) email)) (found_here email (Some id) (taken_out was));
-      gone = λ other had off. index_wrote.has other ∙ ap (λ o. unwrap_or o (found_in (before index.name) other)) (found_there other email (Some id) (taken_out was) off ∙ taken_there was other had);
-      entries = λ other not off. index_wrote.has other ∙ ap (λ o. unwrap_or o (found_in (before index.name) other)) (found_there other email (Some id) (taken_out was) off ∙ untaken was other not);
+      is = found_by table_wrote id (found_here id (Some email) []);
+      users = λ other off. found_by table_wrote other (found_there other id (Some email) [] off);
+      entry = found_by index_wrote email (found_here email (Some id) (taken_out was));
+      gone = λ other had off. found_by index_wrote other (found_there other email (Some id) (taken_out was) off ∙ taken_there was other had);
+      entries = λ other not off. found_by index_wrote other (found_there other email (Some id) (taken_out was) off ∙ untaken was other not);
       trees = two_kept store meant old new table index row entry apart tt entry_rises made;
     }
 

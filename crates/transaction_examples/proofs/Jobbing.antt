@@ -1,5 +1,5 @@
 -- What the taking of a job makes of the two trees of jobs.
-use Rattle.std.proofs.Common.{◌≡◌, ◌≢◌, ℕ, true, false, Bool, List, [], ◌∷◌, zip, slice_get, slice_set, Option, Some, None, unwrap_or, Result, Ok, Err, IfOk, IfErr, sym, refl, ap, ◌∙◌, subst, inl, inr}
+use Rattle.std.proofs.Common.{◌≡◌, ◌≢◌, ℕ, true, false, Bool, List, [], ◌∷◌, zip, slice_get, slice_set, Option, Some, None, Result, Ok, Err, IfOk, IfErr, sym, refl, ap, ◌∙◌, subst, inl, inr}
 use Rattle.std.specs.FinMap.Entries.{put}
 use Rattle.sled_nodes.proofs.Basics.{none_some, some_is}
 use Rattle.sled_nodes.proofs.Put.{found_here, found_there}
@@ -27,7 +27,7 @@ use Rattle.transaction_examples.specs.Throughout.{HoldsThroughout}
 use Rattle.transaction_examples.specs.Jobs.{is_in_one, MovesJob, TakesJob, RefusesJob}
 use Rattle.transaction_examples.specs.theory.Jobs.{MovesInside, TakesInside, NotAborted}
 use Rattle.transaction_examples.proofs.Attempted.{makes_group, stops_before, LastAll, last_all_made, last_all_given_up, shown_at}
-use Rattle.transaction_examples.proofs.Made.{Wrote, MakesGroup, Stopped, NotWritten, made_holds, stopped_holds, stopped_stays, none_wrote, first_wrote, second_wrote, two_kept}
+use Rattle.transaction_examples.proofs.Made.{Wrote, found_by, MakesGroup, Stopped, NotWritten, made_holds, stopped_holds, stopped_stays, none_wrote, first_wrote, second_wrote, two_kept}
 
 -- ---- the writes of two positions
 
@@ -122,10 +122,10 @@ module _ {P M F R : Type 0} (store : P → Store) (flush_number : P → ℕ) (me
       moved = record {
         value = value;
         was = was_ready (Some value) s;
-        gone = ready_wrote.has job ∙ ap (λ o. unwrap_or o (found_in (before ready.name) job)) (found_here job None []);
-        runs = running_wrote.has job ∙ ap (λ o. unwrap_or o (found_in (before running.name) job)) (found_here job (Some value) []);
-        ready_keys = λ other off. ready_wrote.has other ∙ ap (λ o. unwrap_or o (found_in (before ready.name) other)) (found_there other job None [] off);
-        running_keys = λ other off. running_wrote.has other ∙ ap (λ o. unwrap_or o (found_in (before running.name) other)) (found_there other job (Some value) [] off);
+        gone = found_by ready_wrote job (found_here job None []);
+        runs = found_by running_wrote job (found_here job (Some value) []);
+        ready_keys = λ other off. found_by ready_wrote other (found_there other job None [] off);
+        running_keys = λ other off. found_by running_wrote other (found_there other job (Some value) [] off);
         trees = two_kept store meant old new ready running gone come apart tt tt made;
       }
 

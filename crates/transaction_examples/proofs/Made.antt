@@ -1,5 +1,5 @@
 -- What a transaction that asks for no flush leaves of the maps of a database, now and after a crash.
-use Rattle.std.proofs.Common.{◌≡◌, ◌≢◌, true, false, not, List, [], ◌∷◌, ◌++◌, T, Some, None, option_map, unwrap_or, sym, refl, ap, ◌∙◌, subst, inl, inr}
+use Rattle.std.proofs.Common.{◌≡◌, ◌≢◌, true, false, not, List, [], ◌∷◌, ◌++◌, T, Option, Some, None, option_map, unwrap_or, sym, refl, ap, ◌∙◌, subst, inl, inr}
 use Rattle.std.specs.FinMap.Entries.{find, is_sorted}
 use Rattle.sled_nodes.specs.Order.{Key, key_cmp}
 use Rattle.sled_nodes.specs.declared.error.Error.{Error}
@@ -27,6 +27,10 @@ use Rattle.transaction_examples.specs.Throughout.{HoldsThroughout}
 -- what a tree has once these were written, and nothing else
 pub record Wrote (old new : Maps) (tree : Key) (writes : Writes) : Type 0 where
   pub has : (q : Key) → found_in (new tree) q ≡ unwrap_or (find key_cmp q writes) (found_in (old tree) q)
+
+-- .. at a key of which it is known what the writes do there
+pub found_by : {old new : Maps} {tree : Key} {writes : Writes} {write : Option (Option Key)} → Wrote old new tree writes → (q : Key) → find key_cmp q writes ≡ write → found_in (new tree) q ≡ unwrap_or write (found_in (old tree) q)
+found_by {old = old} {tree = tree} wrote q is = wrote.has q ∙ ap (λ o. unwrap_or o (found_in (old tree) q)) is
 
 module _ {P M : Type 0} (store : P → Store) (meant : M → Merge) where
   -- ids were taken, and then a group was made

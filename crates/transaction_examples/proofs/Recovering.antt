@@ -1,30 +1,20 @@
 -- What a crash makes of the maps of a database.
-use Rattle.std.proofs.Common.{◌≡◌, ℕ, Bool, true, false, cond, [], ◌∷◌, Option, Some, None, sym, refl, ap, ◌∙◌, subst, inl, inr}
-use Rattle.std.specs.Str.{bytes_eq}
+use Rattle.std.proofs.Common.{◌≡◌, ℕ, [], ◌∷◌, sym, refl, ap, ◌∙◌, subst, inl, inr}
 use Rattle.sled_nodes.specs.Order.{Key}
 use Rattle.sled_store.specs.In.{In}
 use Rattle.sled_store.specs.State.{State}
 use Rattle.sled_store.specs.Store.{Store, now}
 use Rattle.sled_store.specs.Crash.{crash_states, Crashes}
 use Rattle.sled_store.specs.theory.Facts.{may_leave_crashed}
-use Rattle.sled_model.specs.Maps.{Map, Maps, Merge}
+use Rattle.sled_model.specs.Maps.{Maps, Merge}
 use Rattle.sled_model.specs.State.{default_name}
 use Rattle.tree_laws.specs.Contents.{trees_of}
-use Rattle.sled.specs.Opens.{or_empty, with_default, Opens}
+use Rattle.sled.specs.Opens.{Opens}
 use Rattle.sled.specs.Sound.{IsDb}
 use Rattle.sled.specs.Values.{DbValue}
 use Rattle.example_parts.specs.Reads.{found_in, maps_now}
-use Rattle.example_parts.proofs.Maps.{maps_are}
+use Rattle.example_parts.proofs.Maps.{maps_are, with_tree_alike}
 use Rattle.transaction_examples.specs.Throughout.{IsSettled, Recovers}
-
--- an empty tree that is new has no key
-default_alike : (maps : Maps) (name key : Key) → found_in (with_default maps name) key ≡ found_in (maps name) key
-default_alike maps name key = go (bytes_eq name default_name) (maps name)
-  where
-    go : (b : Bool) (o : Option Map) → found_in (cond b (or_empty o) o) key ≡ found_in o key
-    go true None = refl
-    go true (Some m) = refl
-    go false o = refl
 
 -- where a crash can leave the state now alone, its maps are settled
 only_now : (s : Store) → crash_states s ≡ now s ∷ [] → IsSettled s (trees_of (now s))
@@ -41,7 +31,7 @@ module _ {P M N : Type 0} (store : P → Store) (meant : M → Merge) where
   recovers keep old left called opened d c o same sound = record {
     state = left.base;
     may = may_leave_crashed keep old left c;
-    has = λ name key. ap (λ (maps : Maps). found_in (maps name) key) (sym here ∙ o.maps) ∙ default_alike (trees_of (now left)) name key ∙ ap (λ (s : State). found_in (trees_of s name) key) base;
+    has = λ name key. ap (λ (maps : Maps). found_in (maps name) key) (sym here ∙ o.maps) ∙ with_tree_alike default_name (trees_of (now left)) name key ∙ ap (λ (s : State). found_in (trees_of s name) key) base;
     settled = subst (λ (p : P). IsSettled (store p) (maps_now store meant d)) (sym same) (subst (IsSettled (store opened.pages)) here (only_now (store opened.pages) o.left));
   }
     where

@@ -1,5 +1,5 @@
 -- What a transfer makes of the counters of a tree.
-use Rattle.std.proofs.Common.{◌≡◌, ℕ, ◌+◌, ◌<◌, ◌≤◌, ◌^◌, false, Bool, [], ◌∷◌, T, Some, unwrap_or, Result, Ok, Err, OnOk, IfOk, IfErr, refl, ap, ◌∙◌, subst, sym, arith}
+use Rattle.std.proofs.Common.{◌≡◌, ℕ, ◌+◌, ◌<◌, ◌≤◌, ◌^◌, false, Bool, [], ◌∷◌, T, Some, Result, Ok, Err, OnOk, IfOk, IfErr, refl, ap, ◌∙◌, subst, sym, arith}
 use Rattle.std.specs.FinMap.Entries.{put, is_sorted, is_sorted-put}
 use Rattle.std.specs.Int.{w64, to_be_bytes}
 use Rattle.sled_nodes.proofs.Basics.{key_total}
@@ -22,7 +22,7 @@ use Rattle.sled.specs.Sound.{IsDb}
 use Rattle.sled.specs.Transactions.{RunsOnTree, TransactionMade, TransactionNotMade, ShowsLaw}
 use Rattle.sled.specs.Values.{DbValue}
 use Rattle.example_parts.specs.Counters.{number_in, counter_in}
-use Rattle.example_parts.specs.Reads.{found_in, maps_now}
+use Rattle.example_parts.specs.Reads.{maps_now}
 use Rattle.example_parts.proofs.Reading.{number_read}
 use Rattle.transaction_examples.specs.Throughout.{HoldsThroughout, IsSettled, Recovers}
 use Rattle.transaction_examples.specs.Transfers.{come_to, Transfers, is_reason, EndsTransfer}
@@ -30,7 +30,7 @@ use Rattle.transaction_examples.specs.declared.transfers.TransferError.{Transfer
 use Rattle.transaction_examples.specs.declared.transfers.TransferError.TheVariants.{SameCounter, NotEnough, TooMuch}
 use Rattle.transaction_examples.specs.theory.Transfers.{CountsInside, MovesInside, GivesUpMove, gives_up_as}
 use Rattle.transaction_examples.proofs.Attempted.{makes_group, stops_before, Last, last_made, last_given_up, shown}
-use Rattle.transaction_examples.proofs.Made.{Wrote, MakesGroup, Stopped, NotWritten, same_maps, made_holds, stopped_holds, stopped_stays, one_wrote, one_kept}
+use Rattle.transaction_examples.proofs.Made.{Wrote, found_by, MakesGroup, Stopped, NotWritten, same_maps, made_holds, stopped_holds, stopped_stays, one_wrote, one_kept}
 
 -- what leaves the one counter comes to the other
 sum_kept : (less more low high amount total : ℕ) → less + amount ≡ low → more ≡ high + amount → low + high ≡ total → less + more ≡ total
@@ -100,12 +100,12 @@ module _ {P M F R A : Type 0} (store : P → Store) (flush_number : P → ℕ) (
 
     from_now : counter_in after tree.name from ≡ m.less
     from_now =
-        ap number_in (wrote.has from ∙ ap (λ o. unwrap_or o (found_in (before tree.name) from)) (found_there from to (Some (to_be_bytes w64 (m.stood + amount))) one m.apart ∙ found_here from (Some (to_be_bytes w64 m.less)) []))
+        ap number_in (found_by wrote from (found_there from to (Some (to_be_bytes w64 (m.stood + amount))) one m.apart ∙ found_here from (Some (to_be_bytes w64 m.less)) []))
         ∙ number_read (to_be_bytes w64 m.less) m.less refl m.less_fits
 
     to_now : counter_in after tree.name to ≡ m.stood + amount
     to_now =
-        ap number_in (wrote.has to ∙ ap (λ o. unwrap_or o (found_in (before tree.name) to)) (found_here to (Some (to_be_bytes w64 (m.stood + amount))) one))
+        ap number_in (found_by wrote to (found_here to (Some (to_be_bytes w64 (m.stood + amount))) one))
         ∙ number_read (to_be_bytes w64 (m.stood + amount)) (m.stood + amount) refl m.more_fits
 
     less_now : counter_in after tree.name from + amount ≡ counter_in before tree.name from
@@ -120,7 +120,7 @@ module _ {P M F R A : Type 0} (store : P → Store) (flush_number : P → ℕ) (
       less = less_now;
       more = more_now;
       sum = sum_kept (counter_in after tree.name from) (counter_in after tree.name to) (counter_in before tree.name from) (counter_in before tree.name to) amount (counter_in before tree.name from + counter_in before tree.name to) less_now more_now refl;
-      keys = λ other off-from off-to. wrote.has other ∙ ap (λ o. unwrap_or o (found_in (before tree.name) other)) (found_there other to (Some (to_be_bytes w64 (m.stood + amount))) one off-to ∙ found_there other from (Some (to_be_bytes w64 m.less)) [] off-from);
+      keys = λ other off-from off-to. found_by wrote other (found_there other to (Some (to_be_bytes w64 (m.stood + amount))) one off-to ∙ found_there other from (Some (to_be_bytes w64 m.less)) [] off-from);
       trees = one_kept store meant old new tree both rise made;
     }
 

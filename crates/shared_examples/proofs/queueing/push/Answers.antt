@@ -1,5 +1,5 @@
 use Rattle.shared_examples.proofs.Noting.{pushes}
 use Rattle.shared_examples.proofs.queueing.push.Goals as goal
 
-pub returns-in-Ok-put-clause-ok : goal.returns-in-Ok-put-clause-ok
-returns-in-Ok-put-clause-ok g c = pushes _ _ _ _ _ _ c.in-Ok.ensures.ok c.in-Ok-put.ensures.ok
+pub returns-in-Decided-clause-ok : goal.returns-in-Decided-clause-ok
+returns-in-Decided-clause-ok g c = pushes _ _ _ _ _ _ _ _ c.in_ok-id.ensures.ok c.to_be_bytes.ensures c.in-Decided.ensures.made
