@@ -2,6 +2,8 @@
 
 use shell_parts::store::Kept;
 use sled::Db;
+use sled_lines::operator::NoOperator;
+use sled_lines::session::Session;
 use sled_model::MergeOperator;
 use sled_nodes::{IVec, Link, Node, Pid, Result as Told, Version};
 use sled_pages::MemPages;
@@ -92,6 +94,9 @@ impl<'a> Pages for Counting<'a> {
 
     ghost given = { λ c. law_given c.inner };
 }
+
+/// A session over a database whose reads of pages are counted.
+pub type Counted<'a> = Session<Counting<'a>, NoOperator>;
 
 /// The pages of a database, which are counted no more.
 pub fn kept_of<M: MergeOperator>(db: Db<Counting<'_>, M>) -> Kept {

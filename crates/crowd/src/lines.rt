@@ -1,7 +1,7 @@
 //! Lines, over a store in memory that counts the pages that are read, from opening to opening.
 
-use crate::counting::{Counting, kept_of};
-use crate::many::{find, load, overtake, run_steps};
+use crate::counting::{Counted, Counting, kept_of};
+use crate::many::{find_all, load, overtake, run_steps};
 use line_files::Program;
 use line_words::command::{Command, parse};
 use line_words::input::{Stopped, read_line, without_end};
@@ -15,6 +15,7 @@ use shell_words::look::{Look, is_read, look_of};
 use shell_words::tell::{
     Result, Told, answered, tell, tell_numbered, tell_outcome, tell_refused, tell_turns, tell_why,
 };
+use shell_words::words::find;
 use sled::Db;
 use sled_draw::levels::count_levels;
 use sled_lines::operator::NoOperator;
@@ -42,27 +43,18 @@ enum Word {
 }
 
 // The words, and how many numbers each of them takes.
-const WORDS: [(&str, Word, usize); 10] = [
-    ("load", Word::Load, 3),
-    ("find", Word::Find, 2),
-    ("overtake", Word::Overtake, 2),
-    ("reads", Word::Reads, 0),
-    ("pages", Word::Pages, 0),
-    ("turns", Word::Turns, 1),
-    ("why", Word::Why, 0),
-    ("scan", Word::Scan, 0),
-    ("scan-back", Word::ScanBack, 0),
-    ("new", Word::New, 0),
+const WORDS: [(&str, (Word, usize)); 10] = [
+    ("load", (Word::Load, 3)),
+    ("find", (Word::Find, 2)),
+    ("overtake", (Word::Overtake, 2)),
+    ("reads", (Word::Reads, 0)),
+    ("pages", (Word::Pages, 0)),
+    ("turns", (Word::Turns, 1)),
+    ("why", (Word::Why, 0)),
+    ("scan", (Word::Scan, 0)),
+    ("scan-back", (Word::ScanBack, 0)),
+    ("new", (Word::New, 0)),
 ];
-
-fn word_of(name: &[u8]) -> Option<(Word, usize)> {
-    for (own, word, count) in &WORDS {
-        if own.as_bytes() == name {
-            return Some((*word, *count));
-        }
-    }
-    None
-}
 
 // The numbers that words are, if they are so many.
 fn numbers_of(words: Option<&[u8]>, count: usize) -> Option<[u64; 3]> {
@@ -99,17 +91,13 @@ enum Answer {
     Ends(End),
 }
 
-fn tell_reads(reads: &AtomicU64, out: &mut Told) -> Result<()> {
-    let count = reads.swap(0, Ordering::Relaxed);
+fn tell_reads(session: &Counted<'_>, out: &mut Told) -> Result<()> {
+    let count = session.db().pages().reads.swap(0, Ordering::Relaxed);
     tell_numbered(out, b"reads ", count, b"\n")
 }
 
 // Adds how many pages each level of the current tree has. These are not counted as read.
-fn tell_pages(
-    alloc: Global,
-    session: &Session<Counting<'_>, NoOperator>,
-    out: &mut Told,
-) -> Result<()> {
+fn tell_pages(alloc: Global, session: &Counted<'_>, out: &mut Told) -> Result<()> {
     let (pages, name) = (&session.db().pages().inner, session.tree().name.as_ref());
     match count_levels(alloc, pages, name, &mut out.text) {
         Ok(()) => Ok(()),
@@ -118,12 +106,7 @@ fn tell_pages(
 }
 
 // Begins a scan of all pairs in a slot.
-fn begin_scan(
-    alloc: Global,
-    session: &mut Session<Counting<'_>, NoOperator>,
-    back: bool,
-    out: &mut Told,
-) -> Result<()> {
+fn begin_scan(alloc: Global, session: &mut Counted<'_>, back: bool, out: &mut Told) -> Result<()> {
     let call = answered(Call::scan(alloc, Bound::Unbounded, Bound::Unbounded, back))?;
     let (_, outcome) = session.begin(call)?;
     let told = tell_outcome(out, &outcome);
@@ -134,17 +117,16 @@ fn begin_scan(
 // Answers a word that has its numbers.
 fn own(
     alloc: Global,
-    session: &mut Session<Counting<'_>, NoOperator>,
-    reads: &AtomicU64,
+    session: &mut Counted<'_>,
     word: Word,
     numbers: [u64; 3],
     out: &mut Told,
 ) -> Result<Answer> {
     match word {
-        Word::Load => load(alloc, session, reads, numbers, out)?,
-        Word::Find => find(alloc, session, reads, numbers, out)?,
+        Word::Load => load(alloc, session, numbers, out)?,
+        Word::Find => find_all(alloc, session, numbers, out)?,
         Word::Overtake => overtake(alloc, session, numbers, out)?,
-        Word::Reads => tell_reads(reads, out)?,
+        Word::Reads => tell_reads(session, out)?,
         Word::Pages => tell_pages(alloc, session, out)?,
         Word::Turns => tell_turns(out, session.turns(numbers[0]))?,
         Word::Why => tell_why(out)?,
@@ -161,7 +143,7 @@ fn own(
 // Answers a read, if its words can be read.
 fn look_at(
     alloc: Global,
-    session: &Session<Counting<'_>, NoOperator>,
+    session: &Counted<'_>,
     look: Look,
     words: Option<&[u8]>,
     out: &mut Told,
@@ -178,7 +160,7 @@ fn look_at(
 // Drops the tree of a name.
 fn drop_tree(
     alloc: Global,
-    session: &mut Session<Counting<'_>, NoOperator>,
+    session: &mut Counted<'_>,
     word: &[u8],
     out: &mut Told,
 ) -> Result<Answer> {
@@ -194,7 +176,7 @@ fn drop_tree(
 // Answers a line that `sledrun` knows too, if it is one.
 fn known<W: Write>(
     alloc: Global,
-    session: &mut Session<Counting<'_>, NoOperator>,
+    session: &mut Counted<'_>,
     line: &[u8],
     output: &mut W,
     out: &mut Told,
@@ -212,16 +194,15 @@ fn known<W: Write>(
 // Answers a line.
 fn answer_line<W: Write>(
     alloc: Global,
-    session: &mut Session<Counting<'_>, NoOperator>,
-    reads: &AtomicU64,
+    session: &mut Counted<'_>,
     line: &[u8],
     output: &mut W,
     out: &mut Told,
 ) -> Result<Answer> {
     let (name, words) = first_word(line);
-    if let Some((word, count)) = word_of(name) {
+    if let Some((word, count)) = find(&WORDS, name) {
         return match numbers_of(words, count) {
-            Some(numbers) => own(alloc, session, reads, word, numbers, out),
+            Some(numbers) => own(alloc, session, word, numbers, out),
             None => Ok(Answer::Bad),
         };
     }
@@ -254,16 +235,12 @@ struct Lines<'a> {
 
 impl<'a> Lines<'a> {
     // Answers the line: how the database ends, if it does. An empty line and a comment print nothing.
-    fn line<W: Write>(
-        &mut self,
-        session: &mut Session<Counting<'a>, NoOperator>,
-        output: &mut W,
-    ) -> Result<Option<End>> {
+    fn line<W: Write>(&mut self, session: &mut Counted<'a>, output: &mut W) -> Result<Option<End>> {
         let line = without_end(self.line.as_slice());
         if line.is_empty() || line.starts_with(b"#") {
             return Ok(None);
         }
-        match answer_line(self.alloc, session, self.reads, line, output, &mut self.out)? {
+        match answer_line(self.alloc, session, line, output, &mut self.out)? {
             Answer::Told => Ok(None),
             Answer::Ends(end) => Ok(Some(end)),
             Answer::Bad => {
@@ -277,7 +254,7 @@ impl<'a> Lines<'a> {
     // Answers lines up to one that ends the database, or to the last.
     fn lines<R: BufRead, W: Write>(
         &mut self,
-        session: &mut Session<Counting<'a>, NoOperator>,
+        session: &mut Counted<'a>,
         input: &mut R,
         output: &mut W,
     ) -> Result<End> {

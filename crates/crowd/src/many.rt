@@ -2,17 +2,15 @@
 ghost use Rattle.std.specs.Prelude.{IfOk};
 ghost use Rattle.sled_model.specs.State.{IsOnKey};
 
-use crate::counting::Counting;
+use crate::counting::Counted;
 use line_words::command::{Command, parse};
 use line_words::input::Stopped;
 use line_words::print::Piece::{Number, Text, Word};
 use line_words::print::{Piece, push_pieces};
 use shell_words::tell::{Result, Told, answered, tell, tell_outcome, tell_turns, tell_whether};
-use sled_lines::operator::NoOperator;
-use sled_lines::session::Session;
 use sled_model::{Call, Outcome, Reply, Slot, Step, Tree, Whole};
 use std::alloc::Global;
-use std::sync::atomic::{AtomicU64, Ordering};
+use std::sync::atomic::Ordering;
 
 // What the numbers of the keys begin with.
 const SEED: u64 = 88172645463325252;
@@ -62,11 +60,11 @@ fn has_value(outcome: &Outcome, wanted: Option<&[u8]>) -> bool {
 // How many pages the call of a line reads; more than there are where it does not answer with this value.
 fn reads_of(
     alloc: Global,
-    session: &mut Session<Counting<'_>, NoOperator>,
-    reads: &AtomicU64,
+    session: &mut Counted<'_>,
     line: &[Piece<'_>],
     wanted: Option<&[u8]>,
 ) -> Result<u64> {
+    let reads = session.db().pages().reads;
     let call = call_of(alloc, line)?;
     reads.store(0, Ordering::Relaxed);
     let outcome = session.complete(call);
@@ -83,8 +81,7 @@ fn reads_of(
 // at the most.
 pub fn load(
     alloc: Global,
-    session: &mut Session<Counting<'_>, NoOperator>,
-    reads: &AtomicU64,
+    session: &mut Counted<'_>,
     [keys, most, all]: [u64; 3],
     out: &mut Told,
 ) -> Result<()> {
@@ -93,7 +90,7 @@ pub fn load(
         number = mixed(number);
         let key = number.to_be_bytes();
         let insert = [Text(b"insert "), Word(&key), Text(b" "), Word(&key)];
-        let pages = reads_of(alloc, session, reads, &insert, None)?;
+        let pages = reads_of(alloc, session, &insert, None)?;
         greatest = greatest.max(pages);
         sum = sum.saturating_add(pages);
     }
@@ -102,10 +99,9 @@ pub fn load(
 
 // Gets the first of those keys, and adds whether each get read so many pages. A get too splits a page that it finds too long, so
 // each key is looked for twice, and the second get counts.
-pub fn find(
+pub fn find_all(
     alloc: Global,
-    session: &mut Session<Counting<'_>, NoOperator>,
-    reads: &AtomicU64,
+    session: &mut Counted<'_>,
     [keys, pages, _]: [u64; 3],
     out: &mut Told,
 ) -> Result<()> {
@@ -114,8 +110,8 @@ pub fn find(
         number = mixed(number);
         let key = number.to_be_bytes();
         let get = [Text(b"get "), Word(&key)];
-        let first = reads_of(alloc, session, reads, &get, Some(&key));
-        let second = reads_of(alloc, session, reads, &get, Some(&key));
+        let first = reads_of(alloc, session, &get, Some(&key));
+        let second = reads_of(alloc, session, &get, Some(&key));
         is_each &= first.and(second)? == pages;
     }
     tell_whether(out, is_each)
@@ -125,7 +121,7 @@ pub fn find(
 // flushed. Adds how often the call went on.
 pub fn overtake(
     alloc: Global,
-    session: &mut Session<Counting<'_>, NoOperator>,
+    session: &mut Counted<'_>,
     [number, count, _]: [u64; 3],
     out: &mut Told,
 ) -> Result<()> {
@@ -186,11 +182,7 @@ fn read_steps(alloc: Global, tree: &Tree, text: &[u8], steps: &mut Vec<Step>) ->
 }
 
 // Does steps, and adds how each of them came out.
-fn perform(
-    session: &mut Session<Counting<'_>, NoOperator>,
-    steps: &[Step],
-    out: &mut Told,
-) -> Result<()> {
+fn perform(session: &mut Counted<'_>, steps: &[Step], out: &mut Told) -> Result<()> {
     let outcomes = answered(session.perform(steps))?;
     let mut told = Ok(());
     for outcome in outcomes.as_slice() {
@@ -203,7 +195,7 @@ fn perform(
 /// Does the steps of a text by one call, and adds how each of them came out: whether they can be read.
 pub fn run_steps(
     alloc: Global,
-    session: &mut Session<Counting<'_>, NoOperator>,
+    session: &mut Counted<'_>,
     text: &[u8],
     out: &mut Told,
 ) -> Result<bool> {

@@ -1,11 +1,12 @@
 //! Calls of a database itself, as lines say them.
 
-use crate::fetch::fetch;
 use line_words::print::Shown;
+use shell_calls::calls::how_in;
 use shell_calls::groups::batch_of;
 use shell_calls::lines::{Lines, rest_behind, words_behind};
 use shell_calls::subscribers::{Subscribers, tell_no_subscriber};
 use shell_words::arguments::Arguments;
+use shell_words::how::made_of;
 use shell_words::operators::Operator;
 use shell_words::table::Verb;
 use shell_words::tell::Result;
@@ -25,15 +26,19 @@ fn shown_of(verb: Verb) -> Shown {
     }
 }
 
-// Makes a call on a key, and answers the value that stood there, or of a merge the new one.
+// Makes a call on a key, and answers the value that stood there, or of a merge and of an update the new one.
 fn write(
+    alloc: Global,
     db: &mut Db<MemPages, Operator>,
     tree: &Tree,
     verb: Verb,
     arguments: &Arguments,
 ) -> Answer<Option<IVec>> {
-    let key = arguments.bytes(0);
+    let (key, bytes, how) = (arguments.bytes(0), arguments.bytes(2), how_in(arguments));
+    let made = move |old: Option<&[u8]>| made_of(alloc, how, bytes, old);
     match verb {
+        Verb::Update => db.update_and_fetch(tree, key, made),
+        Verb::Fetch => db.fetch_and_update(tree, key, made),
         Verb::Insert => db.insert(tree, key, arguments.bytes(1)),
         Verb::Set => db.set(tree, key, arguments.bytes(1)),
         Verb::Remove => db.remove(tree, key),
@@ -101,11 +106,14 @@ pub fn make_owned(
 ) -> Result<()> {
     let (alloc, arguments) = (lines.alloc, &lines.arguments);
     let answer = match verb {
-        Verb::Insert | Verb::Set | Verb::Remove | Verb::Del | Verb::Merge => {
-            write(db, tree, verb, arguments).map(Reply::Value)
-        }
+        Verb::Insert
+        | Verb::Set
+        | Verb::Remove
+        | Verb::Del
+        | Verb::Merge
+        | Verb::Update
+        | Verb::Fetch => write(alloc, db, tree, verb, arguments).map(Reply::Value),
         Verb::Cas => swap(db, tree, arguments),
-        Verb::Update | Verb::Fetch => fetch(alloc, db, tree, verb, arguments).map(Reply::Value),
         Verb::Batch => apply(alloc, db, tree, lines.line.as_slice())?,
         Verb::Next | Verb::Unwatch => match subscribers.named(arguments.number()) {
             Some(subscriber) => Ok(hear(db, verb, &subscriber)),

@@ -12,10 +12,7 @@ use std::alloc::Global;
 
 /// The batch that words spell, if there are any.
 pub fn batch_of(alloc: Global, words: Option<&[u8]>) -> Result<Batch> {
-    match answered(read_batch(alloc, words))? {
-        Some(batch) => Ok(batch),
-        None => Err(Stopped),
-    }
+    answered(read_batch(alloc, words))?.ok_or(Stopped)
 }
 
 // Adds the batch that a part of a line spells, behind what names its tree; or why that names none.
@@ -51,28 +48,7 @@ fn cut(text: &[u8]) -> (&[u8], Option<&[u8]>) {
     (text, None)
 }
 
-// Adds the batches that the parts of a text spell, up to one that names no tree.
-fn add_parts(
-    alloc: Global,
-    group: &mut Vec<(Tree, Batch)>,
-    current: &Tree,
-    names: &Names,
-    text: &[u8],
-    why: &mut Vec<u8>,
-) -> Result<()> {
-    let mut rest = Some(text);
-    for _ in 0..u64::MAX {
-        let Some(text) = rest else {
-            break;
-        };
-        let (part, others) = cut(text);
-        add_part(alloc, group, current, names, part, why)?;
-        rest = if why.is_empty() { others } else { None };
-    }
-    Ok(())
-}
-
-/// The group that a text spells; or why one of its trees cannot be read.
+/// The group that the parts of a text spell, up to one that names no tree; of that it is added why.
 pub fn group_of(
     alloc: Global,
     current: &Tree,
@@ -80,12 +56,14 @@ pub fn group_of(
     text: &[u8],
     why: &mut Vec<u8>,
 ) -> Result<Vec<(Tree, Batch)>> {
-    let mut group = Vec::new(alloc);
-    match add_parts(alloc, &mut group, current, names, text, why) {
-        Ok(()) => Ok(group),
-        Err(stopped) => {
-            drop(group);
-            Err(stopped)
-        }
+    let (mut group, mut rest) = (Vec::new(alloc), Some(text));
+    for _ in 0..u64::MAX {
+        let Some(text) = rest else {
+            break;
+        };
+        let (part, others) = cut(text);
+        add_part(alloc, &mut group, current, names, part, why)?;
+        rest = if why.is_empty() { others } else { None };
     }
+    Ok(group)
 }

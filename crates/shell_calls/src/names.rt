@@ -1,8 +1,7 @@
 //! Trees by name.
 
-use line_words::input::Stopped;
 use shell_words::names::TreeNames;
-use shell_words::tell::Result;
+use shell_words::tell::{Result, answered};
 use sled_model::Tree;
 use std::alloc::Global;
 
@@ -23,13 +22,7 @@ impl Names {
 
     /// Takes down what a line `tree` got.
     pub fn push(&mut self, tree: &Tree) -> Result<()> {
-        match tree.clone() {
-            Ok(tree) => Ok(self.trees.push(tree)?),
-            Err(error) => {
-                drop(error);
-                Err(Stopped)
-            }
-        }
+        Ok(self.trees.push(answered(tree.clone())?)?)
     }
 
     /// The names after an opening.

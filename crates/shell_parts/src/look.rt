@@ -2,9 +2,10 @@
 
 use line_words::input::Stopped;
 use line_words::print::Piece::{Text, Word};
-use line_words::words::read_word;
-use shell_words::look::{Look, Side, read_bound};
-use shell_words::tell::{Result, Told, tell, tell_numbered, tell_refused, tell_whether};
+use shell_words::look::{Look, Side, lend, read_bound};
+use shell_words::tell::{
+    Result, Told, answered, bytes_of, tell, tell_numbered, tell_refused, tell_whether,
+};
 use sled::{Db, Iter};
 use sled_model::{MergeOperator, Tree};
 use sled_nodes::{Error, IVec};
@@ -16,36 +17,9 @@ use std::ops::Bound;
 // What a call of a database answers.
 type Answer<T> = sled_nodes::Result<T>;
 
-// A key, if the word is one.
-fn key_of(alloc: Global, word: &[u8]) -> Result<IVec> {
-    match read_word(alloc, word) {
-        Ok(Some(key)) => Ok(key),
-        Ok(None) => Err(Stopped),
-        Err(e) => {
-            drop(e);
-            Err(Stopped)
-        }
-    }
-}
-
+// A bound, if the word is one.
 fn bound_of(alloc: Global, word: &[u8]) -> Result<Bound<IVec>> {
-    match read_bound(alloc, word) {
-        Ok(Some(bound)) => Ok(bound),
-        Ok(None) => Err(Stopped),
-        Err(e) => {
-            drop(e);
-            Err(Stopped)
-        }
-    }
-}
-
-// A bound, lent.
-fn lend(bound: &Bound<IVec>) -> Bound<&[u8]> {
-    match bound {
-        Bound::Included(key) => Bound::Included(key.as_ref()),
-        Bound::Excluded(key) => Bound::Excluded(key.as_ref()),
-        Bound::Unbounded => Bound::Unbounded,
-    }
+    answered(read_bound(alloc, word))?.ok_or(Stopped)
 }
 
 /// Adds whether it is so.
@@ -142,24 +116,31 @@ fn tell_last(out: &mut Told, refused: Option<Error>, count: u64) -> Result<Next>
     }
 }
 
-// Adds a pair, or why none came.
-fn tell_at(out: &mut Told, item: Option<Answer<(IVec, IVec)>>, count: u64) -> Result<Next> {
-    match item {
-        Some(Ok(pair)) => {
-            let told = tell(out, &[Text(b"at ")]).and(tell_pair(out, pair));
-            told.map(|()| Next::More)
-        }
-        Some(Err(e)) => tell_last(out, Some(e), count),
-        None => tell_last(out, None, count),
+// What is taken of a range.
+trait Item: Drop {
+    // Adds it, and ends the line.
+    fn tell(self, out: &mut Told) -> Result<()>;
+}
+
+impl Item for (IVec, IVec) {
+    fn tell(self, out: &mut Told) -> Result<()> {
+        tell_pair(out, self)
     }
 }
 
-// Adds a key or a value, or why none came.
-fn tell_item(out: &mut Told, item: Option<Answer<IVec>>, count: u64) -> Result<Next> {
+impl Item for IVec {
+    fn tell(self, out: &mut Told) -> Result<()> {
+        let told = tell(out, &[Word(self.as_ref()), Text(b"\n")]);
+        drop(self);
+        told
+    }
+}
+
+// Adds an item, or why none came.
+fn tell_item<T: Item>(out: &mut Told, item: Option<Answer<T>>, count: u64) -> Result<Next> {
     match item {
         Some(Ok(item)) => {
-            let told = tell(out, &[Text(b"at "), Word(item.as_ref()), Text(b"\n")]);
-            drop(item);
+            let told = tell(out, &[Text(b"at ")]).and(item.tell(out));
             told.map(|()| Next::More)
         }
         Some(Err(e)) => tell_last(out, Some(e), count),
@@ -167,45 +148,16 @@ fn tell_item(out: &mut Told, item: Option<Answer<IVec>>, count: u64) -> Result<N
     }
 }
 
-// Adds the pairs, and how many there were. After a refusal it asks once more.
-fn tell_pairs<P: Pages>(out: &mut Told, pairs: Iter<'_, P>, from: Side) -> Result<()> {
-    let (mut items, mut next) = (pairs, Ok(Next::More));
-    for turn in 0..u64::MAX {
-        let is_last = matches!(next, Ok(Next::Once));
-        let item = if is_back(from, turn) {
-            items.next_back()
-        } else {
-            items.next()
-        };
-        next = tell_at(out, item, turn.saturating_sub(u64::from(is_last)));
-        if is_last || matches!(next, Ok(Next::Nothing) | Err(_)) {
-            break;
-        }
-    }
-    drop(items);
-    next.map(|_| ())
-}
-
-fn tell_keys<P: Pages>(out: &mut Told, pairs: Iter<'_, P>, from: Side) -> Result<()> {
-    let (mut items, mut next) = (pairs.keys(), Ok(Next::More));
-    for turn in 0..u64::MAX {
-        let is_last = matches!(next, Ok(Next::Once));
-        let item = if is_back(from, turn) {
-            items.next_back()
-        } else {
-            items.next()
-        };
-        next = tell_item(out, item, turn.saturating_sub(u64::from(is_last)));
-        if is_last || matches!(next, Ok(Next::Nothing) | Err(_)) {
-            break;
-        }
-    }
-    drop(items);
-    next.map(|_| ())
-}
-
-fn tell_values<P: Pages>(out: &mut Told, pairs: Iter<'_, P>, from: Side) -> Result<()> {
-    let (mut items, mut next) = (pairs.values(), Ok(Next::More));
+// Adds the items, and how many there were. After a refusal it asks once more. So they may be asked for at any time.
+fn tell_items<T: Item, I: DoubleEndedIterator<Item = Answer<T>>>(
+    out: &mut Told,
+    items: I,
+    from: Side,
+) -> Result<()>
+    requires front { (items : I) → I.can_next items }
+    requires back { (items : I) → I.can_next_back items }
+{
+    let (mut items, mut next) = (items, Ok(Next::More));
     for turn in 0..u64::MAX {
         let is_last = matches!(next, Ok(Next::Once));
         let item = if is_back(from, turn) {
@@ -227,10 +179,10 @@ fn tell_range<P: Pages>(out: &mut Told, pairs: Answer<Iter<'_, P>>, look: Look) 
     match pairs {
         Err(e) => tell_refused(out, e),
         Ok(pairs) => match look {
-            Look::Keys(from) => tell_keys(out, pairs, from),
-            Look::Values(from) => tell_values(out, pairs, from),
-            Look::Pairs(from) => tell_pairs(out, pairs, from),
-            _ => tell_pairs(out, pairs, Side::Front),
+            Look::Keys(from) => tell_items(out, pairs.keys(), from),
+            Look::Values(from) => tell_items(out, pairs.values(), from),
+            Look::Pairs(from) => tell_items(out, pairs, from),
+            _ => tell_items(out, pairs, Side::Front),
         },
     }
 }
@@ -291,7 +243,7 @@ pub fn tell_look<P: Pages, M: MergeOperator>(
         Look::Empty => tell_is(out, db.is_empty(tree)),
         Look::Names => tell_names(out, db.tree_names()),
         Look::Has | Look::Read | Look::Below | Look::Above | Look::Prefix(_) => {
-            let key = key_of(alloc, words.0)?;
+            let key = bytes_of(alloc, words.0)?;
             let told = look_at(db, tree, look, key.as_ref(), out);
             drop(key);
             told

@@ -1,7 +1,8 @@
 //! Lines: how byte strings and numbers are read.
 use crate::text::Text;
 use line_words::words::read_word;
-use sled_nodes::{IVec, Pid};
+use shell_words::words::find;
+use sled_nodes::{IVec, Pid, Result};
 use std::alloc::Global;
 use std::ops::Bound;
 
@@ -16,16 +17,6 @@ pub struct Line {
     // How many bytes of that word were read.
     begun: usize,
     pub is_bad: bool,
-}
-
-/// The value beside a word in a table.
-pub fn named<T: Copy>(table: &[(&str, T)], word: &str) -> Option<T> {
-    for row in table {
-        if row.0 == word {
-            return Some(row.1);
-        }
-    }
-    None
 }
 
 // The word of a place, but for so many bytes at its front.
@@ -113,7 +104,7 @@ impl Line {
 
     /// What stands beside the next word in a table.
     pub fn named<T: Copy>(&mut self, table: &[(&str, T)]) -> Option<T> {
-        let found = named(table, self.word());
+        let found = find(table, self.word().as_bytes());
         self.is_bad |= found.is_none();
         found
     }
@@ -255,5 +246,13 @@ pub fn push_all<P: Print>(out: &mut Text, list: &[P]) {
     for item in list {
         out.push(" ");
         item.print(out);
+    }
+}
+
+/// The same, if there was memory for the list.
+pub fn push_kept<P: Print>(out: &mut Text, list: Result<Vec<P>>) {
+    if let Some(list) = out.kept(list) {
+        push_all(out, list.as_slice());
+        drop(list);
     }
 }

@@ -2,8 +2,9 @@
 ghost use Rattle.std.specs.Prelude.{◌≡◌};
 ghost use Rattle.sled_nodes.specs.Node.{count};
 
-use crate::line::{Line, Print, Word, push_all};
+use crate::line::{Line, Print, Word, push_kept};
 use crate::text::Text;
+use shell_words::look::lend;
 use sled_nodes::{Data, IVec, Index, Leaf, Link, Node, Pid};
 use std::alloc::Global;
 use std::ops::Bound;
@@ -259,15 +260,6 @@ fn find_before(node: &Node, line: &mut Line) {
     }
 }
 
-// A bound, lent.
-fn lend(bound: &Bound<IVec>) -> Bound<&[u8]> {
-    match bound {
-        Bound::Included(key) => Bound::Included(key.as_ref()),
-        Bound::Excluded(key) => Bound::Excluded(key.as_ref()),
-        Bound::Unbounded => Bound::Unbounded,
-    }
-}
-
 fn find_pointer(node: &Node, line: &mut Line) {
     let bound = Word::read(line);
     if let Some(bound) = line.whole(bound) {
@@ -375,11 +367,7 @@ fn read_node(is_leaf: bool, line: &mut Line) -> Option<Node> {
     let pages = Word::read(line);
     let merging = line.takes("merging");
     line.is_bad |= !merging && !line.takes("-");
-    let content = if is_leaf {
-        read_leaf(line)
-    } else {
-        read_index(line)
-    };
+    let content = read_content(is_leaf, line);
     let (((lo, hi), (next, merging_child)), content) = bounds.zip(pages).zip(content)?;
     Some(Node {
         lo,
@@ -391,20 +379,18 @@ fn read_node(is_leaf: bool, line: &mut Line) -> Option<Node> {
     })
 }
 
-fn read_leaf(line: &mut Line) -> Option<Data> {
-    let pairs = line.list::<(IVec, IVec)>();
-    let leaf = Leaf::from_pairs(line.out.alloc, pairs.as_slice());
-    drop(pairs);
-    let leaf = line.out.kept(leaf);
-    Some(Data::Leaf(line.whole(leaf)?))
-}
-
-fn read_index(line: &mut Line) -> Option<Data> {
-    let pointers = line.list::<(IVec, Pid)>();
-    let index = Index::from_pairs(line.out.alloc, pointers.as_slice());
-    drop(pointers);
-    let index = line.out.kept(index);
-    Some(Data::Index(line.whole(index)?))
+// The entries of a leaf or of an index, with which a line ends.
+fn read_content(is_leaf: bool, line: &mut Line) -> Option<Data> {
+    let alloc = line.out.alloc;
+    let made = if is_leaf {
+        let pairs = line.list::<(IVec, IVec)>();
+        Leaf::from_pairs(alloc, pairs.as_slice()).map(Data::Leaf)
+    } else {
+        let pointers = line.list::<(IVec, Pid)>();
+        Index::from_pairs(alloc, pointers.as_slice()).map(Data::Index)
+    };
+    let content = line.out.kept(made);
+    line.whole(content)
 }
 
 // What a link does.
@@ -451,17 +437,13 @@ pub fn push_node(out: &mut Text, node: &Node) {
     match &node.content {
         Data::Leaf(leaf) => {
             push_frame(out, "leaf ", node);
-            if let Some(pairs) = out.kept(leaf.pairs(out.alloc)) {
-                push_all(out, pairs.as_slice());
-                drop(pairs);
-            }
+            let pairs = leaf.pairs(out.alloc);
+            push_kept(out, pairs);
         }
         Data::Index(index) => {
             push_frame(out, "index ", node);
-            if let Some(pointers) = out.kept(index.pairs(out.alloc)) {
-                push_all(out, pointers.as_slice());
-                drop(pointers);
-            }
+            let pointers = index.pairs(out.alloc);
+            push_kept(out, pointers);
         }
     }
 }

@@ -1,6 +1,6 @@
 //! A store in memory, to which each line makes one call.
 use crate::keys::{read_key, spell};
-use crate::line::{Line, Print, Word, push_all};
+use crate::line::{Line, Print, Word, push_kept};
 use crate::nodes::{Act, Nodes, Question, Search, push_node, read_link};
 use crate::text::Text;
 use sled_nodes::{IVec, Node, Pid, Result, Version};
@@ -381,10 +381,7 @@ impl Store {
 
     fn roots(&self, out: &mut Text) {
         out.push("roots");
-        if let Some(roots) = out.kept(self.pages.roots(self.alloc)) {
-            push_all(out, roots.as_slice());
-            drop(roots);
-        }
+        push_kept(out, self.pages.roots(self.alloc));
     }
 
     fn crash(&mut self, keep: u64, out: &mut Text) {

@@ -1,6 +1,7 @@
 //! What values are: their equality, their order, their copies and their texts.
-use crate::line::{Line, Word, named};
+use crate::line::{Line, Word};
 use crate::text::Text;
+use shell_words::words::find;
 use sled_model::{
     Batch, Call, Collection, CompareAndSwapError, Event, Next, Subscriber, Tree, Whole,
 };
@@ -33,7 +34,7 @@ const KINDS: [(&str, Kind); 8] = [
 /// The kind that a line of values begins with, and the values.
 pub fn kind_of(line: &str) -> Option<(Kind, &str)> {
     let (name, items) = line.split_once(' ')?;
-    Some((named(&KINDS, name)?, items))
+    Some((find(&KINDS, name.as_bytes())?, items))
 }
 
 // A value that lines compare. An event is one that a subscriber is told.
