@@ -1,7 +1,7 @@
 //! Lines that ask a database.
 
 use crate::shell::Shell;
-use crate::state::State;
+use crate::state::{Opened, State};
 use line_words::input::Stopped;
 use line_words::print::Piece::{Text, Word};
 use line_words::print::Shown;
@@ -20,21 +20,20 @@ use shell_parts::look::tell_look;
 use shell_parts::store::Kept;
 use shell_words::choices::Drawing;
 use shell_words::look::Look;
-use shell_words::operators::{Operator, operator_of};
+use shell_words::operators::operator_of;
 use shell_words::table::{Verb, Way};
-use shell_words::tell::{answered, tell, tell_refused, tell_turns, tell_whether};
+use shell_words::tell::{Result, answered, tell, tell_refused, tell_turns, tell_whether};
 use sled_lines::session::Session;
 use sled_model::{Outcome, Reply, Tree, Whole};
-use sled_pages::MemPages;
 use std::io::Write;
 
 impl Shell {
     /// Makes a tree current.
     pub fn take_tree(
         &mut self,
-        session: &mut Session<MemPages, Operator>,
+        session: &mut Opened,
         tree: sled_nodes::Result<Tree>,
-    ) -> Result<(), Stopped> {
+    ) -> Result<()> {
         let tree = answered(tree)?;
         let name = tree.name.as_ref();
         let told = tell(
@@ -46,11 +45,7 @@ impl Shell {
     }
 
     // Makes a whole call, and adds how it came out.
-    fn whole(
-        &mut self,
-        session: &mut Session<MemPages, Operator>,
-        whole: Whole,
-    ) -> Result<(), Stopped> {
+    fn whole(&mut self, session: &mut Opened, whole: Whole) -> Result<()> {
         let shown = Shown::of_whole(&whole);
         let outcome = session.whole(whole);
         let told = match &outcome {
@@ -67,11 +62,7 @@ impl Shell {
     }
 
     // Takes what a subscriber is told next, or ends it.
-    fn hear(
-        &mut self,
-        session: &mut Session<MemPages, Operator>,
-        verb: Verb,
-    ) -> Result<(), Stopped> {
+    fn hear(&mut self, session: &mut Opened, verb: Verb) -> Result<()> {
         match self.subscribers.named(self.lines.arguments.number()) {
             Some(subscriber) => self.whole(session, hearing(verb, subscriber)),
             None => tell_no_subscriber(&mut self.lines.out),
@@ -79,7 +70,7 @@ impl Shell {
     }
 
     // Makes the group of writes that the line says, if its trees can be read.
-    fn group(&mut self, session: &mut Session<MemPages, Operator>) -> Result<(), Stopped> {
+    fn group(&mut self, session: &mut Opened) -> Result<()> {
         let words = rest_behind(self.lines.line.as_slice(), 1);
         let tree = session.tree();
         let group = group_of(
@@ -97,10 +88,7 @@ impl Shell {
     }
 
     // Runs the transaction that the line says, if its trees can be read.
-    fn transaction_all(
-        &mut self,
-        session: &mut Session<MemPages, Operator>,
-    ) -> Result<(), Stopped> {
+    fn transaction_all(&mut self, session: &mut Opened) -> Result<()> {
         tell_transaction_all(
             self.lines.alloc,
             session,
@@ -113,7 +101,7 @@ impl Shell {
     }
 
     // Answers a read, with the words behind its own.
-    fn look(&mut self, session: &Session<MemPages, Operator>, which: Look) -> Result<(), Stopped> {
+    fn look(&mut self, session: &Opened, which: Look) -> Result<()> {
         let (first, more) = first_word(rest_behind(self.lines.line.as_slice(), 1));
         let words = (first, more.unwrap_or(b""));
         tell_look(
@@ -127,13 +115,13 @@ impl Shell {
     }
 
     // Makes current what the line names.
-    fn take_handle(&mut self, session: &mut Session<MemPages, Operator>) -> Result<(), Stopped> {
+    fn take_handle(&mut self, session: &mut Opened) -> Result<()> {
         session.set_tree(handle_of(self.lines.alloc, &self.lines.arguments)?);
         tell(&mut self.lines.out, &[Text(b"done\n")])
     }
 
     // Gives the current tree the operator that the line names.
-    fn set_operator(&mut self, session: &mut Session<MemPages, Operator>) -> Result<(), Stopped> {
+    fn set_operator(&mut self, session: &mut Opened) -> Result<()> {
         let operator = operator_of(self.lines.arguments.bytes(0)).ok_or(Stopped)?;
         let answer = session.set_merge_operator(operator);
         let answer = answer.map(|()| Reply::Done);
@@ -142,22 +130,14 @@ impl Shell {
     }
 
     // Draws the current tree, or counts its pages.
-    fn show(
-        &mut self,
-        session: &Session<MemPages, Operator>,
-        drawing: Option<Drawing>,
-    ) -> Result<(), Stopped> {
+    fn show(&mut self, session: &Opened, drawing: Option<Drawing>) -> Result<()> {
         let out = &mut self.lines.out;
         tell_drawn(self.lines.alloc, session.db(), session.tree(), drawing, out)
     }
 
     // Takes a session apart, makes the call of its database that the line says, and makes a session again, where the same tree is current.
     // The calls in flight are given up.
-    fn on_parts(
-        &mut self,
-        session: Session<MemPages, Operator>,
-        verb: Verb,
-    ) -> (State, Result<(), Stopped>) {
+    fn on_parts(&mut self, session: Opened, verb: Verb) -> (State, Result<()>) {
         let (mut db, tree) = session.into_parts();
         let told = make_owned(&mut self.lines, &mut self.subscribers, &mut db, &tree, verb);
         (
@@ -167,7 +147,7 @@ impl Shell {
     }
 
     // Answers a line that is a call of the database itself.
-    fn owned(&mut self, state: &mut State, verb: Verb) -> Result<(), Stopped> {
+    fn owned(&mut self, state: &mut State, verb: Verb) -> Result<()> {
         let shut = State::Shut(Held::Kept(Kept::empty(self.lines.alloc)));
         let (next, told) = match std::mem::replace(state, shut) {
             State::Open(session) => self.on_parts(session, verb),
@@ -179,12 +159,7 @@ impl Shell {
     }
 
     // Runs a line that `sledrun` knows too, or that takes a slot.
-    fn known<W: Write>(
-        &mut self,
-        session: &mut Session<MemPages, Operator>,
-        verb: Verb,
-        output: &mut W,
-    ) -> Result<(), Stopped> {
+    fn known<W: Write>(&mut self, session: &mut Opened, verb: Verb, output: &mut W) -> Result<()> {
         let way = self.lines.way();
         let words = words_behind(self.lines.line.as_slice(), 1);
         let line = known_of(self.lines.alloc, verb, way, words, &self.lines.arguments)?;
@@ -192,11 +167,7 @@ impl Shell {
     }
 
     // Makes the whole call that the line says.
-    fn call(
-        &mut self,
-        session: &mut Session<MemPages, Operator>,
-        verb: Verb,
-    ) -> Result<(), Stopped> {
+    fn call(&mut self, session: &mut Opened, verb: Verb) -> Result<()> {
         match whole_of(
             self.lines.alloc,
             session.tree(),
@@ -209,11 +180,7 @@ impl Shell {
     }
 
     // Reads a value and writes what is made of it, which the line says.
-    fn fetch(
-        &mut self,
-        session: &mut Session<MemPages, Operator>,
-        verb: Verb,
-    ) -> Result<(), Stopped> {
+    fn fetch(&mut self, session: &mut Opened, verb: Verb) -> Result<()> {
         let answer = fetch(self.lines.alloc, session, verb, &self.lines.arguments).map(
             Reply::Value,
         );
@@ -224,10 +191,10 @@ impl Shell {
     // Answers a line that asks a session.
     fn ask_session<W: Write>(
         &mut self,
-        session: &mut Session<MemPages, Operator>,
+        session: &mut Opened,
         verb: Verb,
         output: &mut W,
-    ) -> Result<(), Stopped> {
+    ) -> Result<()> {
         match verb {
             Verb::Look(which) => self.look(session, which),
             Verb::Update | Verb::Fetch => self.fetch(session, verb),
@@ -266,12 +233,7 @@ impl Shell {
     }
 
     /// Answers a line that asks a database.
-    pub fn ask<W: Write>(
-        &mut self,
-        state: &mut State,
-        verb: Verb,
-        output: &mut W,
-    ) -> Result<(), Stopped> {
+    pub fn ask<W: Write>(&mut self, state: &mut State, verb: Verb, output: &mut W) -> Result<()> {
         if let Way::Owned = self.lines.way() {
             return self.owned(state, verb);
         }

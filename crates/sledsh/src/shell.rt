@@ -19,7 +19,7 @@ use shell_parts::store::Kept;
 use shell_words::choices::Sweep;
 use shell_words::operators::Operator;
 use shell_words::table::Verb;
-use shell_words::tell::{tell, tell_refused, tell_why};
+use shell_words::tell::{Result, tell, tell_refused, tell_why};
 use sled::{Db, GROUP_IS_OPEN};
 use sled_lines::session::Session;
 use sled_nodes::Error;
@@ -57,7 +57,7 @@ impl Shell {
     }
 
     // Makes current what a name was before.
-    fn take_old(&mut self, state: &mut State) -> Result<(), Stopped> {
+    fn take_old(&mut self, state: &mut State) -> Result<()> {
         let name = self.lines.arguments.bytes(0);
         match (state, self.names.before(name, 1)) {
             (State::Open(session), Some(tree)) => {
@@ -69,12 +69,7 @@ impl Shell {
     }
 
     // Answers a line, unless it changes the store, has others run again and again, or ends: whether it did.
-    fn answer<W: Write>(
-        &mut self,
-        state: &mut State,
-        verb: Verb,
-        output: &mut W,
-    ) -> Result<bool, Stopped> {
+    fn answer<W: Write>(&mut self, state: &mut State, verb: Verb, output: &mut W) -> Result<bool> {
         let number = self.lines.arguments.number();
         let told = match verb {
             Verb::Mark if number < self.renewal.mark() => self
@@ -106,7 +101,7 @@ impl Shell {
     }
 
     // Checks the pages as they are.
-    fn verify(&mut self, state: &State) -> Result<(), Stopped> {
+    fn verify(&mut self, state: &State) -> Result<()> {
         let is_closed = state.is_closed();
         tell_check(
             self.lines.alloc,
@@ -117,14 +112,14 @@ impl Shell {
     }
 
     // Notes a page of an image.
-    fn note_page(&mut self) -> Result<(), Stopped> {
+    fn note_page(&mut self) -> Result<()> {
         let words = rest_behind(self.lines.line.as_slice(), 1);
         let noted = &mut self.renewal.noted;
         noted.note_page(self.lines.alloc, words, &mut self.lines.out)
     }
 
     // Notes a root of an image.
-    fn note_root(&mut self) -> Result<(), Stopped> {
+    fn note_root(&mut self) -> Result<()> {
         let words = rest_behind(self.lines.line.as_slice(), 1);
         let noted = &mut self.renewal.noted;
         noted.note_root(self.lines.alloc, words, &mut self.lines.out)
@@ -136,7 +131,7 @@ impl Shell {
         state: &mut State,
         source: &mut S,
         output: &mut W,
-    ) -> Result<Verb, Stopped> {
+    ) -> Result<Verb> {
         for _ in 0..u64::MAX {
             let verb = self.lines.next(source, output)?;
             if !self.answer(state, verb, output)? {
@@ -147,7 +142,7 @@ impl Shell {
     }
 
     // Opens nothing after a refusal, which is told.
-    fn shut(&mut self, held: Held, error: Error) -> Result<State, Stopped> {
+    fn shut(&mut self, held: Held, error: Error) -> Result<State> {
         match tell_verdict(&mut self.lines.out, error) {
             Ok(()) => Ok(State::Shut(held)),
             Err(stopped) => {
@@ -158,7 +153,7 @@ impl Shell {
     }
 
     // A session over a database, whose opening is told.
-    fn begin(&mut self, db: Db<MemPages, Operator>) -> Result<State, Stopped> {
+    fn begin(&mut self, db: Db<MemPages, Operator>) -> Result<State> {
         if tell(&mut self.lines.out, &[Text(self.renewal.opening())]).is_err() {
             drop(db.into_pages());
             return Err(Stopped);
@@ -180,7 +175,7 @@ impl Shell {
     }
 
     // Opens pages, unless they were refused before.
-    fn open(&mut self, held: Held) -> Result<State, Stopped> {
+    fn open(&mut self, held: Held) -> Result<State> {
         match self.renewal.open(held, DATABASE) {
             Ok(db) => self.begin(db),
             Err((held, error)) => self.shut(held, error),
@@ -188,14 +183,14 @@ impl Shell {
     }
 
     // Does what a line asks for that changes the store, and opens it then.
-    fn renew(&mut self, state: State, verb: Verb) -> Result<State, Stopped> {
+    fn renew(&mut self, state: State, verb: Verb) -> Result<State> {
         let held = state.into_held();
         let held = self.renewal.change(held, verb, &self.lines.arguments)?;
         self.open(held)
     }
 
     // An empty store, opened.
-    fn start(&mut self) -> Result<State, Stopped> {
+    fn start(&mut self) -> Result<State> {
         self.open(Held::Kept(Kept::empty(self.lines.alloc)))
     }
 
@@ -205,7 +200,7 @@ impl Shell {
         state: State,
         source: &mut S,
         output: &mut W,
-    ) -> Result<(State, Verb), Stopped> {
+    ) -> Result<(State, Verb)> {
         let mut state = state;
         for _ in 0..u64::MAX {
             match self.lines(&mut state, source, output) {
@@ -222,7 +217,7 @@ impl Shell {
     }
 
     // Has the lines of a file run again and again, which the line names.
-    fn sweep(&mut self, rt: &HostRuntime, sweep: Sweep) -> Result<(), Stopped> {
+    fn sweep(&mut self, rt: &HostRuntime, sweep: Sweep) -> Result<()> {
         let Some(lines) = read_file(rt, self.lines.arguments.bytes(0)) else {
             return self.lines.tell_no_file();
         };
@@ -244,7 +239,7 @@ impl Shell {
         rt: &HostRuntime,
         source: &mut S,
         output: &mut W,
-    ) -> Result<(), Stopped> {
+    ) -> Result<()> {
         let mut state = self.start()?;
         for _ in 0..u64::MAX {
             let (left, verb) = self.live(state, source, output)?;
@@ -262,7 +257,7 @@ impl Shell {
     }
 
     // Answers all lines of a session that is run again and again.
-    fn run_swept(&mut self, source: &mut Repeats<'_>, output: &mut Vec<u8>) -> Result<(), Stopped> {
+    fn run_swept(&mut self, source: &mut Repeats<'_>, output: &mut Vec<u8>) -> Result<()> {
         let state = self.start()?;
         let (state, _) = self.live(state, source, output)?;
         drop(state.into_held());
@@ -274,12 +269,7 @@ impl Shell {
 struct Swept;
 
 impl Sessions for Swept {
-    fn run(
-        &self,
-        alloc: Global,
-        source: &mut Repeats<'_>,
-        output: &mut Vec<u8>,
-    ) -> Result<bool, Stopped> {
+    fn run(&self, alloc: Global, source: &mut Repeats<'_>, output: &mut Vec<u8>) -> Result<bool> {
         let mut shell = Shell::new(alloc, false, true);
         let ran = shell.run_swept(source, output);
         let good = shell.lines.is_good();
@@ -295,7 +285,7 @@ pub fn run<R: BufRead + Drop, W: Write>(
     input: R,
     output: &mut W,
     prompts: bool,
-) -> Result<bool, Stopped> {
+) -> Result<bool> {
     let mut shell = Shell::new(rt.alloc(), prompts, false);
     let mut source = Input::new(input, prompts);
     let ran = shell.run(rt, &mut source, output);

@@ -7,10 +7,13 @@ use sled_lines::session::Session;
 use sled_pages::MemPages;
 use sled_store::Pages;
 
+/// A session over a database in memory.
+pub type Opened = Session<MemPages, Operator>;
+
 /// The store: opened, or the pages that a refused opening gave back.
 pub enum State {
     /// A session over a database.
-    Open(Session<MemPages, Operator>),
+    Open(Opened),
     /// No database is open.
     Shut(Held),
 }
