@@ -1,6 +1,5 @@
 pub mod Basics
 pub mod Put
-pub mod Returned
 pub mod Found
 pub mod Rising
 pub mod Fronts

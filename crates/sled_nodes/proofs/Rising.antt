@@ -15,31 +15,11 @@ use Rattle.sled_nodes.specs.Order.{Key, key_cmp}
 use Rattle.sled_nodes.specs.Among.{is_up_to, is_from}
 use Rattle.sled_nodes.specs.theory.Pairs.{Stands, Goes}
 use Rattle.sled_nodes.specs.theory.Places.{IsFirstAt, IsLastAt}
-use Rattle.sled_nodes.specs.theory.Returning.{IsOut}
 use Rattle.sled_nodes.specs.theory.Rising.{IsHit, IsGap}
 use Rattle.sled_nodes.proofs.Found.{none_more, none_all, first_found, last_here, last_stays, last_all}
 use Rattle.sled_nodes.proofs.Put.{IsPast, stands_at, past_more, goes_before, goes_last}
-use Rattle.sled_nodes.proofs.Returned.{out_more, out_here, out_all}
 
 -- a walk over what passes, or passes not
-module _ {X : Type 0} (keeps : X → Bool) where
-  out_upto : (xs : List X) (n : ℕ) → n ≤ length xs → AllWithin (λ x. keeps x ≡ true) xs 0 n → IsOut keeps (take n xs) None
-  out_upto xs zero h a = refl
-  out_upto [] (suc n) h a = absurd (omega (arith, h))
-  out_upto (x ∷ xs) (suc n) h a =
-      let next : n + 1 ≡ suc n = omega arith in
-      subst (λ m. IsOut keeps (take m (x ∷ xs)) None) next (out_more keeps (x ∷ xs) n x None (omega (arith, h)) (a n x (omega arith) (omega arith)) (out_upto (x ∷ xs) n (omega (arith, h)) (λ j d l m. a j d l (omega (arith, m)))))
-
-  out_by : (xs : List X) (i m : ℕ) (d : X) → i + 1 + m ≤ length xs → AllWithin (λ x. keeps x ≡ true) xs (i + 1) (length xs) → IsOut keeps (take (i + 1) xs) (Some i) → IsOut keeps (take (i + 1 + m) xs) (Some i)
-  out_by xs i zero d h a o = let same : i + 1 ≡ i + 1 + 0 = omega arith in subst (λ n. IsOut keeps (take n xs) (Some i)) same o
-  out_by xs i (suc m) d h a o =
-      let next : i + 1 + m + 1 ≡ i + 1 + suc m = omega arith in
-      subst (λ n. IsOut keeps (take n xs) (Some i)) next (out_more keeps xs (i + 1 + m) d (Some i) (omega (arith, h)) (a (i + 1 + m) d (omega arith) (omega (arith, h))) (out_by xs i m d (omega (arith, h)) a o))
-
-  out_on : (xs : List X) (i : ℕ) → i < length xs → AllWithin (λ x. keeps x ≡ true) xs (i + 1) (length xs) → IsOut keeps (take (i + 1) xs) (Some i) → IsOut keeps xs (Some i)
-  out_on [] i h a o = absurd (omega (arith, h))
-  out_on (x ∷ xs) i h a o = out_all keeps (x ∷ xs) (i + 1 + (length (x ∷ xs) - (i + 1))) (Some i) (omega (arith, h)) (out_by (x ∷ xs) i (length (x ∷ xs) - (i + 1)) x (omega (arith, h)) a o)
-
 module _ {X : Type 0} (p : X → Bool) where
   none_upto : (xs : List X) (n : ℕ) → n ≤ length xs → AllWithin (λ x. p x ≡ false) xs 0 n → list_any p (take n xs) ≡ false
   none_upto xs zero h a = refl
@@ -341,20 +321,6 @@ module _ {K X : Type 0} (R : K → K → Ordering) where
 
     pub gap_found : (es : List (K × X)) (i : ℕ) → IsGap R k es i → find R k es ≡ None
     gap_found es i g = none_at es (gap_apart es i g)
-
-    abbrev others : K × X → Bool
-    others e = not (eq_by_cmp R k e.0)
-
-    pub gap_out : (es : List (K × X)) (i : ℕ) → IsGap R k es i → IsOut others es None
-    gap_out es i g = out_all others es (length es) None refl (out_upto others es (length es) (omega arith) (λ j d a b. ap not (gap_apart es i g j d a b)))
-
-    pub hit_out : (es : List (K × X)) (i : ℕ) → IsHit R k es i → IsOut others es (Some i)
-    hit_out [] i h = let l = h.in_range in absurd (omega (arith, l))
-    hit_out (x ∷ xs) i h =
-        let l = h.in_range in
-        let before : IsOut others (take i (x ∷ xs)) None = out_upto others (x ∷ xs) i (omega (arith, l)) (λ j d a b. ap not (unequal R k Greater (get_or (x ∷ xs) j d).0 (h.before j d a b) refl)) in
-        let here : IsOut others (take (i + 1) (x ∷ xs)) (Some i) = out_here others (x ∷ xs) i x None refl l (ap (λ r. not (is_eq r)) (h.here x)) before in
-        out_on others (x ∷ xs) i l (λ j d a b. ap not (unequal R k Less (get_or (x ∷ xs) j d).0 (h.after j d a b) refl)) here
 
 -- within a bound
 up_to_lower : (b : Bound Key) (x y : Key) → slice_cmp nat_cmp x y ≡ Less → is_up_to b y ≡ true → is_up_to b x ≡ true

@@ -1,7 +1,6 @@
 pub mod Order
 pub mod Bytes
 pub mod Node
-pub mod Returning
 pub mod Halves
 pub mod Posting
 pub mod Among

@@ -5,7 +5,6 @@ ghost use Rattle.std.specs.List.{list_any, slice_get};
 ghost use Rattle.sled_nodes.specs.Among.{bound_of, is_up_to as within_upper, is_from as within_lower};
 ghost use Rattle.sled_nodes.specs.Ranges.{is_in_range, pairs_in};
 ghost use Rattle.sled_nodes.specs.theory.Places.{IsFirstAt, IsLastAt, IsPlaceOf};
-ghost use Rattle.sled_nodes.specs.theory.Returning.{IsOut};
 
 use crate::order::{compare, compare_to, front_of};
 use crate::{IVec, Pid};
@@ -147,22 +146,6 @@ pub fn place_within(
     } else {
         None
     }
-}
-
-// The place of the one pointer to a page, `Some(None)` where there is none, and `None` where there are more.
-pub fn pointer_alone(pointers: &[(IVec, Pid)], to: Pid) -> Option<Option<usize>>
-    ensures { IfSome result (IsOut (λ e. not (nat_eq e.1 to)) pointers.now) }
-{
-    let mut found: Option<usize> = None;
-    for i in 0..pointers.len() {
-        if pointers[i].1 == to {
-            if found.is_some() {
-                return None;
-            }
-            found = Some(i);
-        }
-    }
-    Some(found)
 }
 
 // The place of the first pointer to a page.

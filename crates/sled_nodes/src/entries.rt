@@ -10,8 +10,6 @@ ghost use Rattle.sled_nodes.specs.Among.{bound_of, is_up_to as within_upper, is_
 ghost use Rattle.sled_nodes.specs.Node.{unpointed};
 ghost use Rattle.sled_nodes.specs.Ranges.{pairs_in};
 ghost use Rattle.sled_nodes.specs.theory.Places.{IsFirstAt, IsLastAt, IsPlaceOf};
-ghost use Rattle.sled_nodes.specs.Returning.{restored, put_in};
-ghost use Rattle.sled_nodes.specs.theory.Returning.{IsOut};
 
 use crate::error::Result;
 use crate::{IVec, Pid, among, ascending, pairs};
@@ -88,13 +86,6 @@ impl<V> Entries<V> {
         pairs::value_at(self.list.as_slice(), key, self.ascends)
     }
 
-    /// The place of a key that stands once, `Some(None)` where it stands nowhere, and `None` where it stands more than once.
-    pub fn place_alone(&self, key: &IVec) -> Option<Option<usize>>
-        ensures { IfSome result (IsOut (λ e. not (eq_by_cmp (slice_cmp nat_cmp) key.now e.0)) self.now) }
-    {
-        pairs::place_alone(self.list.as_slice(), key, self.ascends)
-    }
-
     /// The place of the last entry whose key is within an upper bound. The bound's key is looked for at the place `near` first.
     #[inline(always)]
     pub fn last_place(&self, bound: Bound<&[u8]>, near: usize) -> Option<usize>
@@ -130,49 +121,11 @@ impl<V: Drop> Entries<V> {
         pairs::put_pair(&mut self.list, key, value, self.ascends)
     }
 
-    /// The same, and says where, and what stood there.
-    pub fn swap_in(&mut self, key: IVec, value: V) -> Result<(usize, Option<V>)>
-        ensures ok { OnOk result (self.new ≡ put (slice_cmp nat_cmp) key value self.old) }
-        ensures back { IfOk result (λ b. restored b.0 b.1 self.new ≡ self.old) }
-        ensures err { OnErr result (self.new ≡ self.old) }
-        ensures cause { IfErr result (λ e. e ≡ NoMemory) }
-    {
-        pairs::swap_in(&mut self.list, key, value, self.ascends)
-    }
-
-    /// Takes the entry at a place out.
-    pub fn remove(&mut self, i: usize) -> (IVec, V)
-        requires { i < length self.old }
-        ensures is { self.new ≡ remove self.old i }
-        ensures back { put_in i result self.new ≡ self.old }
-    {
-        self.list.remove(i)
-    }
-
     /// Takes the entries of a key out.
     pub fn remove_key(&mut self, key: &IVec)
         ensures { self.new ≡ where_key (slice_cmp nat_cmp) (λ x. not (eq_by_cmp (slice_cmp nat_cmp) key.now x)) self.old }
     {
         pairs::remove_key(&mut self.list, key);
-    }
-
-    /// Puts the old value back at a place, or takes what was put there out.
-    pub fn restore(&mut self, i: usize, old: Option<V>)
-        ensures { self.new ≡ restored i old self.old }
-    {
-        pairs::restore(&mut self.list, i, old);
-        self.ascends = ascending::ascends(self.list.as_slice());
-    }
-
-    /// Puts an entry in at a place. Refused with `NoMemory` alone, and then unchanged.
-    pub fn put_in(&mut self, i: usize, key: IVec, value: V) -> Result<()>
-        ensures ok { OnOk result (self.new ≡ put_in i (key, value) self.old) }
-        ensures err { OnErr result (self.new ≡ self.old) }
-        ensures cause { IfErr result (λ e. e ≡ NoMemory) }
-    {
-        pairs::put_in(&mut self.list, i, key, value)?;
-        self.ascends = ascending::ascends(self.list.as_slice());
-        Ok(())
     }
 }
 

@@ -20,11 +20,11 @@ pub enum Error {
     CollectionNotFound(IVec),
     /// The call asks for what there is not; the text says what.
     Unsupported(&'static str),
-    /// A walk went on for too many steps; the text says which.
+    /// A walk went on for too many steps, or a transaction met conflicts a million times; the text says which.
     ReportableBug(&'static str),
     /// The store's device failed, or a page cannot be read.
     Io(Fault),
-    /// The pages are not well formed.
+    /// The pages are not well formed. With code 10 a group is open in them, and nothing else is said of them.
     Corruption(Fault),
     /// There was no memory for what the call needs.
     NoMemory,

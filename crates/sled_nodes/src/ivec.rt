@@ -134,6 +134,7 @@ impl IVec {
     /// ```
     /// let same = key.clone()?; // Of a long one the bytes are shared.
     /// ```
+    #[inline(always)]
     pub fn clone(&self) -> Result<IVec>
         ensures ok { IfOk result (λ copy. copy ≡ self.now) }
         ensures err { IfErr result (λ e. e ≡ NoMemory) }

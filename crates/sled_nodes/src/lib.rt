@@ -3,12 +3,11 @@
 //! The calls of a node are stated by its bounds and entries: what it holds and what a link makes of it (`specs/Node`), its
 //! halves (`specs/Halves`), a pointer more (`specs/Posting`), what lies within a bound (`specs/Among`) or two
 //! (`specs/Ranges`). A store and those who read a page hold its node together (`Shared`). A link changes it in place where
-//! one alone holds it, and is taken back by what stood there (`specs/Returning`).
+//! one alone holds it.
 #![tactic(auto)]
 
 mod among;
 mod ascending;
-mod change;
 mod entries;
 mod error;
 mod ivec;
@@ -22,7 +21,6 @@ mod shared;
 pub mod texts;
 
 pub use among::{is_from, is_up_to, key_is_up_to};
-pub use change::{Back, Part};
 pub use error::{Error, Fault, Result};
 pub use ivec::IVec;
 pub use link::Link;

@@ -10,16 +10,14 @@ ghost use Rattle.sled_nodes.specs.Among.{bound_of, IsSuccessor, IsPredecessor, I
 ghost use Rattle.std.specs.List.{list_all, slice_get};
 ghost use Rattle.sled_nodes.specs.Ranges.{pairs_in};
 ghost use Rattle.sled_nodes.specs.Image.{all_of, all_named};
-ghost use Rattle.sled_nodes.specs.Returning.{restored, put_back, put_part, put_in};
 ghost use Rattle.sled_nodes.specs.declared.link.Link.TheVariants.{Set, Del, ParentMergeConfirm};
 ghost use Rattle.sled_nodes.specs.Posting.{IsOpen, IsIndex, Posts};
 
-use crate::among::{place_of, pointer_alone};
+use crate::among::place_of;
 use crate::ascending::NOWHERE;
-use crate::change::{Back, Part};
 use crate::entries::Entries;
 use crate::error::Result;
-use crate::pairs::clone_pair;
+use crate::pairs::{clone_pair, growth};
 use crate::{IVec, Link, Pid, Shared};
 use std::alloc::Global;
 use std::marker::Model;
@@ -98,15 +96,21 @@ pub struct Node {
     pub content: Data,
 }
 
+// The same pairs, with room for so many more.
+fn copy_with_room(alloc: Global, pairs: &[(IVec, IVec)], more: usize) -> Result<Vec<(IVec, IVec)>>
+    ensures ok { IfOk result (λ copy. copy.items ≡ pairs.now) }
+    ensures err { IfErr result (λ e. e ≡ NoMemory) }
+{
+    let mut copy = Vec::with_capacity(alloc, pairs.len().saturating_add(more))?;
+    add_pairs(&mut copy, pairs)?;
+    Ok(copy)
+}
+
 fn copy_pairs(alloc: Global, pairs: &[(IVec, IVec)]) -> Result<Vec<(IVec, IVec)>>
     ensures ok { IfOk result (λ copy. copy.items ≡ pairs.now) }
     ensures err { IfErr result (λ e. e ≡ NoMemory) }
 {
-    let mut copy = Vec::with_capacity(alloc, pairs.len())?;
-    for pair in pairs {
-        copy.push(clone_pair(&pair.0, &pair.1)?)?;
-    }
-    Ok(copy)
+    copy_with_room(alloc, pairs, 0)
 }
 
 fn add_pairs(pairs: &mut Vec<(IVec, IVec)>, more: &[(IVec, IVec)]) -> Result<()>
@@ -217,7 +221,15 @@ impl Leaf {
         ensures ok { IfOk result (λ copy. copy ≡ self.now) }
         ensures err { IfErr result (λ e. e ≡ NoMemory) }
     {
-        let list = copy_pairs(alloc, self.pairs.as_slice())?;
+        self.copy_with_room(alloc, 0)
+    }
+
+    // The same value, with room for so many pairs more.
+    fn copy_with_room(&self, alloc: Global, more: usize) -> Result<Leaf>
+        ensures ok { IfOk result (λ copy. copy ≡ self.now) }
+        ensures err { IfErr result (λ e. e ≡ NoMemory) }
+    {
+        let list = copy_with_room(alloc, self.pairs.as_slice(), more)?;
         Ok(Leaf {
             pairs: self.pairs.copied(list),
         })
@@ -338,46 +350,6 @@ impl Leaf {
         ensures cause { IfErr result (λ e. e ≡ NoMemory) }
     {
         self.pairs.put(key, value)
-    }
-
-    #[tactic(auto, unfolding(crate::specs::Order::key_cmp))]
-    fn swap_in(&mut self, key: IVec, value: IVec) -> Result<(usize, Option<IVec>)>
-        ensures ok { OnOk result (self.new ≡ put key_cmp key value self.old) }
-        ensures back { IfOk result (λ b. restored b.0 b.1 self.new ≡ self.old) }
-        ensures err { OnErr result (self.new ≡ self.old) }
-        ensures cause { IfErr result (λ e. e ≡ NoMemory) }
-    {
-        self.pairs.swap_in(key, value)
-    }
-
-    // The pair of a key out of the list, with its place: `Some(None)` where there is none, and `None`, with no change, where the
-    // key stands more than once.
-    #[tactic(auto, unfolding(crate::specs::Order::key_cmp))]
-    fn swap_out(&mut self, key: &IVec) -> Option<Option<(usize, IVec, IVec)>>
-        ensures { MatchOption result (self.new ≡ self.old) (λ o. (self.new ≡ without key.now self.old) × MatchOption o (self.new ≡ self.old) (λ e. put_in e.0 (e.1, e.2) self.new ≡ self.old)) }
-    {
-        match self.pairs.place_alone(key) {
-            None => None,
-            Some(None) => Some(None),
-            Some(Some(i)) => {
-                let (name, value) = self.pairs.remove(i);
-                Some(Some((i, name, value)))
-            }
-        }
-    }
-
-    fn put_in(&mut self, i: usize, key: IVec, value: IVec) -> Result<()>
-        ensures ok { OnOk result (self.new ≡ put_in i (key, value) self.old) }
-        ensures err { OnErr result (self.new ≡ self.old) }
-        ensures cause { IfErr result (λ e. e ≡ NoMemory) }
-    {
-        self.pairs.put_in(i, key, value)
-    }
-
-    fn restore(&mut self, i: usize, old: Option<IVec>)
-        ensures { self.new ≡ restored i old self.old }
-    {
-        self.pairs.restore(i, old);
     }
 
     #[tactic(auto, unfolding(crate::specs::Order::key_cmp))]
@@ -532,29 +504,6 @@ impl Index {
         }
     }
 
-    // The one pointer to a page out of the list, with its place: `Some(None)` where there is none, and `None`, with no change,
-    // where there are more.
-    fn swap_out(&mut self, to: Pid) -> Option<Option<(usize, IVec, Pid)>>
-        ensures { MatchOption result (self.new ≡ self.old) (λ o. (self.new ≡ unpointed to self.old) × MatchOption o (self.new ≡ self.old) (λ e. put_in e.0 (e.1, e.2) self.new ≡ self.old)) }
-    {
-        match pointer_alone(self.pointers.as_slice(), to) {
-            None => None,
-            Some(None) => Some(None),
-            Some(Some(i)) => {
-                let (key, pid) = self.pointers.remove(i);
-                Some(Some((i, key, pid)))
-            }
-        }
-    }
-
-    fn put_in(&mut self, i: usize, key: IVec, pid: Pid) -> Result<()>
-        ensures ok { OnOk result (self.new ≡ put_in i (key, pid) self.old) }
-        ensures err { OnErr result (self.new ≡ self.old) }
-        ensures cause { IfErr result (λ e. e ≡ NoMemory) }
-    {
-        self.pointers.put_in(i, key, pid)
-    }
-
     fn del_to(&mut self, to: Pid)
         ensures { self.new ≡ unpointed to self.old }
     {
@@ -580,6 +529,17 @@ impl Data {
 }
 
 impl Data {
+    // The same value. A leaf has room for as many pairs more as a full one grows by.
+    fn copy_with_room(&self, alloc: Global) -> Result<Data>
+        ensures ok { IfOk result (λ copy. copy ≡ self.now) }
+        ensures err { IfErr result (λ e. e ≡ NoMemory) }
+    {
+        match self {
+            Data::Leaf(leaf) => Ok(Data::Leaf(leaf.copy_with_room(alloc, growth(leaf.len()))?)),
+            Data::Index(index) => Ok(Data::Index(index.clone(alloc)?)),
+        }
+    }
+
     // How many entries there are.
     fn len(&self) -> usize
         ensures { result ≡ count self.now }
@@ -661,13 +621,29 @@ impl Node {
         ensures ok { IfOk result (λ copy. copy ≡ self.now) }
         ensures err { IfErr result (λ e. e ≡ NoMemory) }
     {
+        self.with_content(self.content.clone(alloc)?)
+    }
+
+    // The same value. A leaf has room for as many pairs more as a full one grows by.
+    pub(crate) fn copy_with_room(&self, alloc: Global) -> Result<Node>
+        ensures ok { IfOk result (λ copy. copy ≡ self.now) }
+        ensures err { IfErr result (λ e. e ≡ NoMemory) }
+    {
+        self.with_content(self.content.copy_with_room(alloc)?)
+    }
+
+    // The same bounds with this content.
+    fn with_content(&self, content: Data) -> Result<Node>
+        ensures ok { IfOk result (λ made. made ≡ record self.now { content = content }) }
+        ensures err { IfErr result (λ e. e ≡ NoMemory) }
+    {
         Ok(Node {
             lo: self.lo.clone()?,
             hi: self.hi.clone()?,
             next: self.next,
             merging: self.merging,
             merging_child: self.merging_child,
-            content: self.content.clone(alloc)?,
+            content,
         })
     }
 
@@ -705,23 +681,32 @@ impl Node {
         ensures err { OnErr result (self.new ≡ self.old) }
         ensures cause { IfErr result (λ e. e ≡ NoMemory) }
     {
+        let done = self.follow(&link);
+        drop(link);
+        done
+    }
+
+    // Makes the change of a link that is kept. The node shares its key and value.
+    pub(crate) fn follow(&mut self, link: &Link) -> Result<()>
+        ensures ok { OnOk result (self.new ≡ after_link link.now self.old) }
+        ensures err { OnErr result (self.new ≡ self.old) }
+        ensures cause { IfErr result (λ e. e ≡ NoMemory) }
+    {
         match link {
-            Link::Set(key, value) => match &mut self.content {
-                Data::Leaf(leaf) => leaf.set(key, value)?,
-                Data::Index(_) => {
-                    drop(key);
-                    drop(value);
+            Link::Set(key, value) => {
+                if let Data::Leaf(leaf) = &mut self.content {
+                    let (key, value) = clone_pair(key, value)?;
+                    leaf.set(key, value)?;
                 }
-            },
+            }
             Link::Del(key) => {
                 if let Data::Leaf(leaf) = &mut self.content {
-                    leaf.del(&key);
+                    leaf.del(key);
                 }
-                drop(key);
             }
             Link::ParentMergeIntention(child) => {
                 if let Data::Index(_) = &self.content {
-                    self.merging_child = Some(child);
+                    self.merging_child = Some(*child);
                 }
             }
             Link::ParentMergeConfirm => {
@@ -733,167 +718,6 @@ impl Node {
                 }
             }
             Link::ChildMergeCap => self.merging = true,
-        }
-        Ok(())
-    }
-
-    // The same, and the node before it.
-    fn apply_whole(&mut self, alloc: Global, link: Link) -> Result<Back>
-        ensures ok { OnOk result (self.new ≡ after_link link self.old) }
-        ensures back { IfOk result (λ back. put_back back self.new ≡ self.old) }
-        ensures err { OnErr result (self.new ≡ self.old) }
-        ensures cause { IfErr result (λ e. e ≡ NoMemory) }
-    {
-        let old = match self.shared(alloc) {
-            Ok(old) => old,
-            Err(e) => {
-                drop(link);
-                return Err(e);
-            }
-        };
-        match self.apply(link) {
-            Ok(()) => Ok(Back::Whole(old)),
-            Err(e) => {
-                drop(old);
-                Err(e)
-            }
-        }
-    }
-
-    // The same node, to be held by several.
-    fn shared(&self, alloc: Global) -> Result<Shared>
-        ensures ok { IfOk result (λ copy. copy ≡ self.now) }
-        ensures err { IfErr result (λ e. e ≡ NoMemory) }
-    {
-        let copy = self.clone(alloc)?;
-        Shared::new(alloc, copy)
-    }
-
-    // Makes a leaf's pair of a key, and says how that is taken back.
-    fn set_back(&mut self, key: IVec, value: IVec) -> Result<Back>
-        ensures ok { OnOk result (self.new ≡ after_link (Set key value) self.old) }
-        ensures back { IfOk result (λ back. put_back back self.new ≡ self.old) }
-        ensures err { OnErr result (self.new ≡ self.old) }
-        ensures cause { IfErr result (λ e. e ≡ NoMemory) }
-    {
-        match &mut self.content {
-            Data::Leaf(leaf) => {
-                let (i, old) = leaf.swap_in(key, value)?;
-                Ok(Back::Part(Part::Pair(i, old)))
-            }
-            Data::Index(_) => {
-                drop(key);
-                drop(value);
-                Ok(Back::Part(Part::Nothing))
-            }
-        }
-    }
-
-    // Takes a leaf's pair out, and says how that is taken back.
-    fn del_back(&mut self, alloc: Global, key: IVec) -> Result<Back>
-        ensures ok { OnOk result (self.new ≡ after_link (Del key) self.old) }
-        ensures back { IfOk result (λ back. put_back back self.new ≡ self.old) }
-        ensures err { OnErr result (self.new ≡ self.old) }
-        ensures cause { IfErr result (λ e. e ≡ NoMemory) }
-    {
-        let gone = match &mut self.content {
-            Data::Leaf(leaf) => leaf.swap_out(&key),
-            Data::Index(_) => Some(None),
-        };
-        match gone {
-            None => self.apply_whole(alloc, Link::Del(key)),
-            Some(None) => {
-                drop(key);
-                Ok(Back::Part(Part::Nothing))
-            }
-            Some(Some((i, name, value))) => {
-                drop(key);
-                Ok(Back::Part(Part::In(i, name, value)))
-            }
-        }
-    }
-
-    // Takes an index's pointer to its merging child out, and says how that is taken back.
-    fn confirm_back(&mut self, alloc: Global) -> Result<Back>
-        ensures ok { OnOk result (self.new ≡ after_link ParentMergeConfirm self.old) }
-        ensures back { IfOk result (λ back. put_back back self.new ≡ self.old) }
-        ensures err { OnErr result (self.new ≡ self.old) }
-        ensures cause { IfErr result (λ e. e ≡ NoMemory) }
-    {
-        let Some(child) = self.merging_child else {
-            return Ok(Back::Part(Part::Nothing));
-        };
-        let gone = match &mut self.content {
-            Data::Leaf(_) => return Ok(Back::Part(Part::Nothing)),
-            Data::Index(index) => index.swap_out(child),
-        };
-        match gone {
-            None => self.apply_whole(alloc, Link::ParentMergeConfirm),
-            Some(None) => {
-                self.merging_child = None;
-                Ok(Back::Part(Part::Child(Some(child))))
-            }
-            Some(Some((i, key, to))) => {
-                self.merging_child = None;
-                Ok(Back::Part(Part::Pointer(i, key, to, child)))
-            }
-        }
-    }
-
-    // The same, and how it is taken back.
-    pub(crate) fn apply_back(&mut self, alloc: Global, link: Link) -> Result<Back>
-        ensures ok { OnOk result (self.new ≡ after_link link self.old) }
-        ensures back { IfOk result (λ back. put_back back self.new ≡ self.old) }
-        ensures err { OnErr result (self.new ≡ self.old) }
-        ensures cause { IfErr result (λ e. e ≡ NoMemory) }
-    {
-        match link {
-            Link::Set(key, value) => self.set_back(key, value),
-            Link::Del(key) => self.del_back(alloc, key),
-            Link::ParentMergeIntention(child) => {
-                let back = Back::Part(Part::Child(self.merging_child));
-                if let Data::Index(_) = &self.content {
-                    self.merging_child = Some(child);
-                }
-                Ok(back)
-            }
-            Link::ParentMergeConfirm => self.confirm_back(alloc),
-            Link::ChildMergeCap => {
-                let back = Back::Part(Part::Merging(self.merging));
-                self.merging = true;
-                Ok(back)
-            }
-        }
-    }
-
-    // Takes the change of a part back.
-    pub(crate) fn put_back(&mut self, part: Part) -> Result<()>
-        ensures ok { OnOk result (self.new ≡ put_part part self.old) }
-        ensures err { OnErr result (self.new ≡ self.old) }
-        ensures cause { IfErr result (λ e. e ≡ NoMemory) }
-    {
-        match part {
-            Part::Nothing => {}
-            Part::Pair(i, old) => match &mut self.content {
-                Data::Leaf(leaf) => leaf.restore(i, old),
-                Data::Index(_) => drop(old),
-            },
-            Part::In(i, key, value) => match &mut self.content {
-                Data::Leaf(leaf) => leaf.put_in(i, key, value)?,
-                Data::Index(_) => {
-                    drop(key);
-                    drop(value);
-                }
-            },
-            Part::Pointer(i, key, to, child) => {
-                match &mut self.content {
-                    Data::Leaf(_) => drop(key),
-                    Data::Index(index) => index.put_in(i, key, to)?,
-                }
-                self.merging_child = Some(child);
-            }
-            Part::Child(child) => self.merging_child = child,
-            Part::Merging(merging) => self.merging = merging,
         }
         Ok(())
     }

@@ -5,8 +5,6 @@ ghost use Rattle.sled_nodes.specs.declared.error.Error.TheVariants.{NoMemory};
 ghost use Rattle.std.specs.FinMap.Entries.{put, find};
 ghost use Rattle.std.specs.Option.{option_copied};
 ghost use Rattle.sled_nodes.specs.theory.Pairs.{Stands, Goes};
-ghost use Rattle.sled_nodes.specs.Returning.{restored, put_in};
-ghost use Rattle.sled_nodes.specs.theory.Returning.{IsOut};
 ghost use Rattle.sled_nodes.specs.Node.{unpointed};
 ghost use Rattle.std.specs.FinMap.{is_sorted};
 ghost use Rattle.std.specs.List.{insert as insert_at};
@@ -57,7 +55,12 @@ pub fn clone_pair(key: &IVec, value: &IVec) -> Result<(IVec, IVec)>
     }
 }
 
-// Puts a pair in at a place. A list that is full grows by four pairs, and to 17 at most: a node of so many is split.
+/// How much a list of so many pairs grows by when it is full: by four, and to 17 at most, since a node of so many is split.
+pub fn growth(len: usize) -> usize {
+    FULL.saturating_sub(len).min(4)
+}
+
+// Puts a pair in at a place.
 fn insert<V: Drop>(pairs: &mut Vec<(IVec, V)>, i: usize, key: IVec, value: V) -> Result<()>
     requires { i ≤ length pairs.old.items }
     ensures ok { OnOk result (pairs.new.items ≡ insert_at pairs.old.items i (key, value)) }
@@ -66,62 +69,9 @@ fn insert<V: Drop>(pairs: &mut Vec<(IVec, V)>, i: usize, key: IVec, value: V) ->
 {
     let len = pairs.len();
     if len == pairs.capacity() && len < FULL {
-        pairs.reserve_exact((FULL - len).min(4))?;
+        pairs.reserve_exact(growth(len))?;
     }
     pairs.insert(i, (key, value))?;
-    Ok(())
-}
-
-// Puts a pair in its place, and says where, and what value stood there.
-pub fn swap_in<V: Drop>(
-    pairs: &mut Vec<(IVec, V)>,
-    key: IVec,
-    value: V,
-    ascends: bool,
-) -> Result<(usize, Option<V>)>
-    requires { ascends ≡ true → is_sorted (slice_cmp nat_cmp) pairs.old.items ≡ true }
-    ensures ok { OnOk result (pairs.new.items ≡ put (slice_cmp nat_cmp) key value pairs.old.items) }
-    ensures back { IfOk result (λ b. restored b.0 b.1 pairs.new.items ≡ pairs.old.items) }
-    ensures err { OnErr result (pairs.new.items ≡ pairs.old.items) }
-    ensures cause { IfErr result (λ e. e ≡ NoMemory) }
-{
-    match place(pairs.as_slice(), &key, ascends) {
-        Ok(i) => {
-            let old = std::mem::replace(&mut pairs[i].1, value);
-            Ok((i, Some(old)))
-        }
-        Err(i) => {
-            insert(pairs, i, key, value)?;
-            Ok((i, None))
-        }
-    }
-}
-
-// Takes that back.
-pub fn restore<V: Drop>(pairs: &mut Vec<(IVec, V)>, i: usize, old: Option<V>)
-    ensures { pairs.new.items ≡ restored i old pairs.old.items }
-{
-    if i < pairs.len() {
-        match old {
-            Some(value) => pairs[i].1 = value,
-            None => {
-                let (key, value) = pairs.remove(i);
-                drop(key);
-                drop(value);
-            }
-        }
-    }
-}
-
-// Puts a pair in at a place, where the list reaches so far.
-pub fn put_in<V: Drop>(pairs: &mut Vec<(IVec, V)>, i: usize, key: IVec, value: V) -> Result<()>
-    ensures ok { OnOk result (pairs.new.items ≡ put_in i (key, value) pairs.old.items) }
-    ensures err { OnErr result (pairs.new.items ≡ pairs.old.items) }
-    ensures cause { IfErr result (λ e. e ≡ NoMemory) }
-{
-    if i <= pairs.len() {
-        insert(pairs, i, key, value)?;
-    }
     Ok(())
 }
 
@@ -142,32 +92,14 @@ pub fn put_pair<V: Drop>(
     ensures err { OnErr result (pairs.new.items ≡ pairs.old.items) }
     ensures cause { IfErr result (λ e. e ≡ NoMemory) }
 {
-    let (_, old) = swap_in(pairs, key, value, ascends)?;
-    drop(old);
-    Ok(())
-}
-
-// The place of a key that stands once, `Some(None)` where it stands nowhere, and `None` where it stands more than once.
-pub fn place_alone<V>(pairs: &[(IVec, V)], key: &IVec, ascends: bool) -> Option<Option<usize>>
-    requires { ascends ≡ true → is_sorted (slice_cmp nat_cmp) pairs.now ≡ true }
-    ensures { IfSome result (IsOut (λ e. not (eq_by_cmp (slice_cmp nat_cmp) key.now e.0)) pairs.now) }
-{
-    if ascends {
-        return match search(pairs, key.as_ref()) {
-            Ok(i) => Some(Some(i)),
-            Err(_) => Some(None),
-        };
-    }
-    let mut found: Option<usize> = None;
-    for i in 0..pairs.len() {
-        if key.cmp(&pairs[i].0).is_eq() {
-            if found.is_some() {
-                return None;
-            }
-            found = Some(i);
+    match place(pairs.as_slice(), &key, ascends) {
+        Ok(i) => {
+            let old = std::mem::replace(&mut pairs[i].1, value);
+            drop(old);
+            Ok(())
         }
+        Err(i) => insert(pairs, i, key, value),
     }
-    Some(found)
 }
 
 // Takes the pointers to a page out.

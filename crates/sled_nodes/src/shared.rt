@@ -2,9 +2,7 @@
 ghost use Rattle.std.specs.Prelude.{◌≡◌, IfOk, IfErr, OnOk, OnErr};
 ghost use Rattle.sled_nodes.specs.declared.error.Error.TheVariants.{NoMemory};
 ghost use Rattle.sled_nodes.specs.Node.{after_link};
-ghost use Rattle.sled_nodes.specs.Returning.{put_back, put_part};
 
-use crate::change::{Back, Part};
 use crate::error::Result;
 use crate::{Link, Node};
 use std::alloc::Global;
@@ -69,18 +67,12 @@ impl Shared {
 
 impl Shared {
     // The node after a link, as a node of its own.
-    pub(crate) fn changed(&self, alloc: Global, link: Link) -> Result<Shared>
-        ensures ok { IfOk result (λ changed. changed ≡ after_link link self.now) }
+    pub(crate) fn changed(&self, alloc: Global, link: &Link) -> Result<Shared>
+        ensures ok { IfOk result (λ changed. changed ≡ after_link link.now self.now) }
         ensures err { IfErr result (λ e. e ≡ NoMemory) }
     {
-        let mut node = match (*self.node).clone(alloc) {
-            Ok(node) => node,
-            Err(e) => {
-                drop(link);
-                return Err(e);
-            }
-        };
-        match node.apply(link) {
+        let mut node = (*self.node).copy_with_room(alloc)?;
+        match node.follow(link) {
             Ok(()) => Shared::new(alloc, node),
             Err(e) => {
                 drop(node);
@@ -89,75 +81,25 @@ impl Shared {
         }
     }
 
-    /// Changes the node by a link, in place where no other holds it, and says how the change is taken back. Refused with `NoMemory`
-    /// alone, and then unchanged.
+    /// Makes the change of a link, in place where no other holds the node, and else in a copy. Refused with `NoMemory` alone, and
+    /// then unchanged.
     ///
     /// ```
     /// let mut shared = Shared::new(alloc, node)?;
-    /// let back = shared.change(alloc, Link::Del(key))?; // A leaf has nothing at the key now.
+    /// shared.apply(alloc, &Link::Del(key))?; // A leaf has nothing at the key now.
     /// ```
-    pub fn change(&mut self, alloc: Global, link: Link) -> Result<Back>
-        ensures ok { OnOk result (self.new ≡ after_link link self.old) }
-        ensures back { IfOk result (λ back. put_back back self.new ≡ self.old) }
-        ensures err { OnErr result (self.new ≡ self.old) }
-        ensures cause { IfErr result (λ e. e ≡ NoMemory) }
-    {
-        match Arc::get_mut(&mut self.node) {
-            Some(node) => node.apply_back(alloc, link),
-            None => {
-                let changed = self.changed(alloc, link)?;
-                let old = std::mem::replace(self, changed);
-                Ok(Back::Whole(old))
-            }
-        }
-    }
-
-    // Takes the change of a part back.
-    fn change_part(&mut self, alloc: Global, part: Part) -> Result<()>
-        ensures ok { OnOk result (self.new ≡ put_part part self.old) }
+    pub fn apply(&mut self, alloc: Global, link: &Link) -> Result<()>
+        ensures ok { OnOk result (self.new ≡ after_link link.now self.old) }
         ensures err { OnErr result (self.new ≡ self.old) }
         ensures cause { IfErr result (λ e. e ≡ NoMemory) }
     {
         if let Some(node) = Arc::get_mut(&mut self.node) {
-            return node.put_back(part);
+            return node.follow(link);
         }
-        let mut node = match (*self.node).clone(alloc) {
-            Ok(node) => node,
-            Err(e) => {
-                drop(part);
-                return Err(e);
-            }
-        };
-        if let Err(e) = node.put_back(part) {
-            drop(node);
-            return Err(e);
-        }
-        let new = Shared::new(alloc, node)?;
-        let was = std::mem::replace(self, new);
-        drop(was);
+        let changed = self.changed(alloc, link)?;
+        let old = std::mem::replace(self, changed);
+        drop(old);
         Ok(())
-    }
-
-    /// Takes a change back. Refused with `NoMemory` alone, and then unchanged.
-    ///
-    /// ```
-    /// let mut shared = Shared::new(alloc, node)?;
-    /// let back = shared.change(alloc, link)?;
-    /// shared.change_back(alloc, back)?; // The node is what it was before the link.
-    /// ```
-    pub fn change_back(&mut self, alloc: Global, back: Back) -> Result<()>
-        ensures ok { OnOk result (self.new ≡ put_back back self.old) }
-        ensures err { OnErr result (self.new ≡ self.old) }
-        ensures cause { IfErr result (λ e. e ≡ NoMemory) }
-    {
-        match back {
-            Back::Part(part) => self.change_part(alloc, part),
-            Back::Whole(old) => {
-                let was = std::mem::replace(self, old);
-                drop(was);
-                Ok(())
-            }
-        }
     }
 }
 

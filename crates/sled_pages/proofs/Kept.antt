@@ -19,8 +19,9 @@ use Rattle.sled_nodes.specs.Order.{Key}
 use Rattle.sled_store.specs.Update.{put_at, put_name}
 use Rattle.sled_nodes.specs.declared.node.Node.{Node}
 use Rattle.sled_pages.specs.declared.memory.slots.Slot.{Slot}
+use Rattle.sled_pages.specs.Parts.{Parts}
 use Rattle.sled_pages.specs.declared.memory.undo.Undo.{Undo}
-use Rattle.sled_pages.specs.declared.memory.undo.Undo.TheVariants.{UndoSlot, UndoLink, UndoRoot, UndoGroup}
+use Rattle.sled_pages.specs.declared.memory.undo.Undo.TheVariants.{UndoSlot, UndoLink, UndoFold, UndoRoot, UndoGroup}
 use Rattle.sled_store.specs.State.{State, Action, PageBecomes, RootBecomes, GroupBegins, GroupEnds}
 use Rattle.sled_store.specs.Store.{Store, IsRefused, now, after_action, after_flush, Allocates, ActsAt}
 use Rattle.sled_nodes.specs.declared.error.Error.{Error}
@@ -85,7 +86,8 @@ page_commits slots slots' roots g log log' pid slot old n f un mk rc places plac
 
 place_stays : (places places' : ℕ → Bool) → ((p : ℕ) → places p ≡ true → places' p ≡ true) → (u : Undo) → has_place places u ≡ true → has_place places' u ≡ true
 place_stays places places' h (UndoSlot pid slot) e = h pid e
-place_stays places places' h (UndoLink pid version back) e = h pid e
+place_stays places places' h (UndoLink pid version) e = h pid e
+place_stays places places' h (UndoFold pid version page) e = h pid e
 place_stays places places' h (UndoRoot name root) e = refl
 place_stays places places' h (UndoGroup was_open) e = refl
 
@@ -122,7 +124,8 @@ slot_later n (Some s) e = grind (arith, nat_tests)
 
 undo_later : (n : ℕ) (u : Undo) → undo_given n u ≡ true → undo_given (n + 1) u ≡ true
 undo_later n (UndoSlot pid slot) e = slot_later n slot e
-undo_later n (UndoLink pid version back) e = grind (arith, nat_tests)
+undo_later n (UndoLink pid version) e = grind (arith, nat_tests)
+undo_later n (UndoFold pid version page) e = grind (arith, nat_tests)
 undo_later n (UndoRoot name root) e = refl
 undo_later n (UndoGroup was_open) e = refl
 
@@ -180,6 +183,10 @@ root_keeps slots roots roots' g log log' name key undo root old places s o k u l
     let l' : log' ≡ log ++ UndoRoot name old ∷ [] = l ∙ ap (λ x. log ++ UndoRoot x old ∷ []) u in
     kept_more _ _ log log' (UndoRoot name old) places places l' (root_back slots roots roots' g name root old s' o) (λ p e. e) refl kept
 
+-- a page without links that was added
+pub added_is : (slots mid new : ℕ → Option Slot) (pid nv : ℕ) (page : Parts) (node : Node) → new ≡ put_at mid pid (Some (record { version = nv; page = page })) → page ≡ (node, []) → mid ≡ slots → new ≡ put_at slots pid (Some (record { version = nv; page = (node, []) }))
+added_is slots mid new pid nv page node e p s = e ∙ (ap (λ (q : Parts). put_at mid pid (Some (record { version = nv; page = q }))) p ∙ ap (λ f. put_at f pid (Some (record { version = nv; page = (node, []) }))) s)
+
 -- a new page
 slot_none : (slots : ℕ → Option Slot) (places : ℕ → Bool) (pid : ℕ) → ((p : ℕ) (slot : Slot) → slots p ≡ Some slot → places p ≡ true) → places pid ≡ false → slots pid ≡ None
 slot_none slots places pid placed fresh =
@@ -187,7 +194,7 @@ slot_none slots places pid placed fresh =
 
 pub allocates : (slots slots' : ℕ → Option Slot) (roots : Key → Option ℕ) (g : Bool) (log log' : List Undo) (pid : ℕ) (node : Node) (n f : ℕ) (un : List ℕ) (mk : ℕ) (rc : Bool) (places places' : ℕ → Bool) (nv : ℕ) (old : Store) →
     meaning (with_slots roots g slots) log n f un mk rc places nv ≡ old → 0 < pid → places pid ≡ false → ((p : ℕ) (slot : Slot) → slots p ≡ Some slot → places p ≡ true) →
-    slots' ≡ put_at slots pid (Some (record { version = nv; node = node })) → places' ≡ put_at places pid true → log' ≡ log ++ UndoSlot pid None ∷ [] →
+    slots' ≡ put_at slots pid (Some (record { version = nv; page = (node, []) })) → places' ≡ put_at places pid true → log' ≡ log ++ UndoSlot pid None ∷ [] →
     Allocates node pid nv old (meaning (with_slots roots g slots') log' (n + 1) f un mk rc places' (nv + 1))
 allocates slots slots' roots g log log' pid node n f un mk rc places places' nv old same positive fresh placed s p l =
     subst (λ (x : Store). Allocates node pid nv x (meaning (with_slots roots g slots') log' (n + 1) f un mk rc places' (nv + 1))) same (record {
@@ -195,7 +202,7 @@ allocates slots slots' roots g log log' pid node n f un mk rc places places' nv 
       fresh_pid = fresh;
       fresh = next_fresh nv;
       is = rw p (
-          ap (λ (t : Store). record t { pids = put_at places pid true; versions = λ v. nat_lt v (nv + 1) }) (page_commits slots slots' roots g log log' pid (Some (record { version = nv; node = node })) None n f un mk rc places places nv s (sym (slot_none slots places pid placed fresh)) l refl)
+          ap (λ (t : Store). record t { pids = put_at places pid true; versions = λ v. nat_lt v (nv + 1) }) (page_commits slots slots' roots g log log' pid (Some (record { version = nv; page = (node, []) })) None n f un mk rc places places nv s (sym (slot_none slots places pid placed fresh)) l refl)
           ∙ ap (λ h. record (after_action (PageBecomes pid (Some (record { version = nv; node = node }))) (meaning (with_slots roots g slots) log n f un mk rc places nv)) { pids = put_at places pid true; versions = h }) (next_version nv));
     })
 
@@ -206,10 +213,10 @@ allocate_keeps slots slots' roots g log log' pid slot places more places' fresh 
     kept_more _ _ log log' (UndoSlot pid None) places places' l (page_back slots slots' roots g pid slot None s (sym (slot_none slots places pid placed fresh)))
     (λ q e. ap (λ f. f q) p ∙ elim (eqb q pid) as (λ b. cond b true (more q) ≡ true) [ true ↦ refl | false ↦ m q e ]) (ap (λ f. f pid) p ∙ put_here more pid true) kept
 
-pub allocate_below : (nv : ℕ) (slots slots' : ℕ → Option Slot) (log log' : List Undo) (pid : ℕ) (node : Node) → slots' ≡ put_at slots pid (Some (record { version = nv; node = node })) → log' ≡ log ++ UndoSlot pid None ∷ [] → AreBelow nv slots log → AreBelow (nv + 1) slots' log'
+pub allocate_below : (nv : ℕ) (slots slots' : ℕ → Option Slot) (log log' : List Undo) (pid : ℕ) (node : Node) → slots' ≡ put_at slots pid (Some (record { version = nv; page = (node, []) })) → log' ≡ log ++ UndoSlot pid None ∷ [] → AreBelow nv slots log → AreBelow (nv + 1) slots' log'
 allocate_below nv slots slots' log log' pid node s l h =
     let k = later nv slots log h in record {
-      here = here_put (nv + 1) slots slots' pid (Some (record { version = nv; node = node })) s (now_below nv) k.here;
+      here = here_put (nv + 1) slots slots' pid (Some (record { version = nv; page = (node, []) })) s (now_below nv) k.here;
       in_log = rw l (all_push (undo_given (nv + 1)) log (UndoSlot pid None) k.in_log refl);
     }
 

@@ -20,6 +20,7 @@ use Rattle.sled_store.specs.Roots.{roots_of}
 use Rattle.sled_store.proofs.Roots.{same_test}
 use Rattle.sled_store.specs.declared.page.Page.{Page}
 use Rattle.sled_pages.specs.declared.memory.slots.Slot.{Slot}
+use Rattle.sled_pages.specs.Parts.{node_of, alone}
 use Rattle.sled_pages.specs.theory.Held.{Holds}
 use Rattle.sled_pages.specs.Slots.{slot_in, given_in}
 use Rattle.sled_pages.specs.Joined.{joined}
@@ -98,17 +99,21 @@ roots_up_to roots least given h e = all_weaker (λ r. nat_le r.1 least) (λ r. g
     le_of a b f = grind (arith, nat_tests)
 
 -- one page more
-pub holds_more : (image : List (ℕ × Node)) (m n : BTreeMap ℕ (Option Slot)) (least last last' next k pid : ℕ) (slot : Slot) (node : Node) → k ≡ pid → slot.version ≡ next → slot.node ≡ node → last ≤ last' → k ≤ last' → last' < 2 ^ 64 → all_named (λ p. nat_le p last') slot.node ≡ true →
+pub holds_more : (image : List (ℕ × Node)) (m n : BTreeMap ℕ (Option Slot)) (least last last' next k pid : ℕ) (slot : Slot) (node : Node) → k ≡ pid → slot.version ≡ next → node_of slot.page ≡ node → slot.page ≡ alone node → last ≤ last' → k ≤ last' → last' < 2 ^ 64 → all_named (λ p. nat_le p last') (node_of slot.page) ≡ true →
     ((q : ℕ) → get nat_cmp n q ≡ cond (is_at (nat_cmp k) q) (Some (Some slot)) (get nat_cmp m q)) → Holds image m least last next → Holds (image ++ (pid, node) ∷ []) n least last' (next + 1)
-holds_more image m n least last last' next k pid slot node same v d a b f names up h = rw (← same, ← d) (
+holds_more image m n least last last' next k pid slot node same v d bare a b f names up h = rw (← same, ← d) (
+    let bare : slot.page ≡ alone (node_of slot.page) = bare ∙ ap alone (sym d) in
     let test : (p : ℕ) → get nat_cmp n p ≡ cond (nat_eq k p) (Some (Some slot)) (get nat_cmp m p) = λ p. up p ∙ ap (λ t. cond t (Some (Some slot)) (get nat_cmp m p)) (sym (unsigned_ties k p)) in
-    let more : (p : ℕ) → node_in (image ++ (k, slot.node) ∷ []) p ≡ cond (nat_eq k p) (Some slot.node) (node_in image p) = λ p. last_more (λ q. nat_eq q p) image k slot.node in
+    let more : (p : ℕ) → node_in (image ++ (k, node_of slot.page) ∷ []) p ≡ cond (nat_eq k p) (Some (node_of slot.page)) (node_in image p) = λ p. last_more (λ q. nat_eq q p) image k (node_of slot.page) in
     record {
-      nodes = λ p. ap (λ o. option_map (λ (x : Slot). x.node) (joined o)) (test p)
-          ∙ (elim (nat_eq k p) as (λ t. option_map (λ (x : Slot). x.node) (joined (cond t (Some (Some slot)) (get nat_cmp m p))) ≡ cond t (Some slot.node) (node_in image p)) [ true ↦ refl | false ↦ h.nodes p ]
+      nodes = λ p. ap (λ o. option_map (λ (x : Slot). node_of x.page) (joined o)) (test p)
+          ∙ (elim (nat_eq k p) as (λ t. option_map (λ (x : Slot). node_of x.page) (joined (cond t (Some (Some slot)) (get nat_cmp m p))) ≡ cond t (Some (node_of slot.page)) (node_in image p)) [ true ↦ refl | false ↦ h.nodes p ]
           ∙ sym (more p));
-      numbers = numbers_more image last last' k slot.node a b names h.numbers;
-      bounded = λ p l. more p ∙ (ap (λ t. cond t (Some slot.node) (node_in image p)) (apart k p (omega arith)) ∙ h.bounded p (omega arith));
+      parts = λ p. ap (λ o. option_map (λ (x : Slot). x.page) (joined o)) (test p)
+          ∙ (elim (nat_eq k p) as (λ t. option_map (λ (x : Slot). x.page) (joined (cond t (Some (Some slot)) (get nat_cmp m p))) ≡ option_map alone (cond t (Some (node_of slot.page)) (node_in image p))) [ true ↦ ap (λ y. Some y) bare | false ↦ h.parts p ]
+          ∙ ap (option_map alone) (sym (more p)));
+      numbers = numbers_more image last last' k (node_of slot.page) a b names h.numbers;
+      bounded = λ p l. more p ∙ (ap (λ t. cond t (Some (node_of slot.page)) (node_in image p)) (apart k p (omega arith)) ∙ h.bounded p (omega arith));
       below = λ p. ap (λ o. slot_given (next + 1) (joined o)) (test p)
           ∙ elim (nat_eq k p) as (λ t. slot_given (next + 1) (joined (cond t (Some (Some slot)) (get nat_cmp m p))) ≡ true) [ true ↦ at_next next slot.version v | false ↦ slot_later next (joined (get nat_cmp m p)) (h.below p) ];
       fits = f;
@@ -120,11 +125,18 @@ not_above : (last p : ℕ) → nat_le p last ≡ false → last < p
 not_above last p e = grind (arith, nat_tests)
 
 -- all of it
-pub laid : (image : List (ℕ × Node)) (foreign : BTreeMap ℕ (Option Slot)) (own : ℕ → Option Slot) (least last next p : ℕ) → own ≡ (λ _. None) → Holds image foreign least last next → option_map (λ (x : Slot). x.node) (slot_in last foreign own p) ≡ node_in image p
+pub laid : (image : List (ℕ × Node)) (foreign : BTreeMap ℕ (Option Slot)) (own : ℕ → Option Slot) (least last next p : ℕ) → own ≡ (λ _. None) → Holds image foreign least last next → option_map (λ (x : Slot). node_of x.page) (slot_in last foreign own p) ≡ node_in image p
 laid image foreign own least last next p o h = rw o (
-    elim (nat_le p last) as (λ b. nat_le p last ≡ b → option_map (λ (x : Slot). x.node) (cond b (joined (get nat_cmp foreign p)) None) ≡ node_in image p) [
+    elim (nat_le p last) as (λ b. nat_le p last ≡ b → option_map (λ (x : Slot). node_of x.page) (cond b (joined (get nat_cmp foreign p)) None) ≡ node_in image p) [
       | true ↦ λ e. h.nodes p
       | false ↦ λ e. sym (h.bounded p (not_above last p e))
+    ] refl)
+
+pub laid_parts : (image : List (ℕ × Node)) (foreign : BTreeMap ℕ (Option Slot)) (own : ℕ → Option Slot) (least last next p : ℕ) → own ≡ (λ _. None) → Holds image foreign least last next → option_map (λ (x : Slot). x.page) (slot_in last foreign own p) ≡ option_map alone (node_in image p)
+laid_parts image foreign own least last next p o h = rw o (
+    elim (nat_le p last) as (λ b. nat_le p last ≡ b → option_map (λ (x : Slot). x.page) (cond b (joined (get nat_cmp foreign p)) None) ≡ option_map alone (node_in image p)) [
+      | true ↦ λ e. h.parts p
+      | false ↦ λ e. ap (option_map alone) (sym (h.bounded p (not_above last p e)))
     ] refl)
 
 pub laid_below : (image : List (ℕ × Node)) (foreign : BTreeMap ℕ (Option Slot)) (own : ℕ → Option Slot) (least last next p : ℕ) → own ≡ (λ _. None) → Holds image foreign least last next → slot_given next (slot_in last foreign own p) ≡ true
@@ -135,12 +147,12 @@ laid_below image foreign own least last next p o h = rw o (
     ])
 
 -- the store over it
-nodes_same : (o : Option Slot) → option_map (λ (g : Page). g.node) (option_map page_of o) ≡ option_map (λ (x : Slot). x.node) o
+nodes_same : (o : Option Slot) → option_map (λ (g : Page). g.node) (option_map page_of o) ≡ option_map (λ (x : Slot). node_of x.page) o
 nodes_same None = refl
 nodes_same (Some x) = refl
 
 pub image_is : (image : List (ℕ × Node)) (listed roots : List (Key × ℕ)) (slots : ℕ → Option Slot) (log : List Undo) (unreadable : List ℕ) (mark next : ℕ) (given : ℕ → Bool) → log ≡ [] → unreadable ≡ [] →
-    ((p : ℕ) → option_map (λ (x : Slot). x.node) (slots p) ≡ node_in image p) → ((name : Key) → roots_of roots name ≡ root_in listed name) → all_numbers given image ≡ true → list_all (λ r. given r.1) listed ≡ true →
+    ((p : ℕ) → option_map (λ (x : Slot). node_of x.page) (slots p) ≡ node_in image p) → ((name : Key) → roots_of roots name ≡ root_in listed name) → all_numbers given image ≡ true → list_all (λ r. given r.1) listed ≡ true →
     IsImage image listed mark (meaning (table slots (roots_of roots) false) log 0 0 unreadable mark true given next)
 image_is image listed roots slots log unreadable mark next given l u nodes rooted g r = rw (l, u) (record {
   pages = λ p. nodes_same (slots p) ∙ nodes p;

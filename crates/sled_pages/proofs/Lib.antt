@@ -3,5 +3,7 @@ pub mod Rows
 pub mod Kept
 pub mod Answered
 pub mod Linked
+pub mod Joining
+pub mod Parted
 pub mod Back
 pub mod Laying

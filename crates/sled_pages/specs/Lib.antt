@@ -1,9 +1,11 @@
 pub mod Rows
 pub mod Blocks
 pub mod Slots
-pub mod Returning
+pub mod Parts
 pub mod Table
 pub mod Memory
 pub mod Image
 pub mod Joined
 pub mod theory
+pub use Rattle.sled_nodes.specs as sled_nodes
+pub use Rattle.sled_store.specs as sled_store

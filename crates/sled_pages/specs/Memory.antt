@@ -1,9 +1,11 @@
 -- What a store in memory means.
-use Rattle.std.specs.Prelude.{ℕ, Bool, List, None, true, false, not, [], length, nat_eq, nat_lt}
+use Rattle.std.specs.Prelude.{ℕ, Option, option_map, Bool, List, None, true, false, not, [], length, nat_eq, nat_lt}
 use Rattle.std.specs.List.{list_any}
 use mathlib.Core.List.{reverse}
 use Rattle.sled_pages.specs.declared.memory.MemPages.{MemPages}
 use Rattle.sled_pages.specs.declared.memory.undo.Undo.{Undo}
+use Rattle.sled_pages.specs.declared.memory.slots.Slot.{Slot}
+use Rattle.sled_pages.specs.Parts.{Parts}
 use Rattle.sled_store.specs.Store.{Store}
 use Rattle.sled_pages.specs.Slots.{slots_of, given_of}
 use Rattle.sled_store.specs.Roots.{roots_of}
@@ -28,6 +30,10 @@ meaning t log actions faults unreadable mark recovered given next_version = reco
 
 abbrev pub store_of : MemPages → Store
 store_of m = meaning (table_of m) m.log.items m.actions m.faults m.unreadable.items m.mark m.recovered (given_of m.slots) m.next_version
+
+-- the base and the links of each page
+abbrev pub parts_of : MemPages → ℕ → Option Parts
+parts_of m pid = option_map (λ (s : Slot). s.page) (slots_of m.slots pid)
 
 -- a flush answers how many actions it makes durable
 abbrev pub flush_number_of : MemPages → ℕ

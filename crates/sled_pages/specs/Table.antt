@@ -7,13 +7,18 @@ use Rattle.sled_store.specs.Update.{put_at, put_name}
 use Rattle.sled_store.specs.declared.page.Page.{Page}
 use Rattle.sled_pages.specs.declared.memory.slots.Slot.{Slot}
 use Rattle.sled_pages.specs.declared.memory.undo.Undo.{Undo}
-use Rattle.sled_pages.specs.declared.memory.undo.Undo.TheVariants.{UndoSlot, UndoLink, UndoRoot, UndoGroup}
-use Rattle.sled_pages.specs.Returning.{slot_back}
+use Rattle.sled_pages.specs.declared.memory.undo.Undo.TheVariants.{UndoSlot, UndoLink, UndoFold, UndoRoot, UndoGroup}
+use Rattle.sled_pages.specs.Parts.{node_of, unlinked}
 use Rattle.sled_store.specs.State.{State, Action, PageBecomes, RootBecomes, GroupBegins, GroupEnds}
 
 -- the page that a slot stands for
 abbrev pub page_of : Slot → Page
-page_of s = record { version = s.version; node = s.node }
+page_of s = record { version = s.version; node = node_of s.page }
+
+-- the slot without its last link, at this version
+abbrev pub slot_unlinked : ℕ → Option Slot → Option Slot
+slot_unlinked version None = None
+slot_unlinked version (Some s) = Some (record { version = version; page = unlinked s.page })
 
 -- the slots by number, the roots by name, and whether a group is open
 pub record Table : Type 0 where
@@ -31,14 +36,16 @@ state_of t = record { pages = pages_of t.slots; roots = t.roots; in_group = t.in
 -- the table without the last action
 abbrev pub undone : Undo → Table → Table
 undone (UndoSlot pid slot) t = record t { slots = put_at t.slots pid slot }
-undone (UndoLink pid version back) t = record t { slots = put_at t.slots pid (slot_back version back (t.slots pid)) }
+undone (UndoLink pid version) t = record t { slots = put_at t.slots pid (slot_unlinked version (t.slots pid)) }
+undone (UndoFold pid version page) t = record t { slots = put_at t.slots pid (Some (record { version = version; page = page })) }
 undone (UndoRoot name root) t = record t { roots = put_name t.roots name root }
 undone (UndoGroup was_open) t = record t { in_group = was_open }
 
 -- the last action, by what it left
 abbrev pub undoes : Undo → Table → Action
 undoes (UndoSlot pid slot) t = PageBecomes pid (pages_of t.slots pid)
-undoes (UndoLink pid version back) t = PageBecomes pid (pages_of t.slots pid)
+undoes (UndoLink pid version) t = PageBecomes pid (pages_of t.slots pid)
+undoes (UndoFold pid version page) t = PageBecomes pid (pages_of t.slots pid)
 undoes (UndoRoot name root) t = RootBecomes name (t.roots name)
 undoes (UndoGroup was_open) t = if t.in_group then GroupBegins else GroupEnds
 
@@ -55,7 +62,8 @@ recent_of (u ∷ log) t = recent_of log (undone u t) ++ undoes u t ∷ []
 -- a slot that is put back has a place
 abbrev pub has_place : (ℕ → Bool) → Undo → Bool
 has_place places (UndoSlot pid slot) = places pid
-has_place places (UndoLink pid version back) = places pid
+has_place places (UndoLink pid version) = places pid
+has_place places (UndoFold pid version page) = places pid
 has_place places (UndoRoot name root) = true
 has_place places (UndoGroup was_open) = true
 
@@ -71,7 +79,8 @@ slot_given next (Some s) = nat_lt s.version next
 
 abbrev pub undo_given : ℕ → Undo → Bool
 undo_given next (UndoSlot pid slot) = slot_given next slot
-undo_given next (UndoLink pid version back) = nat_lt version next
+undo_given next (UndoLink pid version) = nat_lt version next
+undo_given next (UndoFold pid version page) = nat_lt version next
 undo_given next (UndoRoot name root) = true
 undo_given next (UndoGroup was_open) = true
 

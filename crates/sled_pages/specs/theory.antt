@@ -1,5 +1,6 @@
 pub mod Slots
-pub mod Returning
+pub mod Linking
+pub mod Parts
 pub mod Table
 pub mod Replay
 pub mod Memory

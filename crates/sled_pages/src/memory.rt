@@ -1,5 +1,5 @@
 //! A store in memory. It keeps the pages as they are now, and how to take each action since the last flush back.
-ghost use Rattle.std.specs.Prelude.{◌≡◌, ◌+◌, ◌^◌, ◌<◌, Some, None, true, false, if◌then◌else◌, IfOk, IfErr, OnOk, OnErr, length, [], is_some};
+ghost use Rattle.std.specs.Prelude.{◌≡◌, ℕ, ◌+◌, ◌^◌, ◌<◌, Some, None, true, false, if◌then◌else◌, IfOk, IfErr, OnOk, OnErr, length, [], is_some};
 ghost use Rattle.std.specs.FinMap.{is_sorted};
 ghost use Rattle.sled_nodes.specs.declared.error.Error.TheVariants.{NoMemory, Io};
 ghost use Rattle.sled_nodes.specs.Order.{key_cmp};
@@ -15,13 +15,22 @@ ghost use Rattle.sled_store.specs.State.{PageBecomes, RootBecomes, GroupBegins, 
 ghost use Rattle.sled_store.specs.Store.{IsRefused, ActsAt, after_action, after_flush, now, version_now};
 ghost use Rattle.sled_store.specs.Crash.{Crashes, IsCrashState};
 ghost use Rattle.sled_pages.specs.Image.{IsImage};
+ghost use Rattle.sled_nodes.specs.Image.{node_in};
+ghost use Rattle.sled_pages.specs.Parts.{node_of, alone, linked, ChangesParts};
+ghost use Rattle.sled_nodes.specs.Node.{after_link};
+ghost use Rattle.sled_store.specs.State.{nodes_of};
+ghost use Rattle.sled_store.specs.Store.{Allocates, Changes, Frees, SwapsRoot};
+ghost use Rattle.sled_pages.specs.declared.memory.slots.Slot.{Slot};
+ghost use Rattle.std.specs.Prelude.{◌≤◌, IfSome};
 
 mod back;
 mod blocks;
+mod linked;
 mod slots;
 mod undo;
 
-use back::{greatest_root, set_root, settle, sorted_roots, take_all_back};
+use back::{greatest_root, join_all, linked_pages, set_root, settle, sorted_roots, take_all_back};
+use linked::Linked;
 use sled_nodes::{
     Error, Fault, IVec, Link, Node, Pid, Result, Shared, Version, copy_pointers, value_at,
 };
@@ -112,7 +121,8 @@ fn count_call(calls: &mut u64, faults: &mut u64, refused: &[u64]) -> Result<()>
 }
 
 impl MemPages {
-    ghost use Rattle.sled_pages.specs.Memory.{store_of, calls_refused, empty_store};
+    ghost use Rattle.sled_pages.specs.Memory.{store_of, calls_refused, empty_store, parts_of};
+    ghost use Rattle.sled_pages.specs.Parts.{parts_lent};
     ghost use Rattle.sled_pages.specs.theory.Memory.{HasRoom, IsOther};
 
     /// An empty store. It takes no memory.
@@ -157,6 +167,7 @@ impl MemPages {
         mark: u64,
     ) -> Result<MemPages>
         ensures ok { IfOk result (λ made. IsImage pages.items roots.items mark (store_of made)) }
+        ensures parts { IfOk result (λ made. (p : ℕ) → parts_of made p ≡ option_map alone (node_in pages.items p)) }
         ensures named { IfOk result (λ made. calls_refused made ≡ []) }
         ensures err { IfErr result (λ e. e ≡ NoMemory) }
     {
@@ -210,7 +221,9 @@ impl MemPages {
         } = self;
         drop(refused);
         drop(unreadable);
-        take_all_back(alloc, &mut slots, &mut roots, &mut in_group, &mut log, keep)?;
+        let pages = linked_pages(alloc, log.as_slice())?;
+        take_all_back(&mut slots, &mut roots, &mut in_group, &mut log, keep)?;
+        join_all(alloc, &mut slots, pages.as_slice())?;
         settle(alloc, &mut slots, &mut log);
         Ok(MemPages {
             alloc,
@@ -240,9 +253,29 @@ impl MemPages {
         ensures named { OnOk result (calls_refused self.new ≡ calls.now) }
         ensures kept { OnErr result (calls_refused self.new ≡ calls_refused self.old) }
         ensures err { IfErr result (λ e. e ≡ NoMemory) }
+        ensures parts { parts_of self.new ≡ parts_of self.old }
     {
         self.refused = Vec::from_slice(self.alloc, calls)?;
         Ok(())
+    }
+
+    /// The base node of a page and the links since, the first of them first, at most 8. `None` where there is no page. It takes no
+    /// memory.
+    ///
+    /// ```
+    /// if let Some((base, links)) = pages.parts(pid) {
+    ///     let count = links.len(); // So many links since the base.
+    /// }
+    /// ```
+    pub fn parts(&self, pid: Pid) -> Option<(&Node, &[Link])>
+        ensures is { parts_lent result ≡ parts_of self.now pid }
+        ensures few { IfSome result (λ lent. length lent.1.now ≤ 8) }
+        ensures joins { option_map node_of (parts_lent result) ≡ nodes_of (now (store_of self.now)) pid }
+    {
+        match self.slots.get(pid) {
+            Some(slot) => Some((slot.page.base(), slot.page.links())),
+            None => None,
+        }
     }
 
     /// The page of this number cannot be read any more, until a crash. Refused with `NoMemory` alone, and then unchanged.
@@ -255,6 +288,7 @@ impl MemPages {
         ensures ok { OnOk result (store_of self.new ≡ record (store_of self.old) { is_readable = put_at (store_of self.old).is_readable pid false }) }
         ensures err { OnErr result (store_of self.new ≡ store_of self.old) }
         ensures cause { IfErr result (λ e. e ≡ NoMemory) }
+        ensures parts { parts_of self.new ≡ parts_of self.old }
     {
         self.unreadable.push(pid.0)?;
         Ok(())
@@ -265,6 +299,7 @@ impl MemPages {
         ensures same { OnOk result (store_of self.new ≡ store_of self.old) }
         ensures named { OnOk result (is_named (self.old.calls + 1) (calls_refused self.old) ≡ false) }
         ensures err { IfErr result (λ e. IsRefused e (store_of self.old) (store_of self.new)) }
+        ensures parts { parts_of self.new ≡ parts_of self.old }
     {
         count_call(&mut self.calls, &mut self.faults, self.refused.as_slice())
     }
@@ -275,6 +310,7 @@ impl MemPages {
         ensures named { OnOk result (is_named (self.old.calls + 1) (calls_refused self.old) ≡ false) }
         ensures room { OnOk result (HasRoom self.new) }
         ensures err { IfErr result (λ e. IsRefused e (store_of self.old) (store_of self.new)) }
+        ensures parts { parts_of self.new ≡ parts_of self.old }
     {
         if let Err(e) = count_call(&mut self.calls, &mut self.faults, self.refused.as_slice()) {
             return Err(e);
@@ -294,6 +330,7 @@ impl MemPages {
         ensures room { OnOk result (HasRoom self.new) }
         ensures versions { OnOk result (self.new.next_version + 1 < 2 ^ 64) }
         ensures err { IfErr result (λ e. IsRefused e (store_of self.old) (store_of self.new)) }
+        ensures parts { parts_of self.new ≡ parts_of self.old }
     {
         if let Err(e) = self.start() {
             return Err(e);
@@ -325,14 +362,14 @@ impl MemPages {
 
     // The page of a number, whose node is shared.
     #[inline(always)]
-    fn shared_page(&self, pid: Pid) -> Result<Option<Page>>
+    fn shared_page(&self, alloc: Global, pid: Pid) -> Result<Option<Page>>
         ensures ok { IfOk result (λ page. page ≡ (now (store_of self.now)).pages pid) }
         ensures err { IfErr result (λ e. e ≡ NoMemory) }
     {
         match self.slots.get(pid) {
             Some(slot) => Ok(Some(Page {
                 version: slot.version,
-                node: slot.node.share()?,
+                node: slot.page.node(alloc)?,
             })),
             None => Ok(None),
         }
@@ -343,7 +380,8 @@ impl MemPages {
         requires room { HasRoom self.old }
         requires placed { places_of self.old.slots pid ≡ true }
         requires below { slot_given self.old.next_version slot ≡ true }
-        ensures { store_of self.new ≡ after_action (PageBecomes pid (option_map page_of slot)) (store_of self.old) }
+        ensures is { store_of self.new ≡ after_action (PageBecomes pid (option_map page_of slot)) (store_of self.old) }
+        ensures parts { parts_of self.new ≡ put_at (parts_of self.old) pid (option_map (λ (s : Slot). s.page) slot) }
     {
         let old = self.slots.put(pid, slot);
         self.log.push_reserved(Undo::UndoSlot(pid, old));
@@ -355,18 +393,21 @@ impl MemPages {
         requires room { HasRoom self.old }
         requires versions { self.old.next_version + 1 < 2 ^ 64 }
         requires placed { places_of self.old.slots pid ≡ true }
-        ensures { ActsAt (PageBecomes pid (Some (record { version = result; node = node }))) result (store_of self.old) (store_of self.new) }
+        ensures is { ActsAt (PageBecomes pid (Some (record { version = result; node = node }))) result (store_of self.old) (store_of self.new) }
+        ensures parts { parts_of self.new ≡ put_at (parts_of self.old) pid (Some (alone node)) }
     {
         let version = Version(self.next_version);
         self.next_version += 1;
-        self.commit(pid, Some(Slot { version, node }));
+        let page = Linked::new(node);
+        self.commit(pid, Some(Slot { version, page }));
         version
     }
 
     // Begins or ends a group.
     fn commit_group(&mut self, begins: bool)
         requires room { HasRoom self.old }
-        ensures { store_of self.new ≡ after_action (if begins then GroupBegins else GroupEnds) (store_of self.old) }
+        ensures is { store_of self.new ≡ after_action (if begins then GroupBegins else GroupEnds) (store_of self.old) }
+        ensures parts { parts_of self.new ≡ parts_of self.old }
     {
         self.log.push_reserved(Undo::UndoGroup(self.in_group));
         self.in_group = begins;
@@ -380,6 +421,7 @@ impl MemPages {
         ensures ok { OnOk result (store_of self.new ≡ after_action (RootBecomes name.now new) (store_of self.old)) }
         ensures err { OnErr result (store_of self.new ≡ store_of self.old) }
         ensures cause { IfErr result (λ e. e ≡ NoMemory) }
+        ensures parts { parts_of self.new ≡ parts_of self.old }
     {
         let key = IVec::from_slice(self.alloc, name)?;
         let undo = IVec::from_slice(self.alloc, name)?;
@@ -391,18 +433,18 @@ impl MemPages {
 }
 
 impl Pages for MemPages {
-    ghost use Rattle.sled_pages.specs.Memory.{store_of, flush_number_of};
+    ghost use Rattle.sled_pages.specs.Memory.{store_of, flush_number_of, parts_of};
 
     ghost store = { store_of };
 
     ghost flush_number = { flush_number_of };
 
     #[inline(always)]
-    fn read(&self, _alloc: Global, pid: Pid) -> Result<Option<View>> {
+    fn read(&self, alloc: Global, pid: Pid) -> Result<Option<View>> {
         if self.unreadable.contains(&pid.0) {
             return Err(Error::Io(Fault(UNREADABLE)));
         }
-        match self.shared_page(pid)? {
+        match self.shared_page(alloc, pid)? {
             Some(page) => Ok(Some(View {
                 pid,
                 version: page.version,
@@ -412,7 +454,12 @@ impl Pages for MemPages {
         }
     }
 
-    fn allocate(&mut self, node: Node) -> Result<(Pid, Version)> {
+    fn allocate(&mut self, node: Node) -> Result<(Pid, Version)>
+        ensures ok { IfOk result (λ given. Allocates node given.0 given.1 (store_of self.old) (store_of self.new)) }
+        ensures parts { IfOk result (λ given. parts_of self.new ≡ put_at (parts_of self.old) given.0 (Some (alone node))) }
+        ensures err { IfErr result (λ e. IsRefused e (store_of self.old) (store_of self.new)) }
+        ensures kept { OnErr result (parts_of self.new ≡ parts_of self.old) }
+    {
         if let Err(e) = self.start_version() {
             drop(node);
             return Err(e);
@@ -431,7 +478,8 @@ impl Pages for MemPages {
         };
         let version = Version(self.next_version);
         self.next_version += 1;
-        let pid = self.slots.add(Slot { version, node });
+        let page = Linked::new(node);
+        let pid = self.slots.add(Slot { version, page });
         self.log.push_reserved(Undo::UndoSlot(pid, None));
         self.actions += 1;
         Ok((pid, version))
@@ -442,7 +490,12 @@ impl Pages for MemPages {
         pid: Pid,
         version: Version,
         link: Link,
-    ) -> Result<std::result::Result<Version, Option<Version>>> {
+    ) -> Result<std::result::Result<Version, Option<Version>>>
+        ensures ok { IfOk result (Changes (after_link link) pid version (store_of self.old) (store_of self.new)) }
+        ensures parts { IfOk result (ChangesParts (option_map (linked link)) pid (parts_of self.old) (parts_of self.new)) }
+        ensures err { IfErr result (λ e. IsRefused e (store_of self.old) (store_of self.new)) }
+        ensures kept { OnErr result (parts_of self.new ≡ parts_of self.old) }
+    {
         if let Err(e) = self.start_version() {
             drop(link);
             return Err(e);
@@ -452,11 +505,10 @@ impl Pages for MemPages {
             return Ok(Err(present));
         }
         let given = Version(self.next_version);
-        match self.slots.change(self.alloc, pid, given, link) {
-            Ok(told) => {
-                let (before, back) = told;
+        match self.slots.link(self.alloc, pid, given, link) {
+            Ok(undo) => {
                 self.next_version += 1;
-                self.log.push_reserved(Undo::UndoLink(pid, before, back));
+                self.log.push_reserved(undo);
                 self.actions += 1;
                 Ok(Ok(given))
             }
@@ -469,7 +521,12 @@ impl Pages for MemPages {
         pid: Pid,
         version: Version,
         node: Node,
-    ) -> Result<std::result::Result<Version, Option<Version>>> {
+    ) -> Result<std::result::Result<Version, Option<Version>>>
+        ensures ok { IfOk result (Changes (λ _. node) pid version (store_of self.old) (store_of self.new)) }
+        ensures parts { IfOk result (ChangesParts (λ _. Some (alone node)) pid (parts_of self.old) (parts_of self.new)) }
+        ensures err { IfErr result (λ e. IsRefused e (store_of self.old) (store_of self.new)) }
+        ensures kept { OnErr result (parts_of self.new ≡ parts_of self.old) }
+    {
         if let Err(e) = self.start_version() {
             drop(node);
             return Err(e);
@@ -489,7 +546,12 @@ impl Pages for MemPages {
         &mut self,
         pid: Pid,
         version: Version,
-    ) -> Result<std::result::Result<(), Option<Version>>> {
+    ) -> Result<std::result::Result<(), Option<Version>>>
+        ensures ok { IfOk result (Frees pid version (store_of self.old) (store_of self.new)) }
+        ensures parts { IfOk result (ChangesParts (λ _. None) pid (parts_of self.old) (parts_of self.new)) }
+        ensures err { IfErr result (λ e. IsRefused e (store_of self.old) (store_of self.new)) }
+        ensures kept { OnErr result (parts_of self.new ≡ parts_of self.old) }
+    {
         if let Err(e) = self.start() {
             return Err(e);
         }
@@ -514,7 +576,11 @@ impl Pages for MemPages {
         name: &[u8],
         old: Option<Pid>,
         new: Option<Pid>,
-    ) -> Result<std::result::Result<(), Option<Pid>>> {
+    ) -> Result<std::result::Result<(), Option<Pid>>>
+        ensures ok { IfOk result (SwapsRoot name.now old new (store_of self.old) (store_of self.new)) }
+        ensures err { IfErr result (λ e. IsRefused e (store_of self.old) (store_of self.new)) }
+        ensures parts { parts_of self.new ≡ parts_of self.old }
+    {
         if let Err(e) = self.start() {
             return Err(e);
         }
@@ -528,7 +594,12 @@ impl Pages for MemPages {
         Ok(Ok(()))
     }
 
-    fn begin_group(&mut self) -> Result<()> {
+    fn begin_group(&mut self) -> Result<()>
+        requires { (now (store_of self.old)).in_group ≡ false }
+        ensures ok { OnOk result (store_of self.new ≡ after_action GroupBegins (store_of self.old)) }
+        ensures err { IfErr result (λ e. IsRefused e (store_of self.old) (store_of self.new)) }
+        ensures parts { parts_of self.new ≡ parts_of self.old }
+    {
         if let Err(e) = self.start() {
             return Err(e);
         }
@@ -536,7 +607,12 @@ impl Pages for MemPages {
         Ok(())
     }
 
-    fn seal_group(&mut self) -> Result<()> {
+    fn seal_group(&mut self) -> Result<()>
+        requires { (now (store_of self.old)).in_group ≡ true }
+        ensures ok { OnOk result (store_of self.new ≡ after_action GroupEnds (store_of self.old)) }
+        ensures err { IfErr result (λ e. IsRefused e (store_of self.old) (store_of self.new)) }
+        ensures parts { parts_of self.new ≡ parts_of self.old }
+    {
         if let Err(e) = self.start() {
             return Err(e);
         }
@@ -553,6 +629,7 @@ impl Pages for MemPages {
         requires { (now (store_of self.old)).in_group ≡ false }
         ensures ok { OnOk result (store_of self.new ≡ after_flush (store_of self.old)) }
         ensures number { IfOk result (λ n. n ≡ length (store_of self.old).recent) }
+        ensures parts { parts_of self.new ≡ parts_of self.old }
         ensures err { IfErr result (λ e. IsRefused e (store_of self.old) (store_of self.new)) }
     {
         if let Err(e) = self.count() {
@@ -563,7 +640,12 @@ impl Pages for MemPages {
         Ok(count)
     }
 
-    fn set_aside(&mut self, upto: u64) -> Result<()> {
+    fn set_aside(&mut self, upto: u64) -> Result<()>
+        requires { (store_of self.old).mark ≤ upto }
+        ensures ok { OnOk result (store_of self.new ≡ record (store_of self.old) { mark = upto }) }
+        ensures err { IfErr result (λ e. IsRefused e (store_of self.old) (store_of self.new)) }
+        ensures parts { parts_of self.new ≡ parts_of self.old }
+    {
         if let Err(e) = self.count() {
             return Err(e);
         }

@@ -2,3 +2,6 @@ pub mod Client
 pub mod Log
 pub mod LogStore
 pub mod theory
+pub use Rattle.sled_nodes.specs as sled_nodes
+pub use Rattle.sled_store.specs as sled_store
+pub use Rattle.sled_pages.specs as sled_pages

@@ -30,6 +30,7 @@ enum Numbered {
     Unreadable,
     Image,
     Hold,
+    Linked,
 }
 
 // A call on a page at a version.
@@ -57,7 +58,7 @@ enum Call {
     Parts,
 }
 
-const CALLS: [(&str, Call); 46] = [
+const CALLS: [(&str, Call); 47] = [
     ("roots", Call::Alone(Alone::Roots)),
     ("begin", Call::Alone(Alone::Begin)),
     ("seal", Call::Alone(Alone::Seal)),
@@ -72,6 +73,7 @@ const CALLS: [(&str, Call); 46] = [
     ("unreadable", Call::Numbered(Numbered::Unreadable)),
     ("image", Call::Numbered(Numbered::Image)),
     ("hold", Call::Numbered(Numbered::Hold)),
+    ("linked", Call::Numbered(Numbered::Linked)),
     ("link", Call::Versioned(Versioned::Link)),
     ("replace", Call::Versioned(Versioned::Replace)),
     ("free", Call::Versioned(Versioned::Free)),
@@ -226,6 +228,7 @@ impl Store {
             Numbered::Unreadable => return self.pages.unreadable(Pid(number)),
             Numbered::Crash => self.crash(number, out),
             Numbered::Image => self.image(number, out),
+            Numbered::Linked => self.linked(Pid(number), out),
             Numbered::Hold => {
                 if let Some(view) = self.pages.read(self.alloc, Pid(number))? {
                     out.keep(&mut self.held, view);
@@ -344,6 +347,17 @@ impl Store {
             None => line.out.push("none"),
         }
         Ok(())
+    }
+
+    // Adds the base of a page, and how many links there are since.
+    fn linked(&self, pid: Pid, out: &mut Text) {
+        match self.pages.parts(pid) {
+            Some((base, links)) => {
+                push_node(out, base);
+                out.push_numbered(" links", links.len() as u64);
+            }
+            None => out.push("none"),
+        }
     }
 
     // Adds the line of a page, and keeps a copy of its node under the name.

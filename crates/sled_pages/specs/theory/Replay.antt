@@ -14,14 +14,13 @@ use Rattle.sled_store.specs.Update.{put_at, put_name}
 use Rattle.sled_store.specs.declared.page.Page.{Page}
 use Rattle.sled_pages.specs.declared.memory.slots.Slot.{Slot}
 use Rattle.sled_pages.specs.declared.memory.undo.Undo.{Undo}
-use Rattle.sled_pages.specs.declared.memory.undo.Undo.TheVariants.{UndoSlot, UndoLink, UndoRoot, UndoGroup}
+use Rattle.sled_pages.specs.declared.memory.undo.Undo.TheVariants.{UndoSlot, UndoLink, UndoFold, UndoRoot, UndoGroup}
 use Rattle.sled_store.specs.State.{GroupBegins, GroupEnds, after, after_all}
 use Rattle.sled_pages.specs.Joined.{joined}
 use Rattle.sled_pages.specs.Rows.{lies_in, has_in}
 use Rattle.sled_pages.specs.Slots.{slot_in, place_in, own_places, given_in}
 use Rattle.sled_pages.specs.theory.Known.{IsKnown, IsUnused}
-use Rattle.sled_pages.specs.Table.{Table, page_of, pages_of, state_of, undone, undoes, base_of, recent_of, slot_given}
-use Rattle.sled_pages.specs.Returning.{slot_back}
+use Rattle.sled_pages.specs.Table.{Table, page_of, pages_of, state_of, undone, undoes, base_of, recent_of, slot_given, slot_unlinked}
 use Rattle.sled_store.specs.theory.Facts.{after_last, same_name}
 
 -- a value put over, and then the old one put back
@@ -42,7 +41,8 @@ back_name name root roots = fun_ext (λ q.
 -- doing again what was undone
 again : (u : Undo) (t : Table) → after (undoes u t) (state_of (undone u t)) ≡ state_of t
 again (UndoSlot pid slot) t = ap (λ p. record (state_of t) { pages = p }) (back_page pid slot t.slots)
-again (UndoLink pid version back) t = ap (λ p. record (state_of t) { pages = p }) (back_page pid (slot_back version back (t.slots pid)) t.slots)
+again (UndoLink pid version) t = ap (λ p. record (state_of t) { pages = p }) (back_page pid (slot_unlinked version (t.slots pid)) t.slots)
+again (UndoFold pid version page) t = ap (λ p. record (state_of t) { pages = p }) (back_page pid (Some (record { version = version; page = page })) t.slots)
 again (UndoRoot name root) t = ap (λ r. record (state_of t) { roots = r }) (back_name name root t.roots)
 again (UndoGroup was_open) t =
     elim t.in_group as (λ b. after (if b then GroupBegins else GroupEnds) (record (state_of t) { in_group = was_open }) ≡ record (state_of t) { in_group = b }) [ true ↦ refl | false ↦ refl ]

@@ -11,7 +11,8 @@ ghost use Rattle.sled_pages.specs.theory.Table.{TakenBack, table};
 ghost use Rattle.sled_nodes.specs.Image.{root_in};
 ghost use Rattle.std.specs.List.{list_all};
 
-use super::slots::Slots;
+use super::linked::Linked;
+use super::slots::{Slot, Slots};
 use super::undo::Undo;
 use sled_nodes::{IVec, Pid, Result, put_pair, remove_key};
 use std::alloc::Global;
@@ -58,9 +59,8 @@ pub fn greatest_root(roots: &[(IVec, Pid)]) -> u64
     greatest
 }
 
-// Takes one action back.
+// Takes one action back. A page whose links change is not joined yet.
 fn take_back(
-    alloc: Global,
     slots: &mut Slots,
     roots: &mut Vec<(IVec, Pid)>,
     in_group: &mut bool,
@@ -81,7 +81,16 @@ fn take_back(
             drop(now);
             Ok(())
         }
-        Undo::UndoLink(pid, version, back) => slots.change_back(alloc, pid, version, back),
+        Undo::UndoLink(pid, version) => {
+            slots.unlink(pid, version);
+            Ok(())
+        }
+        Undo::UndoFold(pid, version, under) => {
+            let page = Linked::of(under)?;
+            let now = slots.put(pid, Some(Slot { version, page }));
+            drop(now);
+            Ok(())
+        }
         Undo::UndoRoot(name, root) => set_root(roots, name, root),
         Undo::UndoGroup(was_open) => {
             *in_group = was_open;
@@ -92,7 +101,6 @@ fn take_back(
 
 // Takes actions back, down to this number of them, and on to where no group is open.
 pub fn take_all_back(
-    alloc: Global,
     slots: &mut Slots,
     roots: &mut Vec<(IVec, Pid)>,
     in_group: &mut bool,
@@ -110,9 +118,37 @@ pub fn take_all_back(
 {
     while log.len() > keep || *in_group {
         match log.pop() {
-            Some(undo) => take_back(alloc, slots, roots, in_group, undo)?,
+            Some(undo) => take_back(slots, roots, in_group, undo)?,
             None => return Ok(()),
         }
+    }
+    Ok(())
+}
+
+// The pages whose links a log changes.
+pub fn linked_pages(alloc: Global, log: &[Undo]) -> Result<Vec<Pid>>
+    ensures err { IfErr result (λ e. e ≡ NoMemory) }
+{
+    let mut pages = Vec::new(alloc);
+    for undo in log {
+        match undo {
+            Undo::UndoLink(pid, _) => pages.push(*pid)?,
+            Undo::UndoFold(pid, _, _) => pages.push(*pid)?,
+            _ => {}
+        }
+    }
+    Ok(pages)
+}
+
+// Joins those of these pages that are not joined, each of them once. Refused with `NoMemory` alone.
+pub fn join_all(alloc: Global, slots: &mut Slots, pages: &[Pid]) -> Result<()>
+    ensures slots { slots_of slots.new ≡ slots_of slots.old }
+    ensures places { places_of slots.new ≡ places_of slots.old }
+    ensures given { given_of slots.new ≡ given_of slots.old }
+    ensures err { IfErr result (λ e. e ≡ NoMemory) }
+{
+    for pid in pages {
+        slots.join(alloc, *pid)?;
     }
     Ok(())
 }

@@ -6,11 +6,13 @@ ghost use Rattle.sled_nodes.specs.declared.error.Error.TheVariants.{NoMemory};
 ghost use Rattle.sled_store.specs.Update.{put_at};
 ghost use Rattle.sled_pages.specs.Blocks.{lies_of};
 ghost use Rattle.sled_pages.specs.theory.Known.{IsKnown, IsUnused};
-ghost use Rattle.sled_pages.specs.Returning.{slot_back};
-ghost use Rattle.sled_pages.specs.theory.Returning.{Relinked};
+ghost use Rattle.sled_pages.specs.Table.{slot_unlinked};
+ghost use Rattle.sled_pages.specs.theory.Linking.{Relinked};
 
 use super::blocks::Blocks;
-use sled_nodes::{Back, Error, Link, Node, Pid, Result, Shared, Version};
+use super::linked::Linked;
+use super::undo::Undo;
+use sled_nodes::{Error, Link, Node, Pid, Result, Shared, Version};
 use std::alloc::Global;
 use std::collections::BTreeMap;
 
@@ -18,7 +20,7 @@ use std::collections::BTreeMap;
 #[derive(Drop)]
 pub struct Slot {
     pub version: Version,
-    pub node: Shared,
+    pub page: Linked,
 }
 
 /// Slots by number. Those of an image have any numbers up to `last`; those that were added since lie in order behind. Numbers whose
@@ -103,9 +105,11 @@ impl Slots {
         let mut next = 0;
         for (pid, node) in pages {
             last = node.greatest(last.max(pid.0));
+            let base = Shared::new(alloc, node)?;
+            let page = Linked::new(base);
             let slot = Slot {
                 version: Version(next),
-                node: Shared::new(alloc, node)?,
+                page,
             };
             drop(foreign.insert(pid.0, Some(slot))?);
             next += 1;
@@ -150,18 +154,11 @@ impl Slots {
         }
     }
 
-    /// Changes the node of a slot by a link, and gives it a version. Says the version before, and how the change is taken back.
-    /// Refused with `NoMemory` alone, and then unchanged.
-    pub fn change(
-        &mut self,
-        alloc: Global,
-        pid: Pid,
-        version: Version,
-        link: Link,
-    ) -> Result<(Version, Back)>
+    /// Changes a page by a link, and gives it a version. Says how that is taken back. Refused with `NoMemory` alone, and then unchanged.
+    pub fn link(&mut self, alloc: Global, pid: Pid, version: Version, link: Link) -> Result<Undo>
         requires placed { places_of self.old pid ≡ true }
         requires there { is_some (slots_of self.old pid) ≡ true }
-        ensures ok { IfOk result (λ b. Relinked link pid version (slots_of self.old) (slots_of self.new) b.0 b.1) }
+        ensures ok { IfOk result (λ undo. Relinked link pid version (slots_of self.old) (slots_of self.new) undo) }
         ensures err { OnErr result (slots_of self.new ≡ slots_of self.old) }
         ensures places { places_of self.new ≡ places_of self.old }
         ensures given { given_of self.new ≡ given_of self.old }
@@ -171,20 +168,23 @@ impl Slots {
             Some(slot) => {
                 let Slot {
                     version: before,
-                    mut node,
+                    mut page,
                 } = slot;
-                match node.change(alloc, link) {
-                    Ok(back) => {
-                        let none = self.put(pid, Some(Slot { version, node }));
+                match page.link(alloc, link) {
+                    Ok(folded) => {
+                        let none = self.put(pid, Some(Slot { version, page }));
                         drop(none);
-                        Ok((before, back))
+                        match folded {
+                            None => Ok(Undo::UndoLink(pid, before)),
+                            Some(under) => Ok(Undo::UndoFold(pid, before, under)),
+                        }
                     }
                     Err(e) => {
                         let none = self.put(
                             pid,
                             Some(Slot {
                                 version: before,
-                                node,
+                                page,
                             }),
                         );
                         drop(none);
@@ -196,47 +196,53 @@ impl Slots {
         }
     }
 
-    /// Takes a change back. Refused with `NoMemory` alone, and then unchanged.
-    pub fn change_back(
-        &mut self,
-        alloc: Global,
-        pid: Pid,
-        version: Version,
-        back: Back,
-    ) -> Result<()>
+    /// Takes the last link of a page back, which gets this version. It takes no memory.
+    pub fn unlink(&mut self, pid: Pid, version: Version)
         requires placed { places_of self.old pid ≡ true }
-        ensures ok { OnOk result (slots_of self.new ≡ put_at (slots_of self.old) pid (slot_back version back (slots_of self.old pid))) }
-        ensures err { OnErr result (slots_of self.new ≡ slots_of self.old) }
+        ensures slots { slots_of self.new ≡ put_at (slots_of self.old) pid (slot_unlinked version (slots_of self.old pid)) }
         ensures places { places_of self.new ≡ places_of self.old }
         ensures given { given_of self.new ≡ given_of self.old }
-        ensures cause { IfErr result (λ e. e ≡ NoMemory) }
     {
+        if let Some(slot) = self.put(pid, None) {
+            let Slot {
+                version: _,
+                mut page,
+            } = slot;
+            page.unlink();
+            let none = self.put(pid, Some(Slot { version, page }));
+            drop(none);
+        }
+    }
+
+    /// Joins the base and the links of a page, if it is not joined. Refused with `NoMemory` alone.
+    pub fn join(&mut self, alloc: Global, pid: Pid) -> Result<()>
+        ensures slots { slots_of self.new ≡ slots_of self.old }
+        ensures places { places_of self.new ≡ places_of self.old }
+        ensures given { given_of self.new ≡ given_of self.old }
+        ensures err { IfErr result (λ e. e ≡ NoMemory) }
+    {
+        if !self.is_apart(pid) {
+            return Ok(());
+        }
         match self.put(pid, None) {
             Some(slot) => {
-                let Slot {
-                    version: later,
-                    mut node,
-                } = slot;
-                match node.change_back(alloc, back) {
-                    Ok(()) => {
-                        let none = self.put(pid, Some(Slot { version, node }));
-                        drop(none);
-                        Ok(())
-                    }
-                    Err(e) => {
-                        let none = self.put(
-                            pid,
-                            Some(Slot {
-                                version: later,
-                                node,
-                            }),
-                        );
-                        drop(none);
-                        Err(e)
-                    }
-                }
+                let Slot { version, mut page } = slot;
+                let done = page.join(alloc);
+                let none = self.put(pid, Some(Slot { version, page }));
+                drop(none);
+                done
             }
             None => Ok(()),
+        }
+    }
+
+    // Whether there is a page of this number whose base and links are yet to be joined.
+    fn is_apart(&self, pid: Pid) -> bool
+        ensures { IsTrue result → is_some (slots_of self.now pid) ≡ true }
+    {
+        match self.get(pid) {
+            Some(slot) => slot.page.is_apart(),
+            None => false,
         }
     }
 

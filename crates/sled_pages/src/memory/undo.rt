@@ -1,14 +1,17 @@
 //! How an action is taken back.
+use super::linked::Under;
 use super::slots::Slot;
-use sled_nodes::{Back, IVec, Pid, Version};
+use sled_nodes::{IVec, Pid, Version};
 
 /// What stood there before an action.
 #[derive(Drop)]
 pub enum Undo {
     /// The slot of a page.
     UndoSlot(Pid, Option<Slot>),
-    /// What a link changed in a page of this version.
-    UndoLink(Pid, Version, Back),
+    /// The last link of a page, which had this version before.
+    UndoLink(Pid, Version),
+    /// The base and the links of a page that folded, which had this version before.
+    UndoFold(Pid, Version, Under),
     /// The root of a name.
     UndoRoot(IVec, Option<Pid>),
     /// Whether a group was open.

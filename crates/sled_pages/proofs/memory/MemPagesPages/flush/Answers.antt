@@ -5,6 +5,7 @@ use Rattle.sled_store.specs.Store.{Store, after_flush, now}
 use Rattle.sled_pages.specs.Memory.{table_of}
 use Rattle.sled_pages.proofs.Kept.{settles, flush_keeps, settled_below, group_here}
 use Rattle.sled_pages.proofs.Back.{length_recent_log}
+use Rattle.sled_pages.proofs.Parted.{parts_in}
 use Rattle.sled_pages.proofs.memory.MemPagesPages.flush.Goals as goal
 
 pub returns-clause-ok : goal.returns-clause-ok
@@ -23,3 +24,6 @@ invariant_of-self-clause-kept c = let m = c.count.new.self in
 
 pub invariant_of-self-clause-below : goal.invariant_of-self-clause-below
 invariant_of-self-clause-below c = let m = c.count.new.self in settled_below m.next_version (slots_of m.slots) _ _ c.settle.ensures.slots c.settle.ensures.log m.below.here
+
+pub returns-clause-parts : goal.returns-clause-parts
+returns-clause-parts c = ap parts_in c.settle.ensures.slots ∙ c.count.ensures.parts

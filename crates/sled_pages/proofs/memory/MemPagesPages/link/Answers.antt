@@ -3,29 +3,38 @@ use Rattle.sled_pages.proofs.Kept.{kept_wider, slots_below, short}
 use Rattle.sled_pages.specs.Slots.{slots_of, places_of, given_of}
 use Rattle.sled_store.specs.Roots.{roots_of}
 use Rattle.sled_pages.proofs.Linked.{links, link_keeps, link_below}
+use Rattle.sled_pages.specs.Memory.{parts_of}
+use Rattle.sled_pages.proofs.Parted.{link_parts, parts_in}
 use Rattle.sled_pages.proofs.memory.MemPagesPages.link.Goals as goal
 
 pub returns-in-Ok-clause-ok : goal.returns-in-Ok-clause-ok
 returns-in-Ok-clause-ok c = let m = c.start_version.new.self in
-    links m _ _ c.args.link c.args.pid c.args.version _ _ (given_of m.slots) _ _ (roots_of m.roots.items) m.actions m.faults m.unreadable.items m.mark m.recovered m.next_version
-    refl c.in_default.ensures.same c.in_default-tested.ensures.ok c.in-Ok.ensures.ok c.push_reserved.ensures.items c.change.ensures.given
+    links m _ _ c.args.link c.args.pid c.args.version _ (given_of m.slots) _ _ (roots_of m.roots.items) m.actions m.faults m.unreadable.items m.mark m.recovered m.next_version
+    refl c.in_default.ensures.same c.in_default-tested.ensures.ok c.in-Ok.ensures.ok c.push_reserved.ensures.items c.link.ensures.given
 
 pub invariant_of-self-clause-kept : goal.invariant_of-self-clause-kept
 invariant_of-self-clause-kept c = let m = c.start_version.new.self in
-    link_keeps (slots_of m.slots) _ (roots_of m.roots.items) m.in_group m.log.items _ c.args.link c.args.pid _ _ _ (places_of m.slots) _
-    c.in-Ok.ensures.ok c.push_reserved.ensures.items c.change.ensures.places c.in_default-tested.ensures.placed m.kept
+    link_keeps (slots_of m.slots) _ (roots_of m.roots.items) m.in_group m.log.items _ c.args.link c.args.pid _ _ (places_of m.slots) _
+    c.in-Ok.ensures.ok c.push_reserved.ensures.items c.link.ensures.places c.in_default-tested.ensures.placed m.kept
 
 pub invariant_of-self-clause-below : goal.invariant_of-self-clause-below
 invariant_of-self-clause-below c = let m = c.start_version.new.self in
-    link_below m.next_version (slots_of m.slots) _ m.log.items _ c.args.link c.args.pid _ _ c.in-Ok.ensures.ok c.push_reserved.ensures.items m.below
+    link_below m.next_version (slots_of m.slots) _ m.log.items _ c.args.link c.args.pid _ c.in-Ok.ensures.ok c.push_reserved.ensures.items m.below
 
-pub invariant_of-self-in-Err-change : goal.invariant_of-self-in-Err-change
-invariant_of-self-in-Err-change c = let m = c.start_version.new.self in record {
-  kept = kept_wider (slots_of m.slots) _ (roots_of m.roots.items) m.in_group m.log.items (places_of m.slots) _ c.in-Err-change.ensures.err (λ p e. ap (λ f. f p) c.change.ensures.places ∙ e) m.kept;
+pub invariant_of-self-in-Err-link : goal.invariant_of-self-in-Err-link
+invariant_of-self-in-Err-link c = let m = c.start_version.new.self in record {
+  kept = kept_wider (slots_of m.slots) _ (roots_of m.roots.items) m.in_group m.log.items (places_of m.slots) _ c.in-Err-link.ensures.err (λ p e. ap (λ f. f p) c.link.ensures.places ∙ e) m.kept;
   ascends = m.ascends;
-  below = slots_below m.next_version (slots_of m.slots) _ m.log.items c.in-Err-change.ensures.err m.below;
+  below = slots_below m.next_version (slots_of m.slots) _ m.log.items c.in-Err-link.ensures.err m.below;
 }
 
-pub returns-in-Err-change-clause-err : goal.returns-in-Err-change-clause-err
-returns-in-Err-change-clause-err c = let m = c.start_version.new.self in
-    short (slots_of m.slots) _ (roots_of m.roots.items) m.in_group m.log.items m.actions m.faults m.unreadable.items m.mark m.recovered (given_of m.slots) _ m.next_version _ _ c.in-Err-change.ensures.cause c.in_default.ensures.same c.in-Err-change.ensures.err c.change.ensures.given
+pub returns-in-Err-link-clause-err : goal.returns-in-Err-link-clause-err
+returns-in-Err-link-clause-err c = let m = c.start_version.new.self in
+    short (slots_of m.slots) _ (roots_of m.roots.items) m.in_group m.log.items m.actions m.faults m.unreadable.items m.mark m.recovered (given_of m.slots) _ m.next_version _ _ c.in-Err-link.ensures.cause c.in_default.ensures.same c.in-Err-link.ensures.err c.link.ensures.given
+
+pub returns-in-Ok-clause-parts : goal.returns-in-Ok-clause-parts
+returns-in-Ok-clause-parts c = let m = c.start_version.new.self in
+    record { is = link_parts c.args.link c.args.pid m.next_version (slots_of m.slots) _ _ (parts_of c.args.self.now) c.start_version.ensures.parts c.in-Ok.ensures.ok }
+
+pub returns-in-Err-link-clause-kept : goal.returns-in-Err-link-clause-kept
+returns-in-Err-link-clause-kept c = ap parts_in c.in-Err-link.ensures.err ∙ c.start_version.ensures.parts

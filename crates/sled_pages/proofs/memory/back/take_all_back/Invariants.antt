@@ -7,8 +7,8 @@ use Rattle.sled_pages.specs.Table.{IsKept, AreBelow}
 use Rattle.sled_pages.specs.theory.Table.{table, TakesBack}
 use Rattle.sled_pages.proofs.memory.back.take_all_back.Given as goal
 
-abbrev pub invariant-loop-alloc : goal.invariant-loop-alloc
-invariant-loop-alloc l = record {
+abbrev pub invariant-loop-log : goal.invariant-loop-log
+invariant-loop-log l = record {
   kept : IsKept (places_of l.slots) (table (slots_of l.slots) (roots_of l.roots.items) l.in_group) l.log.items;
   places : places_of l.slots ≡ places_of l.fn.slots;
   given : given_of l.slots ≡ given_of l.fn.slots;
@@ -17,5 +17,5 @@ invariant-loop-alloc l = record {
   so_far : TakesBack l.keep (table (slots_of l.fn.slots) (roots_of l.fn.roots.items) l.fn.in_group) l.fn.log.items (table (slots_of l.slots) (roots_of l.roots.items) l.in_group) l.log.items;
 }
 
-abbrev pub decreases-loop-alloc : goal.decreases-loop-alloc
-decreases-loop-alloc l = vec_len l.log
+abbrev pub decreases-loop-log : goal.decreases-loop-log
+decreases-loop-log l = vec_len l.log
