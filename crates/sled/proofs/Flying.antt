@@ -39,7 +39,7 @@ use Rattle.sled_tree.specs.Course.{Course, course, course_of, IsAimed}
 use Rattle.sled_tree.specs.declared.flight.Aim.{Aim}
 use Rattle.sled_tree.specs.declared.flight.Job.{Job}
 use Rattle.sled_tree.specs.declared.flight.InFlight.{InFlight}
-use Rattle.sled_tree.specs.declared.flight.Next.TheVariants as next
+use Rattle.sled_tree.specs.declared.flight.Sequel.TheVariants as sequel
 use Rattle.sled_tree.specs.declared.flight.Went.{Went}
 use Rattle.sled_tree.specs.declared.flight.Went.TheVariants.{Moved, Yielded, Decided, Refused}
 use Rattle.tree_laws.specs.Stages.{owned}
@@ -144,19 +144,19 @@ cause_is s f (error.Io fault) a b (inr (t, p)) = inr p
 cause_is s f other a b t = absurd t
 
 -- a page that a change was linked to stood at the version that was read
-linked_page : (j : Course) (a b : Store) (view : View) (reply : Reply) → Follows j a (stage.Act view) (next.Decided reply) b → (node : Node) × ((now a).pages view.pid ≡ Some (record { version = view.version; node = node }))
+linked_page : (j : Course) (a b : Store) (view : View) (reply : Reply) → Follows j a (stage.Act view) (sequel.Decided reply) b → (node : Node) × ((now a).pages view.pid ≡ Some (record { version = view.version; node = node }))
 linked_page j a b view reply f = elim f.is [
   | inl l ↦ go (decision_at l.operator j.call view.node.content).reply (link_of (decision_at l.operator j.call view.node.content).effect (key_of j.call)) l.is
   | inr r ↦ unlike r.1
 ]
   where
-    unlike : {X : Type 0} {e : Error} → next.Decided reply ≡ next.Refused e → X
+    unlike : {X : Type 0} {e : Error} → sequel.Decided reply ≡ sequel.Refused e → X
     unlike e = cc
 
-    off : {X : Type 0} → next.Decided reply ≡ next.Go stage.Root → X
+    off : {X : Type 0} → sequel.Decided reply ≡ sequel.Go stage.Root → X
     off e = cc
 
-    go : (d : Reply) (l : Option Link) → MatchOption l ((b ≡ a) × (next.Decided reply ≡ next.Go stage.Root)) (λ link. TakesWay (after_link link) view.pid view.version a b (next.Decided reply) (λ _. next.Decided d) (λ _. next.Go stage.Root)) → (node : Node) × ((now a).pages view.pid ≡ Some (record { version = view.version; node = node }))
+    go : (d : Reply) (l : Option Link) → MatchOption l ((b ≡ a) × (sequel.Decided reply ≡ sequel.Go stage.Root)) (λ link. TakesWay (after_link link) view.pid view.version a b (sequel.Decided reply) (λ _. sequel.Decided d) (λ _. sequel.Go stage.Root)) → (node : Node) × ((now a).pages view.pid ≡ Some (record { version = view.version; node = node }))
     go d None e = off e.1
     go d (Some l) (inl t) = (t.1.is.0, t.1.is.1)
     go d (Some l) (inr t) = off t.2
@@ -303,7 +303,7 @@ module _ {P M : Type 0} (store : P → Store) (meant : M → Merge) (old : DbVal
       whole v a (inr o) = valid_law o.action (store old.pages) (store q) (once_adds o) db.safe (λ no_group. well v a)
 
       -- the call goes on
-      module _ (fits : f.turns < turns_limit) (g : InFlight) (job : g.job ≡ f.job) (aim : g.aim ≡ f.aim) (turns : g.turns ≡ f.turns + 1) (moves : StageActionBy (Only operator) (course_of f) (store old.pages) f.stage (next.Go g.stage) (store q)) (further : has_path (range_of f.job.call) f.stage → StepsOnPath (now (store old.pages)) f Moved (now (store q)) g) (follows : follows_as (range_of f.job.call) (store old.pages) f Moved (store q) g) (keeps : Becomes (queue_at old.queues) old.queues.given queues) (reads : Reads tree_now.map (waiting_of f) (rest_of f) (waiting_of g) (rest_of g)) where
+      module _ (fits : f.turns < turns_limit) (g : InFlight) (job : g.job ≡ f.job) (aim : g.aim ≡ f.aim) (turns : g.turns ≡ f.turns + 1) (moves : StageActionBy (Only operator) (course_of f) (store old.pages) f.stage (sequel.Go g.stage) (store q)) (further : has_path (range_of f.job.call) f.stage → StepsOnPath (now (store old.pages)) f Moved (now (store q)) g) (follows : follows_as (range_of f.job.call) (store old.pages) f Moved (store q) g) (keeps : Becomes (queue_at old.queues) old.queues.given queues) (reads : Reads tree_now.map (waiting_of f) (rest_of f) (waiting_of g) (rest_of g)) where
         moved : (v : Forest) × KeepsForest (owned f.stage) (owned g.stage) at db.forest after v × (Knows after v (course_of f) g.stage × KeepsContents at db.forest after v) × LeaksNoPage (owned f.stage) (owned g.stage) (now (store old.pages)) (now (store q)) v
         moved = moves.is (numbers_of old.trees) (given_to old.trees_given) db.forest db.is named_now (known.is db.forest db.is)
 
@@ -380,7 +380,7 @@ module _ {P M : Type 0} (store : P → Store) (meant : M → Merge) (old : DbVal
             apart r e = cc
 
       -- the call is refused, and the store does what it does where it refuses an action
-      module _ (fits : f.turns < turns_limit) (g : InFlight) (e : Error) (moves : StageActionBy (Only operator) (course_of f) (store old.pages) f.stage (next.Refused e) (store q)) (quietly : IsStepRefused e (store old.pages) (store q)) (cause : (slots : ℕ → Option CallInFlight) (given : ℕ) → cause_of (state_of store meant old slots given) (store old.pages) (store q) (ToStep (call_in_flight_of f)) e) (follows : follows_as (range_of f.job.call) (store old.pages) f (Refused e) (store q) g) (keeps : Becomes (queue_at old.queues) old.queues.given queues) where
+      module _ (fits : f.turns < turns_limit) (g : InFlight) (e : Error) (moves : StageActionBy (Only operator) (course_of f) (store old.pages) f.stage (sequel.Refused e) (store q)) (quietly : IsStepRefused e (store old.pages) (store q)) (cause : (slots : ℕ → Option CallInFlight) (given : ℕ) → cause_of (state_of store meant old slots given) (store old.pages) (store q) (ToStep (call_in_flight_of f)) e) (follows : follows_as (range_of f.job.call) (store old.pages) f (Refused e) (store q) g) (keeps : Becomes (queue_at old.queues) old.queues.given queues) where
         refused : (v : Forest) × KeepsForest (owned f.stage) [] at db.forest after v × KeepsContents at db.forest after v × Unit {0}
         refused = moves.is (numbers_of old.trees) (given_to old.trees_given) db.forest db.is named_now (known.is db.forest db.is)
 
@@ -468,7 +468,7 @@ module _ {P M : Type 0} (store : P → Store) (meant : M → Merge) (old : DbVal
         }
 
       -- the call is decided
-      module _ (fits : f.turns < turns_limit) (g : InFlight) (reply : Reply) (moves : StageActionBy (Only operator) (course_of f) (store old.pages) f.stage (next.Decided reply) (store q)) (follows : follows_as (range_of f.job.call) (store old.pages) f (Decided reply) (store q) g) (tells : Told queues) where
+      module _ (fits : f.turns < turns_limit) (g : InFlight) (reply : Reply) (moves : StageActionBy (Only operator) (course_of f) (store old.pages) f.stage (sequel.Decided reply) (store q)) (follows : follows_as (range_of f.job.call) (store old.pages) f (Decided reply) (store q) g) (tells : Told queues) where
         done : (v : Forest) × KeepsForest (owned f.stage) [] at db.forest after v × DecidesAs operator (course_of f) reply (store old.pages) (store q) at db.forest after v × LeaksNoPage (owned f.stage) [] (now (store old.pages)) (now (store q)) v
         done = let d = moves.is (numbers_of old.trees) (given_to old.trees_given) db.forest db.is named_now (known.is db.forest db.is) in (d.0, d.1, d.2 operator refl, d.3)
 
@@ -541,7 +541,7 @@ module _ {P M : Type 0} (store : P → Store) (meant : M → Merge) (old : DbVal
         -- the event of a change that was linked is the one by the map now
         linked_event : (view : View) → f.stage ≡ stage.Act view → (reply : Reply) → FollowsOn (store old.pages) f (Decided reply) (store q) g → (answer_of operator f.job.call tree_now.map).event ≡ event_of (decision_at operator f.job.call view.node.content).effect (key_of f.job.call)
         linked_event view here reply follows =
-            let p = linked_page (course_of f) (store old.pages) (store q) view reply (subst (λ z. Follows (course_of f) (store old.pages) z (next.Decided reply) (store q)) here follows.is) in
+            let p = linked_page (course_of f) (store old.pages) (store q) view reply (subst (λ z. Follows (course_of f) (store old.pages) z (sequel.Decided reply) (store q)) here follows.is) in
             read_event view (subst (Knows at db.forest (course_of f)) here (known.is db.forest db.is)) p.0 p.1
 
         told_decided : (reply : Reply) → StepsBy operator (store old.pages) f (Decided reply) (store q) g → told_by operator f f.stage old.queues queues → Told queues

@@ -37,11 +37,11 @@ use Rattle.sled.specs.Values.{DbValue, numbers_of, given_to, named, state_of, db
 use Rattle.sled.specs.Calls.{MustBeRefused, must_be_refused_as}
 use Rattle.sled.specs.Sound.{IsDb}
 use Rattle.sled.specs.Flights.{IsStepRefused}
-use Rattle.sled.specs.Direct.{effect_of_group, StaysInChainOrWent, KeepsOrFreesTreePages, LeavesAll, WholeDecided, WholeRefused}
-use Rattle.sled.specs.Groups.{GroupDecided, GroupRefused, IsQuietGroup}
+use Rattle.sled.specs.Direct.{is_left_open, effect_of_group, StaysInChainOrWent, KeepsOrFreesTreePages, LeavesAll, WholeDecided, WholeRefused}
+use Rattle.sled.specs.Groups.{GroupDecided, GroupRefused, is_as_it_was, IsQuietGroup}
 use Rattle.sled.specs.theory.Groups.{jobs_of_writes, Finds, unread, events_of_jobs, MakesAll, StopsAll}
 use Rattle.sled.proofs.Grouped.{AreCurrent, tree_after, with_slots, writes_change, writes_beside, trees_written, events_written, no_events, jobs_numbered, tested_current, tested_open}
-use Rattle.sled.proofs.Resting.{Rests, rests_same, rests_only_faults, now_rests}
+use Rattle.sled.proofs.Resting.{Rests, rests_same, rests_only_faults, rests_step, now_rests}
 use Rattle.sled.proofs.Testing.{first_alone, untold_fault}
 use Rattle.sled.proofs.Trees.{trees_at, maps_are, numbered}
 use Rattle.sled.proofs.Flying.{quiet_untold, state_over}
@@ -141,7 +141,7 @@ stopped fs a b e (inr l) = go l.acts
     go (inr (last, i, t, open_now)) = record {
       mark = refused_mark e last b t ∙ inside_mark a last i;
       adds = l.adds;
-      acts = inr (last, i, refused_quietly e last b t);
+      acts = inr (last, i, refused_quietly e last b t, open_now);
       why = refused_cause e a last b (inside_faults a last i) (inside_readable a last i) t;
       which = inr open_now;
     }
@@ -180,12 +180,16 @@ module _ {P M : Type 0} (store : P → Store) (meant : M → Merge) (old : DbVal
   group_untested e t = record {
     maps = [];
     refuses = λ slots given. record { why = go (must_refuse_of (db_state store meant old) (trees_of_batches batches)) t.is; is = inl refl; added = refl };
-    acts = inl (quiet_untold e (store old.pages) (untold_fault (must_refuse_of (db_state store meant old) (trees_of_batches batches)) e t.is));
+    acts = inl quietly;
     leaves = leaves_none store meant old;
     same = refl;
     tested = λ must. refl;
+    begun = inl (λ slots given. refl);
   }
     where
+      quietly : IsStepRefused e (store old.pages) (store old.pages)
+      quietly = quiet_untold e (store old.pages) (untold_fault (must_refuse_of (db_state store meant old) (trees_of_batches batches)) e t.is)
+
       go : (o : Option MustRefuse) → must_be_refused_as o e → refuses_group_as o (store old.pages) (store old.pages) e
       go None t = absurd t
       go (Some must) t = t
@@ -212,6 +216,7 @@ module _ {P M : Type 0} (store : P → Store) (meant : M → Merge) (old : DbVal
       leaves = leaves_none store meant old;
       same = refl;
       tested = λ must. absurd (must tested);
+      begun = inl (λ slots given. refl);
     }
 
     pub group_short : (e : Error) → e ≡ error.NoMemory → GroupRefused store meant old batches e old
@@ -384,9 +389,16 @@ module _ {P M : Type 0} (store : P → Store) (meant : M → Merge) (old : DbVal
           };
         }
 
+        rests_so : Rests (store old.pages) (store p) → (slots : ℕ → Option CallInFlight) (given : ℕ) → state_of store meant new slots given ≡ state_of store meant old slots given
+        rests_so r slots given = state_over store meant old db p queues m.tells slots slots given (λ name. ap (λ (s : Rattle.sled_store.specs.State.State). trees_of s name) (now_rests r)) (ap (λ (s : Rattle.sled_store.specs.State.State). s.in_group) (now_rests r)) r.mark
+
+        begun_so : effect_of_group (Some e) (store old.pages) (store p) → is_as_it_was store meant old batches new ⊎ is_left_open e (store old.pages) (store p)
+        begun_so (inl quietly) = inl (rests_so (rests_step e (store old.pages) (store p) quietly))
+        begun_so (inr begun) = inr begun
+
         stops_so : (slots : ℕ → Option CallInFlight) (given : ℕ) → Rests (store old.pages) (store p) ⊎ ((now (store p)).in_group ≡ true)
             → (state_of store meant new slots given ≡ state_of store meant old slots given) ⊎ ((must_refuse_of before (trees_of_batches batches) ≡ None) × Closes (state_of store meant old slots given) (state_of store meant new slots given))
-        stops_so slots given (inl r) = inl (state_over store meant old db p queues m.tells slots slots given (λ name. ap (λ (s : Rattle.sled_store.specs.State.State). trees_of s name) (now_rests r)) (ap (λ (s : Rattle.sled_store.specs.State.State). s.in_group) (now_rests r)) r.mark)
+        stops_so slots given (inl r) = inl (rests_so r slots given)
         stops_so slots given (inr open_now) = inr (tested, closes slots given open_now)
 
         pub group_stopped : GroupRefused store meant old batches e new
@@ -397,6 +409,7 @@ module _ {P M : Type 0} (store : P → Store) (meant : M → Merge) (old : DbVal
           leaves = leaves_so kept.after kept.keeps stops.mark (subst IsCalm (sym m.tells.held) db.calm) [] stops.adds;
           same = refl;
           tested = λ must. absurd (must tested);
+          begun = begun_so stops.acts;
         }
 
         pub stopped_quiet : IsQuietGroup store meant old batches new

@@ -30,3 +30,4 @@ pub mod Batching
 pub mod Beginning
 pub mod Changes
 pub mod Transacting
+pub mod Ranged

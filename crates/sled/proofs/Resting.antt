@@ -8,6 +8,7 @@ use Rattle.sled_nodes.specs.declared.error.Error.TheVariants as error
 use Rattle.tree_laws.specs.Crashes.{AddsCrashStates}
 use Rattle.tree_laws.proofs.Crashing.{extends_nothing, same_left}
 use Rattle.sled_tree.specs.theory.StageAction.{is_action_refused_as}
+use Rattle.sled.specs.Flights.{IsStepRefused}
 
 -- two stores that show the same now
 pub record SameNow (a b : Store) : Type 0 where
@@ -40,6 +41,11 @@ rests_refused error.NoMemory a b t = rests_same t
 rests_refused (error.Io fault) a b (inl t) = rests_faulted (a.faults + 1) t
 rests_refused (error.Io fault) a b (inr (t, p)) = rests_same t
 rests_refused other a b t = absurd t
+
+pub rests_step : (e : Error) (a b : Store) → IsStepRefused e a b → Rests a b
+rests_step (error.Io fault) a b (inl t) = rests_faulted (a.faults + 1) t
+rests_step (error.Io fault) a b (inr (t, p)) = rests_same t
+rests_step other a b t = rests_same t
 
 module _ {a b : Store} (r : Rests a b) where
   pub now_rests : now b ≡ now a

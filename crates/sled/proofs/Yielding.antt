@@ -46,7 +46,7 @@ use Rattle.sled_tree.specs.declared.flight.Aim.{Aim}
 use Rattle.sled_tree.specs.declared.flight.Aim.TheVariants.{Own, At}
 use Rattle.sled_tree.specs.declared.flight.InFlight.{InFlight}
 use Rattle.sled_tree.specs.declared.flight.Job.{Job}
-use Rattle.sled_tree.specs.declared.flight.Next.TheVariants as next
+use Rattle.sled_tree.specs.declared.flight.Sequel.TheVariants as sequel
 use Rattle.sled_tree.specs.declared.flight.Went.{Went}
 use Rattle.sled_tree.specs.declared.flight.Went.TheVariants.{Moved, Yielded, Decided, Refused}
 use Rattle.sled_tree.specs.theory.Linking.{StepsBy}
@@ -58,7 +58,7 @@ use Rattle.tree_scans.specs.Scans.{ScanStep, CanEnd, Gives, Ends, GoesOn, Walks,
 use Rattle.tree_scans.proofs.Scanning as scanning
 use Rattle.sled.specs.Values.{DbValue, numbers_of, given_to, state_of, db_state, snapshot_of_db}
 use Rattle.sled.specs.Sound.{IsDb}
-use Rattle.sled.specs.Flights.{call_in_flight_of, next_of, follows_as, has_path, BringsEvent, DbStepContract}
+use Rattle.sled.specs.Flights.{call_in_flight_of, sequel_of, follows_as, has_path, BringsEvent, DbStepContract}
 use Rattle.tree_steps.specs.theory.Watched.{StepsOver, steps_over_as}
 use Rattle.sled.proofs.Flying.{at, is_db, calm_still, no_group, operator, tree_now, there, named_now, state_over, loses_acting, refuses_quietly, cause_is, touches_acting, told_now, done_state, flies_moved, moved_db, flies_refused, refused_db, flown}
 use Rattle.sled.proofs.Trees.{trees_put, maps_are}
@@ -92,10 +92,10 @@ from_starts j (At bound) range scan aimed = go range.lo range.hi range.back scan
     go lo hi false scan = let k = aimed.rises (record { lo = lo; hi = hi; back = false }) scan refl in (k.0, k.1, subst (λ z. scanning.IsStart z k.0) (sym k.1) refl)
 
 -- a call that does not end with its action asks for no operator
-goes_any : {by which : Option Merge → Type 0} {j : Course} {a b : Store} {s c : Stage} → StageActionBy by j a s (next.Go c) b → StageActionBy which j a s (next.Go c) b
+goes_any : {by which : Option Merge → Type 0} {j : Course} {a b : Store} {s c : Stage} → StageActionBy by j a s (sequel.Go c) b → StageActionBy which j a s (sequel.Go c) b
 goes_any x = record { touches = x.touches; is = x.is }
 
-refuses_any : {by which : Option Merge → Type 0} {j : Course} {a b : Store} {s : Stage} {e : Error} → StageActionBy by j a s (next.Refused e) b → StageActionBy which j a s (next.Refused e) b
+refuses_any : {by which : Option Merge → Type 0} {j : Course} {a b : Store} {s : Stage} {e : Error} → StageActionBy by j a s (sequel.Refused e) b → StageActionBy which j a s (sequel.Refused e) b
 refuses_any x = record { touches = x.touches; is = x.is }
 
 -- a call that is on its way has all of its range to read
@@ -134,7 +134,7 @@ module _ {P M : Type 0} (store : P → Store) (meant : M → Merge) (old : DbVal
     from = range_from f.aim range
 
     -- what was read at a leaf is a part of the map now
-    reads_way : (g : InFlight) → IsOnItsWay f.stage → g.job ≡ f.job → g.aim ≡ f.aim → Follows (course_of f) (store old.pages) f.stage (next.Go g.stage) (store q)
+    reads_way : (g : InFlight) → IsOnItsWay f.stage → g.job ≡ f.job → g.aim ≡ f.aim → Follows (course_of f) (store old.pages) f.stage (sequel.Go g.stage) (store q)
         → (v : Forest) → HasForest after v → Knows after v (course_of f) g.stage → KeepsContents (at store meant old db) db.forest after v
         → Reads (tree_now store meant old db f must).map (waiting_of f) (rest_of f) (waiting_of g) (rest_of g)
     reads_way g way job aim follows v is knows kept =
@@ -146,7 +146,7 @@ module _ {P M : Type 0} (store : P → Store) (meant : M → Merge) (old : DbVal
         goes : (s : Stage) → IsOnItsWay s → Reads map_now (waiting_at f.stage from) (rest_at f.stage from) (waiting_at s from) (rest_at s from)
         goes s on = inl (waits_way s from on ∙ sym (waits_way f.stage from way), rest_way s from on ∙ sym (rest_way f.stage from way))
 
-        go : (s : Stage) → Follows (course_of f) (store old.pages) f.stage (next.Go s) (store q) → Knows after v (course_of f) s → Reads map_now (waiting_at f.stage from) (rest_at f.stage from) (waiting_at s from) (rest_at s from)
+        go : (s : Stage) → Follows (course_of f) (store old.pages) f.stage (sequel.Go s) (store q) → Knows after v (course_of f) s → Reads map_now (waiting_at f.stage from) (rest_at f.stage from) (waiting_at s from) (rest_at s from)
         go (stage.Give a) follows knows =
             let read = give_law (course_of f) (store old.pages) (store q) f.stage a follows in
             let here = fresh_in knows.0.seen (record { page = _; live = read.1.0; same = refl }) (named_now store meant old db f must) in
@@ -167,7 +167,7 @@ module _ {P M : Type 0} (store : P → Store) (meant : M → Merge) (old : DbVal
     walked : (went : Went) (g : InFlight) → IsOnItsWay f.stage → (f.stage ≡ stage.Root → is_read (rest_of f) ≡ false) → StepsBy None (store old.pages) f went (store q) g → Flown went g
     walked Moved g way begun s =
         let a = s.advances.is in
-        let moves : StageActionBy (Only (operator store meant old db f must)) (course_of f) (store old.pages) f.stage (next.Go g.stage) (store q) = goes_any a.3 in
+        let moves : StageActionBy (Only (operator store meant old db f must)) (course_of f) (store old.pages) f.stage (sequel.Go g.stage) (store q) = goes_any a.3 in
         let m = a.3.is (numbers_of old.trees) (given_to old.trees_given) db.forest db.is (named_now store meant old db f must) (known.is db.forest db.is) in
         let reads = reads_way g way a.0 a.1 s.follows.is m.0 m.1.is m.2.0 m.2.1 in
         let follows = follows_scan Moved g (Walks Moved (store q) g way begun s.follows) in (
@@ -179,7 +179,7 @@ module _ {P M : Type 0} (store : P → Store) (meant : M → Merge) (old : DbVal
         let d = s.advances.is.is (numbers_of old.trees) (given_to old.trees_given) db.forest db.is (named_now store meant old db f must) (known.is db.forest db.is) in
         absurd (off_key f.job.call range scan (d.2 None refl).on_key)
     walked (Refused e) g way begun s =
-        let moves : StageActionBy (Only (operator store meant old db f must)) (course_of f) (store old.pages) f.stage (next.Refused e) (store q) = refuses_any s.advances.is in
+        let moves : StageActionBy (Only (operator store meant old db f must)) (course_of f) (store old.pages) f.stage (sequel.Refused e) (store q) = refuses_any s.advances.is in
         let quietly = refuses_quietly e (store old.pages) (store q) s.advances.is.touches in
         let cause = λ (slots : ℕ → Option CallInFlight) (given : ℕ). cause_is (state_of store meant old slots given) (call_in_flight_of f) e (store old.pages) (store q) s.advances.is.touches in
         let follows = follows_scan (Refused e) g (Walks (Refused e) (store q) g way begun s.follows) in (
@@ -191,8 +191,8 @@ module _ {P M : Type 0} (store : P → Store) (meant : M → Merge) (old : DbVal
 
     module _ (same : store q ≡ store old.pages) where
       -- it could be refused for want of memory, which leaves all as it was
-      rests : StageActionBy (Only (operator store meant old db f must)) (course_of f) (store old.pages) f.stage (next.Refused error.NoMemory) (store q)
-      rests = subst (λ s. StageActionBy (Only (operator store meant old db f must)) (course_of f) (store old.pages) f.stage (next.Refused error.NoMemory) s) (sym same) (by_these (course_of f) (store old.pages) (store old.pages) f.stage (next.Refused error.NoMemory) (unable (course_of f) (store old.pages) f.stage error.NoMemory refl))
+      rests : StageActionBy (Only (operator store meant old db f must)) (course_of f) (store old.pages) f.stage (sequel.Refused error.NoMemory) (store q)
+      rests = subst (λ s. StageActionBy (Only (operator store meant old db f must)) (course_of f) (store old.pages) f.stage (sequel.Refused error.NoMemory) s) (sym same) (by_these (course_of f) (store old.pages) (store old.pages) f.stage (sequel.Refused error.NoMemory) (unable (course_of f) (store old.pages) f.stage error.NoMemory refl))
 
       left : (v : Forest) × KeepsForest (owned f.stage) [] (at store meant old db) db.forest after v × KeepsContents (at store meant old db) db.forest after v × Unit {0}
       left = rests.is (numbers_of old.trees) (given_to old.trees_given) db.forest db.is (named_now store meant old db f must) (known.is db.forest db.is)
@@ -354,7 +354,7 @@ module _ {P M : Type 0} (store : P → Store) (meant : M → Merge) (old new : D
     follows = λ must fits. follows;
     passes = λ path. absurd (subst IsOnItsWay here (subst (λ r. has_path r f.stage) scan path));
     loses = s.loses;
-    leaves = λ v is. subst (λ z. leaks_no_page_as (next_of went g) (owned z) (now (store old.pages)) (now (store new.pages)) v) (sym here) (s.leaves v is);
+    leaves = λ v is. subst (λ z. leaks_no_page_as (sequel_of went g) (owned z) (now (store old.pages)) (now (store new.pages)) v) (sym here) (s.leaves v is);
     knows = record { goes_on = s.knows.goes_on; others = λ h off k. s.knows.others h (record { off = λ p i j. absurd i }) k };
   }
     where

@@ -72,11 +72,15 @@ pub record Conducts {P M : Type 0} (store : P → Store) (maps : List Maps) (ref
   pub leaves : LeavesAll store maps None old new
   pub same : new ≡ record old { pages = new.pages; queues = new.queues }
 
+-- a group was begun and refused after that: it does no more after what it was refused, and is left open
+abbrev pub is_left_open : Error → Store → Store → Type 0
+is_left_open e old new = (last : Store) × ActsInside old last × IsStepRefused e last new × ((now new).in_group ≡ true)
+
 -- What a group does to the store: nothing, or it is begun, its writes do changing actions, one after the other, and it is sealed. One
--- that is refused does no more after what it was refused, and is not sealed
+-- that is refused does nothing where it is refused before its begin, and is left open where it is refused after that
 abbrev pub effect_of_group : Option Error → Store → Store → Type 0
 effect_of_group None old new = (new ≡ old) ⊎ ((last : Store) × ActsInside old last × (new ≡ after_action GroupEnds last))
-effect_of_group (Some e) old new = IsStepRefused e old new ⊎ ((last : Store) × ActsInside old last × IsStepRefused e last new)
+effect_of_group (Some e) old new = IsStepRefused e old new ⊎ is_left_open e old new
 
 -- What a whole call does to the store: a flush makes all durable, and a call that tells something does nothing, but that it may raise
 -- the mark; where one of these is refused, nothing but a fault is counted. One that drops a tree does changing actions, and faults may

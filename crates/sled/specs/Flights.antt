@@ -30,8 +30,8 @@ use Rattle.sled_tree.specs.Follows.{FollowsOn}
 use Rattle.sled_tree.specs.Passing.{IsOnPath, StepsOnPath}
 use Rattle.sled_tree.specs.Course.{course_of}
 use Rattle.sled_tree.specs.declared.flight.InFlight.{InFlight}
-use Rattle.sled_tree.specs.declared.flight.Next.{Next}
-use Rattle.sled_tree.specs.declared.flight.Next.TheVariants as next
+use Rattle.sled_tree.specs.declared.flight.Sequel.{Sequel}
+use Rattle.sled_tree.specs.declared.flight.Sequel.TheVariants as sequel
 use Rattle.sled_tree.specs.declared.flight.Went.{Went}
 use Rattle.sled_tree.specs.declared.flight.Went.TheVariants.{Moved, Yielded, Decided, Refused}
 use Rattle.tree_groups.specs.Writes.{PagesLast}
@@ -51,11 +51,11 @@ slot_after (Decided reply) g = None
 slot_after (Refused e) g = None
 
 -- what a step comes to, as what its page action came to
-abbrev pub next_of : Went → InFlight → Next
-next_of Moved g = next.Go g.stage
-next_of (Yielded key value) g = next.Go g.stage
-next_of (Decided reply) g = next.Decided reply
-next_of (Refused e) g = next.Refused e
+abbrev pub sequel_of : Went → InFlight → Sequel
+sequel_of Moved g = sequel.Go g.stage
+sequel_of (Yielded key value) g = sequel.Go g.stage
+sequel_of (Decided reply) g = sequel.Decided reply
+sequel_of (Refused e) g = sequel.Refused e
 
 -- the maps that the step added
 abbrev pub maps_added : Went → Maps → List Maps
@@ -136,7 +136,7 @@ DbPasses store old f went new g = has_path (range_of f.job.call) f.stage → Ste
 
 -- no page of the call's own is left behind, but by a call that is refused
 abbrev pub DbLeaksNoPage : {P M : Type 0} → (P → Store) → DbValue P M → InFlight → Went → DbValue P M → InFlight → Type 0
-DbLeaksNoPage store old f went new g = (v : Forest) → HasForest (snapshot_of_db store new) v → leaks_no_page_as (next_of went g) (owned f.stage) (now (store old.pages)) (now (store new.pages)) v
+DbLeaksNoPage store old f went new g = (v : Forest) → HasForest (snapshot_of_db store new) v → leaks_no_page_as (sequel_of went g) (owned f.stage) (now (store old.pages)) (now (store new.pages)) v
 
 -- the call has not ended with the step
 abbrev pub HasMore : Went → Type 0

@@ -1,5 +1,5 @@
 -- What a group of writes comes to.
-use Rattle.std.specs.Prelude.{◌≡◌, ◌≢◌, ℕ, List, [], Option, Some, None}
+use Rattle.std.specs.Prelude.{◌≡◌, ◌≢◌, ◌⊎◌, ℕ, List, [], Option, Some, None}
 use Rattle.sled_nodes.specs.declared.error.Error.{Error}
 use Rattle.sled_batch.specs.Batch.{Writes}
 use Rattle.sled_store.specs.State.{GroupEnds}
@@ -12,7 +12,7 @@ use Rattle.sled_model.specs.declared.reply.Reply.TheVariants.{Done}
 use Rattle.sled_model.specs.declared.tree.Tree.{Tree}
 use Rattle.tree_groups.specs.Groups.{ActsInside}
 use Rattle.sled.specs.Values.{DbValue, state_of, db_state}
-use Rattle.sled.specs.Direct.{LeavesAll, effect_of_group}
+use Rattle.sled.specs.Direct.{LeavesAll, is_left_open, effect_of_group}
 
 module _ {P M : Type 0} (store : P → Store) (meant : M → Merge) (old : DbValue P M) (batches : List (Tree × Writes)) where
   -- a group that brings an event was begun, its writes were made, and it was sealed
@@ -28,6 +28,10 @@ module _ {P M : Type 0} (store : P → Store) (meant : M → Merge) (old : DbVal
     pub same : new ≡ record old { pages = new.pages; queues = new.queues }
     pub loud : is_loud_group new
 
+  -- the state is as it was: open if it was, whatever calls are in flight
+  abbrev pub is_as_it_was : DbValue P M → Type 0
+  is_as_it_was new = (slots : ℕ → Option CallInFlight) (slots_given : ℕ) → state_of store meant new slots slots_given ≡ state_of store meant old slots slots_given
+
   -- .. or it was refused
   pub record GroupRefused (e : Error) (new : DbValue P M) : Type 0 where
     pub maps : List Maps
@@ -37,6 +41,8 @@ module _ {P M : Type 0} (store : P → Store) (meant : M → Merge) (old : DbVal
     pub same : new ≡ record old { pages = new.pages; queues = new.queues }
     -- by a test, and then it did nothing
     pub tested : must_refuse_of (db_state store meant old) (trees_of_batches batches) ≢ None → new ≡ old
+    -- it closes the database only where the store began it, and leaves it open there; before that it changes nothing
+    pub begun : is_as_it_was new ⊎ is_left_open e (store old.pages) (store new.pages)
 
   -- a group that brings no event does no changing action, and counts no fault
   pub record IsQuietGroup (new : DbValue P M) : Type 0 where

@@ -158,7 +158,8 @@ impl<P: Pages, M: MergeOperator> Db<P, M> {
     }
 
     /// Sets the value at a key to what the tree's merge operator makes of it and these bytes, or takes the key out where that is no
-    /// value, and answers the new value. It is written also where it is equal.
+    /// value, and answers the new value. It is written also where it is equal. A tree without an operator refuses it with `Unsupported`: the
+    /// call that gives it one is `Db::set_merge_operator`, whatever the text of the refusal, which is sled's, says.
     ///
     /// ```
     /// db.set_merge_operator(&tree, Adds)?; // An operator that adds numbers.

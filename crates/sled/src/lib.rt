@@ -21,6 +21,8 @@ mod names;
 mod open;
 mod operators;
 mod read;
+mod removals;
+mod stats;
 mod step_kept;
 mod transaction;
 mod watch;
@@ -44,10 +46,11 @@ pub use sled_store::{Page, Pages, View, law_given, law_sealed};
 pub use sled_tree::{InFlight, Job, Stage, Went};
 pub use transaction::law_shows;
 pub use tree_check::{findings, verify_integrity};
+pub use tree_pages::Stats;
 pub use tree_reads::{Iter, Keys, Reads, Values, law_bytes, law_prefix};
 pub use tree_transactions::{
-    Commit, ConflictableTransactionError, ConflictableTransactionResult, MOST_ATTEMPTS,
-    TransactionAnswer, TransactionError, TransactionResult, TransactionalTree, TransactionalTrees,
+    ConflictableTransactionError, ConflictableTransactionResult, MOST_ATTEMPTS, TransactionAnswer,
+    TransactionError, TransactionResult, TransactionalTree, TransactionalTrees,
     UnabortableTransactionError, UnabortableTransactionResult, abort,
 };
 

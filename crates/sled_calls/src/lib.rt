@@ -16,7 +16,7 @@ pub use laws::{law_extended, law_flushed, law_group, law_hears, law_scans, law_s
 pub use machine::Machine;
 pub use sled_batch::Batch;
 pub use sled_model::{
-    Call, Collection, CompareAndSwapError, Event, MergeOperator, Outcome, Reply, Slot, Step,
+    Call, Collection, CompareAndSwapError, Event, MergeOperator, Next, Outcome, Reply, Slot, Step,
     Subscriber, Tree, Whole,
 };
 pub use sled_tree::Job;

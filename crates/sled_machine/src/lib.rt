@@ -7,7 +7,7 @@
 pub mod shared;
 
 pub use sled_calls::{
-    Batch, Call, Collection, CompareAndSwapError, Event, Job, Machine, MergeOperator, Outcome,
-    Reply, Slot, Step, Subscriber, Tree, Whole, law_extended, law_flushed, law_group, law_hears,
-    law_scans, law_steps,
+    Batch, Call, Collection, CompareAndSwapError, Event, Job, Machine, MergeOperator, Next,
+    Outcome, Reply, Slot, Step, Subscriber, Tree, Whole, law_extended, law_flushed, law_group,
+    law_hears, law_scans, law_steps,
 };

@@ -22,7 +22,7 @@ use Rattle.tree_laws.proofs.Known.{answers, set_written, del_written, set_few, s
 use Rattle.sled_tree.specs.declared.act.Change.{Change}
 use Rattle.sled_tree.specs.Course.{Course}
 use Rattle.tree_laws.specs.declared.flight.Stage.TheVariants.{Act, Root}
-use Rattle.sled_tree.specs.declared.flight.Next.TheVariants as next
+use Rattle.sled_tree.specs.declared.flight.Sequel.TheVariants as sequel
 use Rattle.sled_tree.specs.Change.{link_of, decision_at}
 use Rattle.sled_tree.specs.Follows.{TakesWay, LinksChange}
 use Rattle.sled_tree.specs.theory.Change.{IsChangeOf}
@@ -49,7 +49,7 @@ module _ {m : Snapshot} {w : Forest} (is : HasForest m w) (t : Tree) (number : �
       (let d = del_written is t number key look node k c version unused in (written d tt, d.here, d.others))
 
 -- the call's change is linked
-pub act_moves : (operator : Option Operator) (j : Course) (old new : Store) (view : View) (change : Change) (given : ℕ) → IsChangeOf operator j.call view.node.content (Some change) → Changes (after_link change.link) view.pid view.version old new (Ok given) → StageActionBy (Only operator) j old (Act view) (next.Decided change.reply) new
+pub act_moves : (operator : Option Operator) (j : Course) (old new : Store) (view : View) (change : Change) (given : ℕ) → IsChangeOf operator j.call view.node.content (Some change) → Changes (after_link change.link) view.pid view.version old new (Ok given) → StageActionBy (Only operator) j old (Act view) (sequel.Decided change.reply) new
 act_moves operator j old new view change given is c = record {
   touches = inr (once_acts c.is.2);
   is = λ numbers gave w at named a.
@@ -89,9 +89,9 @@ act_moves operator j old new view change given is c = record {
 
 -- what was linked is the change by this operator
 module _ (operator : Option Operator) (j : Course) (old new : Store) (view : View) (change : Change) (is : IsChangeOf operator j.call view.node.content (Some change)) where
-  pub links_follows : (given : ℕ) → Changes (after_link change.link) view.pid view.version old new (Ok given) → LinksChange j old new view (next.Decided change.reply)
-  links_follows given c = record { operator = operator; is = subst (λ (l : Option Link). MatchOption l ((new ≡ old) × (next.Decided change.reply ≡ next.Go Root)) (λ link. TakesWay (after_link link) view.pid view.version old new (next.Decided change.reply) (λ _. next.Decided (decision_at operator j.call view.node.content).reply) (λ _. next.Go Root))) (sym is.0) (inl (given, c, ap next.Decided is.1)) }
+  pub links_follows : (given : ℕ) → Changes (after_link change.link) view.pid view.version old new (Ok given) → LinksChange j old new view (sequel.Decided change.reply)
+  links_follows given c = record { operator = operator; is = subst (λ (l : Option Link). MatchOption l ((new ≡ old) × (sequel.Decided change.reply ≡ sequel.Go Root)) (λ link. TakesWay (after_link link) view.pid view.version old new (sequel.Decided change.reply) (λ _. sequel.Decided (decision_at operator j.call view.node.content).reply) (λ _. sequel.Go Root))) (sym is.0) (inl (given, c, ap sequel.Decided is.1)) }
 
   -- or the leaf was changed since
-  pub late_follows : (present : Option ℕ) → Changes (after_link change.link) view.pid view.version old new (Err present) → LinksChange j old new view (next.Go Root)
-  late_follows present c = record { operator = operator; is = subst (λ (l : Option Link). MatchOption l ((new ≡ old) × (next.Go Root ≡ next.Go Root)) (λ link. TakesWay (after_link link) view.pid view.version old new (next.Go Root) (λ _. next.Decided (decision_at operator j.call view.node.content).reply) (λ _. next.Go Root))) (sym is.0) (inr (present, c, refl)) }
+  pub late_follows : (present : Option ℕ) → Changes (after_link change.link) view.pid view.version old new (Err present) → LinksChange j old new view (sequel.Go Root)
+  late_follows present c = record { operator = operator; is = subst (λ (l : Option Link). MatchOption l ((new ≡ old) × (sequel.Go Root ≡ sequel.Go Root)) (λ link. TakesWay (after_link link) view.pid view.version old new (sequel.Go Root) (λ _. sequel.Decided (decision_at operator j.call view.node.content).reply) (λ _. sequel.Go Root))) (sym is.0) (inr (present, c, refl)) }

@@ -28,8 +28,8 @@ use Rattle.sled_tree.specs.Course.{Course}
 use Rattle.tree_laws.specs.declared.flight.Stage.{Stage}
 use Rattle.tree_laws.specs.declared.flight.Stage.TheVariants as stage
 use Rattle.tree_laws.specs.declared.flight.Posting.TheVariants as posting
-use Rattle.sled_tree.specs.declared.flight.Next.{Next}
-use Rattle.sled_tree.specs.declared.flight.Next.TheVariants.{Go, Decided}
+use Rattle.sled_tree.specs.declared.flight.Sequel.{Sequel}
+use Rattle.sled_tree.specs.declared.flight.Sequel.TheVariants.{Go, Decided}
 use Rattle.tree_laws.specs.declared.flight.Walk.{Walk}
 use Rattle.tree_laws.specs.declared.flight.Reached.{Reached}
 use Rattle.tree_laws.specs.declared.flight.Reached.TheVariants as reached
@@ -123,7 +123,7 @@ pub posts : (j : Course) (view parent : View) → view.node.merging ≡ false �
 posts j view parent not_merging free = goes j view (reached.Next parent) _ refl tt (λ m w is named r. (follows j view (reached.Next parent) not_merging free m w is r).posts parent refl)
 
 -- it was reached by a later pointer, and has few entries: a merge begins
-pub merges : (j : Course) (view parent : View) (next : Next) → view.node.merging ≡ false → view.node.merging_child ≡ None → count view.node.content ≤ 3 → BeginsMerge parent view.pid next → AfterPage j view (reached.LaterPointer parent) next
+pub merges : (j : Course) (view parent : View) (next : Sequel) → view.node.merging ≡ false → view.node.merging_child ≡ None → count view.node.content ≤ 3 → BeginsMerge parent view.pid next → AfterPage j view (reached.LaterPointer parent) next
 merges j view parent next not_merging free fits b = subst (AfterPage j view (reached.LaterPointer parent)) (sym b.is) (go b.before b.is_before)
   where
     more : (n : ℕ) → n ≤ 3 → n ≤ 17
@@ -134,7 +134,7 @@ merges j view parent next not_merging free fits b = subst (AfterPage j view (rea
     go (Some before) b = goes j view (reached.LaterPointer parent) _ refl tt (λ m w is named r. (follows j view (reached.LaterPointer parent) not_merging free m w is r).intends parent before refl (more (count view.node.content) fits) b)
 
 -- where the page has a merging child, that merge goes on
-pub helps : (j : Course) (view : View) (by : Reached) (child : ℕ) (next : Next) → view.node.merging ≡ false → view.node.merging_child ≡ Some child → ResumesMerge view child next → AfterPage j view by next
+pub helps : (j : Course) (view : View) (by : Reached) (child : ℕ) (next : Sequel) → view.node.merging ≡ false → view.node.merging_child ≡ Some child → ResumesMerge view child next → AfterPage j view by next
 helps j view by child next not_merging is_child h = subst (AfterPage j view by) (sym h.is) (go h.before h.is_before)
   where
     go : (before : Option ℕ) → IsPointerBefore child (pointers view.node.content) before → AfterPage j view by (resumed view child before)
@@ -142,7 +142,7 @@ helps j view by child next not_merging is_child h = subst (AfterPage j view by) 
     go (Some before) b = goes j view by _ refl tt (λ m w is named r. stood_merges_law m w j.tree.name j.tree.number r.0.height view view.node.lo is named r.0.stood r.0.live not_merging child before is_child b)
 
 -- what a read comes to, as a step
-pub arrives_moves : (j : Course) (s : Store) (view : View) (by : Reached) (next : Next) (a : Stage) → owned a ≡ [] → AfterPage j view by next
+pub arrives_moves : (j : Course) (s : Store) (view : View) (by : Reached) (next : Sequel) (a : Stage) → owned a ≡ [] → AfterPage j view by next
     → ((numbers : Tree → Option ℕ) (given : ℕ → Bool) (w : Forest) → HasForest (snapshot_of s numbers given) w → numbers j.tree.name ≡ Some j.tree.number → Knows (snapshot_of s numbers given) w j a → IsReadPage (snapshot_of s numbers given) w j view by)
     → StageAction j s a next s
 arrives_moves j s view by next a none t known = record {
@@ -151,12 +151,12 @@ arrives_moves j s view by next a none t known = record {
 }
 
 -- the root was read,
-pub root_read : (j : Course) (s : Store) (name : Key) (found : Option ℕ) (root : ℕ) (view : View) (next : Next) → name ≡ j.tree.name → found ≡ (now s).roots name → found ≡ Some root → Some view ≡ view_of root ((now s).pages root) → AfterPage j view reached.Root next → StageAction j s stage.Root next s
+pub root_read : (j : Course) (s : Store) (name : Key) (found : Option ℕ) (root : ℕ) (view : View) (next : Sequel) → name ≡ j.tree.name → found ≡ (now s).roots name → found ≡ Some root → Some view ≡ view_of root ((now s).pages root) → AfterPage j view reached.Root next → StageAction j s stage.Root next s
 root_read j s name found root view next called is_found is_some read t = arrives_moves j s view reached.Root next stage.Root refl t
     (λ numbers given w is named k. (root_here_law (snapshot_of s numbers given) w is j.tree.name j.tree.number j.aim view named (ap (now s).roots (sym called) ∙ sym is_found ∙ is_some ∙ ap Some (sym (viewed root ((now s).pages root) view read).0)) (live_view s root view read), k.2))
 
 -- or the cursor of a walk
-pub cursor_read : (j : Course) (s : Store) (a : Walk) (view : View) (next : Next) → Some view ≡ view_of a.cursor ((now s).pages a.cursor) → AfterPage j view a.reached next → StageAction j s (stage.Walk a) next s
+pub cursor_read : (j : Course) (s : Store) (a : Walk) (view : View) (next : Sequel) → Some view ≡ view_of a.cursor ((now s).pages a.cursor) → AfterPage j view a.reached next → StageAction j s (stage.Walk a) next s
 cursor_read j s a view next read t = arrives_moves j s view a.reached next (stage.Walk a) refl t
     (λ numbers given w is named k. (cursor_here_law (snapshot_of s numbers given) w is j.tree.name j.tree.number j.aim a view named k.0 (viewed a.cursor ((now s).pages a.cursor) view read).0 (live_view s a.cursor view read), k.2))
 

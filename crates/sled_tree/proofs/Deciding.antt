@@ -19,8 +19,8 @@ use Rattle.sled_tree.specs.Change.{decision_at, link_of}
 use Rattle.tree_laws.specs.declared.flight.SwapRoot.{SwapRoot}
 use Rattle.sled_tree.specs.Course.{Course}
 use Rattle.tree_laws.specs.declared.flight.Merge.{Merge}
-use Rattle.sled_tree.specs.declared.flight.Next.{Next}
-use Rattle.sled_tree.specs.declared.flight.Next.TheVariants as next
+use Rattle.sled_tree.specs.declared.flight.Sequel.{Sequel}
+use Rattle.sled_tree.specs.declared.flight.Sequel.TheVariants as sequel
 use Rattle.tree_laws.specs.declared.flight.Posting.{Posting}
 use Rattle.tree_laws.specs.declared.flight.Posting.TheVariants as posting
 use Rattle.tree_laws.specs.declared.flight.Receive.{Receive}
@@ -35,9 +35,9 @@ use Rattle.sled_tree.specs.Passing.{IsUnchanged}
 use Rattle.sled_tree.specs.Follows.{resumed, begun, onward, pointed, down, done_at, OrNoMemory, follows_leaf_as, follows_content, follows_here, follows_open, follows_not_merging, follows_read, follows_child, follows_child_not_merging, follows_cursor, follows_cursor_not_merging, follows_search, follows_met, searched, FollowsPage, follows_root, LinksChange, OrRefused, TakesWay, after_install_left, after_swap_root, read_again, sought_again, follows_as, Follows}
 
 -- the leaf of the change that comes next, or the one whose pairs are given next and how many were
-abbrev acting : Next → Option (View × ℕ)
-acting (next.Go (stage.Act v)) = Some (v, 0)
-acting (next.Go (stage.Give a)) = Some (a.leaf, a.given)
+abbrev acting : Sequel → Option (View × ℕ)
+acting (sequel.Go (stage.Act v)) = Some (v, 0)
+acting (sequel.Go (stage.Give a)) = Some (a.leaf, a.given)
 acting other = None
 
 -- the stage is neither that of a change nor one that gives pairs
@@ -47,8 +47,8 @@ HasNoLeaf (stage.Give a) = ⊥
 HasNoLeaf other = Unit {0}
 
 -- the reply where the call is decided
-abbrev deciding : Next → Option Reply
-deciding (next.Decided reply) = Some reply
+abbrev deciding : Sequel → Option Reply
+deciding (sequel.Decided reply) = Some reply
 deciding other = None
 
 -- the stage reads a page
@@ -60,22 +60,22 @@ IsReading (stage.Seek a) = Unit {0}
 IsReading other = ⊥
 
 -- What comes next is of one of these kinds. An action of a repair leads to none of it
-module _ {X : Type 0} (kind : Next → Option X) (x : X) (n : Next) (is : kind n ≡ Some x) where
-  none_of : {P : Type 0} (m : Next) → n ≡ m → kind m ≡ None → P
+module _ {X : Type 0} (kind : Sequel → Option X) (x : X) (n : Sequel) (is : kind n ≡ Some x) where
+  none_of : {P : Type 0} (m : Sequel) → n ≡ m → kind m ≡ None → P
   none_of m e none = none_some (sym none ∙ sym (ap kind e) ∙ is)
 
-  module _ (refused : (e : Error) → kind (next.Refused e) ≡ None) where
+  module _ (refused : (e : Error) → kind (sequel.Refused e) ≡ None) where
     or_refused : {P : Type 0} {old new : Store} {comes : Type 0} → OrRefused old new n comes → (comes → P) → P
     or_refused (inl c) f = f c
     or_refused (inr r) f = none_of _ r.1 (refused r.0)
 
-    module _ (goes : (a : Stage) → HasNoLeaf a → kind (next.Go a) ≡ None) where
-      taken : {P : Type 0} {change : Node → Node} {pid version : ℕ} {old new : Store} {took : ℕ → Next} {late : Option ℕ → Next}
+    module _ (goes : (a : Stage) → HasNoLeaf a → kind (sequel.Go a) ≡ None) where
+      taken : {P : Type 0} {change : Node → Node} {pid version : ℕ} {old new : Store} {took : ℕ → Sequel} {late : Option ℕ → Sequel}
           → ((given : ℕ) → kind (took given) ≡ None) → ((present : Option ℕ) → kind (late present) ≡ None) → TakesWay change pid version old new n took late → P
       taken t l (inl k) = none_of _ k.2 (t k.0)
       taken t l (inr k) = none_of _ k.2 (l k.0)
 
-      root : kind (next.Go stage.Root) ≡ None
+      root : kind (sequel.Go stage.Root) ≡ None
       root = goes stage.Root tt
 
       shortened_none : (a : InstallLeft) (p : Posting) → kind (after_install_left a p) ≡ None
@@ -115,16 +115,16 @@ module _ {X : Type 0} (kind : Next → Option X) (x : X) (n : Next) (is : kind n
       reads_or_acts j old new (stage.Confirm a) f = or_refused f (taken (λ given. goes _ tt) (λ present. root))
 
 -- a call that is decided elsewhere than by its change is decided at a read, which leaves the store as it is
-pub decided_law : (j : Course) (old new : Store) (a : Stage) (reply : Reply) → Follows j old a (next.Decided reply) new → (IsReading a × (new ≡ old)) ⊎ ((v : View) × (a ≡ stage.Act v))
-decided_law j old new a reply f = reads_or_acts deciding reply (next.Decided reply) refl (λ e. refl) (λ b plain. refl) j old new a f.is
+pub decided_law : (j : Course) (old new : Store) (a : Stage) (reply : Reply) → Follows j old a (sequel.Decided reply) new → (IsReading a × (new ≡ old)) ⊎ ((v : View) × (a ≡ stage.Act v))
+decided_law j old new a reply f = reads_or_acts deciding reply (sequel.Decided reply) refl (λ e. refl) (λ b plain. refl) j old new a f.is
 
 -- the leaf stands as it was read, and nothing of it was given
 abbrev IsLeafNow : Store → View × ℕ → Type 0
 IsLeafNow s v = IsUnchanged (now s) v.0 × (v.1 ≡ 0)
 
-module _ (v : View × ℕ) (n : Next) (is : acting n ≡ Some v) where
+module _ (v : View × ℕ) (n : Sequel) (is : acting n ≡ Some v) where
   -- nothing else comes next
-  off : {P : Type 0} (m : Next) → n ≡ m → acting m ≡ None → P
+  off : {P : Type 0} (m : Sequel) → n ≡ m → acting m ≡ None → P
   off m e none = none_some (sym none ∙ sym (ap acting e) ∙ is)
 
   resumed_off : {P : Type 0} (u : View) (child : ℕ) (before : Option ℕ) → n ≡ resumed u child before → P
@@ -214,13 +214,13 @@ module _ (v : View × ℕ) (n : Next) (is : acting n ≡ Some v) where
       go (Some child) r = resumed_off u child r.before r.is
 
   -- the page that was read is the leaf, and stands as it was read
-  page_at : (s : Store) (pid : ℕ) (found : View → Next → Type 0) → ((u : View) → found u n → (u, 0) ≡ v) → FollowsPage s pid found n → IsLeafNow s v
+  page_at : (s : Store) (pid : ℕ) (found : View → Sequel → Type 0) → ((u : View) → found u n → (u, 0) ≡ v) → FollowsPage s pid found n → IsLeafNow s v
   page_at s pid found at f = elim f.is [
     | inl r ↦ go ((now s).pages pid) refl r.1
     | inr r ↦ off _ r.1 refl
   ]
     where
-      go : (o : Option Page) → (now s).pages pid ≡ o → MatchOption (view_of pid o) (n ≡ next.Go stage.Root) (λ u. found u n) → IsLeafNow s v
+      go : (o : Option Page) → (now s).pages pid ≡ o → MatchOption (view_of pid o) (n ≡ sequel.Go stage.Root) (λ u. found u n) → IsLeafNow s v
       go None live e = off _ e refl
       go (Some g) live f = subst (λ (x : View × ℕ). IsLeafNow s x) (at _ f) (live, refl)
 
@@ -232,7 +232,7 @@ module _ (v : View × ℕ) (n : Next) (is : acting n ≡ Some v) where
   act_off : {P : Type 0} (j : Course) (old new : Store) (u : View) → LinksChange j old new u n → P
   act_off {P} j old new u f = go (link_of (decision_at f.operator j.call u.node.content).effect (key_of j.call)) f.is
     where
-      go : (link : Option Link) → MatchOption link ((new ≡ old) × (n ≡ next.Go stage.Root)) (λ l. TakesWay (after_link l) u.pid u.version old new n (λ _. next.Decided (decision_at f.operator j.call u.node.content).reply) (λ _. next.Go stage.Root)) → P
+      go : (link : Option Link) → MatchOption link ((new ≡ old) × (n ≡ sequel.Go stage.Root)) (λ l. TakesWay (after_link l) u.pid u.version old new n (λ _. sequel.Decided (decision_at f.operator j.call u.node.content).reply) (λ _. sequel.Go stage.Root)) → P
       go None e = off _ e.1 refl
       go (Some l) (inl k) = off _ k.2 refl
       go (Some l) (inr k) = off _ k.2 refl
@@ -250,17 +250,17 @@ module _ (v : View × ℕ) (n : Next) (is : acting n ≡ Some v) where
   unchanged_at j old new other f (inl r) = absurd r.0
 
 abbrev LeafLaw : Type 0
-LeafLaw = (j : Course) (old new : Store) (a b : Stage) (v : View × ℕ) → acting (next.Go b) ≡ Some v → Follows j old a (next.Go b) new → (new ≡ old) × IsLeafNow new v
+LeafLaw = (j : Course) (old new : Store) (a b : Stage) (v : View × ℕ) → acting (sequel.Go b) ≡ Some v → Follows j old a (sequel.Go b) new → (new ≡ old) × IsLeafNow new v
 
 -- a call that comes to a leaf comes to it by the read of the leaf, which stands as it was read
 leaf_law : LeafLaw
-leaf_law j old new a b v is f = unchanged_at v (next.Go b) is j old new a f.is (reads_or_acts acting v (next.Go b) is (λ e. refl) plainly j old new a f.is)
+leaf_law j old new a b v is f = unchanged_at v (sequel.Go b) is j old new a f.is (reads_or_acts acting v (sequel.Go b) is (λ e. refl) plainly j old new a f.is)
   where
-    plainly : (c : Stage) → HasNoLeaf c → acting (next.Go c) ≡ None
+    plainly : (c : Stage) → HasNoLeaf c → acting (sequel.Go c) ≡ None
     plainly (stage.Act u) plain = absurd plain
     plainly (stage.Give u) plain = absurd plain
     plainly other plain = refl
 
 -- so it is of a scan that comes to the pairs that it gives
-pub give_law : (j : Course) (old new : Store) (a : Stage) (b : Giving) → Follows j old a (next.Go (stage.Give b)) new → (new ≡ old) × (IsUnchanged (now new) b.leaf × (b.given ≡ 0))
+pub give_law : (j : Course) (old new : Store) (a : Stage) (b : Giving) → Follows j old a (sequel.Go (stage.Give b)) new → (new ≡ old) × (IsUnchanged (now new) b.leaf × (b.given ≡ 0))
 give_law j old new a b f = leaf_law j old new a (stage.Give b) (b.leaf, b.given) refl f

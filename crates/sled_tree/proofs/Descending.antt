@@ -24,8 +24,8 @@ use Rattle.sled_tree.specs.Follows.{follows_here, Follows, FollowsPage, OrNoMemo
 use Rattle.sled_tree.specs.declared.walk.Descent.TheVariants as descent
 use Rattle.sled_tree.specs.declared.flight.InFlight.{InFlight}
 use Rattle.sled_tree.specs.Course.{Course, course_of}
-use Rattle.sled_tree.specs.declared.flight.Next.{Next}
-use Rattle.sled_tree.specs.declared.flight.Next.TheVariants.{Go, Decided, Refused}
+use Rattle.sled_tree.specs.declared.flight.Sequel.{Sequel}
+use Rattle.sled_tree.specs.declared.flight.Sequel.TheVariants.{Go, Decided, Refused}
 use Rattle.tree_laws.specs.declared.flight.Stage.{Stage}
 use Rattle.tree_laws.specs.declared.flight.Stage.TheVariants as stage
 use Rattle.tree_laws.specs.declared.flight.Walk.{Walk}
@@ -40,21 +40,21 @@ use Rattle.sled_tree.proofs.Following.{opened}
 use Rattle.sled_tree.proofs.Passing.{not_behind, no_root, shut_pointless, root_gone, cursor_gone, root_passes, cursor_passes, down_passes, leaf_passes, kept_passes}
 
 -- a page that was read says what comes
-page_follows : (s : Store) (pid : ℕ) (found : View → Next → Type 0) (view : View) (next : Next) → s.is_readable pid ≡ true → Some view ≡ view_of pid ((now s).pages pid) → found view next → FollowsPage s pid found next
+page_follows : (s : Store) (pid : ℕ) (found : View → Sequel → Type 0) (view : View) (next : Sequel) → s.is_readable pid ≡ true → Some view ≡ view_of pid ((now s).pages pid) → found view next → FollowsPage s pid found next
 page_follows s pid found view next readable read f = record { is = inl (readable, subst (λ o. MatchOption o (next ≡ Go stage.Root) (λ v. found v next)) read f) }
 
 -- and so does that there is none
-gone_follows : (s : Store) (pid : ℕ) (found : View → Next → Type 0) → s.is_readable pid ≡ true → None ≡ view_of pid ((now s).pages pid) → FollowsPage s pid found (Go stage.Root)
+gone_follows : (s : Store) (pid : ℕ) (found : View → Sequel → Type 0) → s.is_readable pid ≡ true → None ≡ view_of pid ((now s).pages pid) → FollowsPage s pid found (Go stage.Root)
 gone_follows s pid found readable read = record { is = inl (readable, subst (λ o. MatchOption o (Go stage.Root ≡ Go stage.Root) (λ v. found v (Go stage.Root))) read refl) }
 
 -- what comes of a page where nothing is to be repaired is what comes of its content
-settled_follows : (j : Course) (view : View) (by : Reached) (next : Next) → (RepairsParent by (count view.node.content) → ⊥) → follows_content view.node.content j view next → follows_here j view by next
+settled_follows : (j : Course) (view : View) (by : Reached) (next : Sequel) → (RepairsParent by (count view.node.content) → ⊥) → follows_content view.node.content j view next → follows_here j view by next
 settled_follows j view reached.Root next settled f = f
 settled_follows j view (reached.FirstPointer parent) next settled f = f
 settled_follows j view (reached.LaterPointer parent) next settled f = inr (settled, f)
 settled_follows j view (reached.Next parent) next settled f = absurd (settled tt)
 
-clean_follows : (j : Course) (view : View) (by : Reached) (next : Next) → IsClean j by view → follows_content view.node.content j view next → follows_read j view by next
+clean_follows : (j : Course) (view : View) (by : Reached) (next : Sequel) → IsClean j by view → follows_content view.node.content j view next → follows_read j view by next
 clean_follows j view by next clean f = opened j view by next clean.not_merging clean.free (inr (
   (λ long. absurd (not_long clean.fits long)),
   inr (not_behind view.node j.aim clean.under, inl (clean.under, settled_follows j view by next clean.settled f)),
@@ -64,7 +64,7 @@ clean_follows j view by next clean f = opened j view by next clean.not_merging c
     not_long fits long = omega (arith, fits, long)
 
 -- at a leaf
-leaf_follows : (j : Course) (view : View) (next : Next) (d : Data) → IsLeaf d → follows_leaf j view next → follows_content d j view next
+leaf_follows : (j : Course) (view : View) (next : Sequel) (d : Data) → IsLeaf d → follows_leaf j view next → follows_content d j view next
 leaf_follows j view next (Leaf es) is f = f
 leaf_follows j view next (Index es) is f = absurd is
 
@@ -93,7 +93,7 @@ module _ (j : Course) (s : Store) where
 
   -- the root of a tree is read,
   module _ (name : Key) (root : Option ℕ) (pid : ℕ) (called : name ≡ j.tree.name) (is_root : root ≡ (now s).roots name) (is_some : root ≡ Some pid) where
-    at_root : (next : Next) → FollowsPage s pid (λ v. follows_read j v reached.Root) next → Follows j s stage.Root next s
+    at_root : (next : Sequel) → FollowsPage s pid (λ v. follows_read j v reached.Root) next → Follows j s stage.Root next s
     at_root next f = record { is = (refl, subst (λ o. follows_root j s o next) (sym is_some ∙ (is_root ∙ ap (now s).roots called)) f) }
 
     root_met_as : (found : Result (Option View) Error) → IsAnswer s pid found → met_as s j stage.Root found
@@ -181,7 +181,7 @@ module _ (s : Store) (f : InFlight) where
 
   -- at the leaf a scan keeps it,
   module _ (view : View) (leaf : IsLeaf view.node.content) (clean : IsClean (course_of f) (way_of f.stage) view) (m : Meets s (course_of f) f.stage view) where
-    at_leaf_follows : (next : Next) → follows_leaf (course_of f) view next → Follows (course_of f) s f.stage next s
+    at_leaf_follows : (next : Sequel) → follows_leaf (course_of f) view next → Follows (course_of f) s f.stage next s
     at_leaf_follows next t = m.follows next (clean_follows (course_of f) view (way_of f.stage) next clean (leaf_follows (course_of f) view next _ leaf t))
 
     pub comes_to_give : is_none (range_of f.job.call) ≡ false → Settles s f went.Moved (record { job = f.job; aim = f.aim; stage = stage.Give (record { leaf = view; given = 0 }); turns = f.turns + 1 })
@@ -195,7 +195,7 @@ module _ (s : Store) (f : InFlight) where
         go None none = true_false none
         go (Some range) some = refl
 
-    on_key_follows : IsOnKey f.job.call → (next : Next) → OrNoMemory next (done_at view (reply_at f.job.call view.node.content)) → Follows (course_of f) s f.stage next s
+    on_key_follows : IsOnKey f.job.call → (next : Sequel) → OrNoMemory next (done_at view (reply_at f.job.call view.node.content)) → Follows (course_of f) s f.stage next s
     on_key_follows on_key next t = at_leaf_follows next (subst (λ r. follows_leaf_as r (course_of f) view next) (sym on_key) t)
 
     -- and a call on a key goes on to its change,

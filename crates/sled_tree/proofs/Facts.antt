@@ -26,8 +26,8 @@ use Rattle.tree_laws.proofs.Known.{goes_same, root_in}
 use Rattle.sled_tree.specs.Course.{Course, course_of}
 use Rattle.tree_laws.specs.declared.flight.Stage.{Stage}
 use Rattle.tree_laws.specs.declared.flight.Stage.TheVariants as stage
-use Rattle.sled_tree.specs.declared.flight.Next.{Next}
-use Rattle.sled_tree.specs.declared.flight.Next.TheVariants as next
+use Rattle.sled_tree.specs.declared.flight.Sequel.{Sequel}
+use Rattle.sled_tree.specs.declared.flight.Sequel.TheVariants as sequel
 use Rattle.sled_tree.specs.declared.flight.InFlight.{InFlight}
 use Rattle.sled_tree.specs.declared.flight.Went.{Went}
 use Rattle.sled_tree.specs.declared.flight.Went.TheVariants as went
@@ -61,10 +61,10 @@ leaves_same mine own s v kept = record {
 }
 
 -- .. nor does a read of a call that owns none
-pub leaves_read : (mine : List ℕ) (n : Next) (s : State) (v : Forest) → mine ≡ [] → leaks_no_page_as n mine s s v
-leaves_read mine (next.Go b) s v none = leaves_same mine (owned b) s v (λ q i. absurd (subst (In q) none i))
-leaves_read mine (next.Decided reply) s v none = leaves_same mine [] s v (λ q i. subst (In q) none i)
-leaves_read mine (next.Refused e) s v none = tt
+pub leaves_read : (mine : List ℕ) (n : Sequel) (s : State) (v : Forest) → mine ≡ [] → leaks_no_page_as n mine s s v
+leaves_read mine (sequel.Go b) s v none = leaves_same mine (owned b) s v (λ q i. absurd (subst (In q) none i))
+leaves_read mine (sequel.Decided reply) s v none = leaves_same mine [] s v (λ q i. subst (In q) none i)
+leaves_read mine (sequel.Refused e) s v none = tt
 
 -- a page changes, and is not rid of a merging child but to the call
 pub leaves_replaced : (mine own : List ℕ) (m : Snapshot) (p : ℕ) (g n : Page) (v : Forest) → m.state.pages p ≡ Some g → ((c : ℕ) → g.node.merging_child ≡ Some c → In c own)
@@ -133,7 +133,7 @@ leaves_freed m p v = record {
 -- what comes of an action that does nothing
 pub stays : (j : Course) (s : Store) (a b : Stage) → ((q : ℕ) → In q (owned b) → In q (owned a)) → ((q : ℕ) → In q (owned a) → In q (owned b)) → changes_at j b
     → ((m : Snapshot) (w : Forest) → HasForest m w → m.numbers j.tree.name ≡ Some j.tree.number → IsStage m w j.tree.name j.tree.number j.aim a → IsStage m w j.tree.name j.tree.number j.aim b)
-    → StageAction j s a (next.Go b) s
+    → StageAction j s a (sequel.Go b) s
 stays j s a b from to plain known = record {
   touches = inl refl;
   is = λ numbers given w is named k.
@@ -142,7 +142,7 @@ stays j s a b from to plain known = record {
 }
 
 -- the call begins again, where it owns no page
-pub restarts : (j : Course) (s : Store) (a : Stage) → ((q : ℕ) → In q (owned a) → ⊥) → StageAction j s a (next.Go stage.Root) s
+pub restarts : (j : Course) (s : Store) (a : Stage) → ((q : ℕ) → In q (owned a) → ⊥) → StageAction j s a (sequel.Go stage.Root) s
 restarts j s a none = stays j s a stage.Root (λ q i. absurd i) none tt (λ m w is named k. tt)
 
 -- a store that counted a fault shows the same moment
@@ -156,7 +156,7 @@ same_moment old new numbers given (error.ReportableBug text) t = absurd t
 same_moment old new numbers given (error.Corruption fault) t = absurd t
 same_moment old new numbers given error.Closed t = absurd t
 
-refuses : (j : Course) (old new : Store) (a : Stage) (e : Error) → is_action_refused_as e old new → StageAction j old a (next.Refused e) new
+refuses : (j : Course) (old new : Store) (a : Stage) (e : Error) → is_action_refused_as e old new → StageAction j old a (sequel.Refused e) new
 refuses j old new a e t = record {
   touches = t;
   is = λ numbers given w is named k.
@@ -169,7 +169,7 @@ refuses j old new a e t = record {
 }
 
 -- a call of the store is refused,
-pub refused : (j : Course) (old new : Store) (a : Stage) (e : Error) → IsRefused e old new → StageAction j old a (next.Refused e) new
+pub refused : (j : Course) (old new : Store) (a : Stage) (e : Error) → IsRefused e old new → StageAction j old a (sequel.Refused e) new
 refused j old new a e r = refuses j old new a e (go e r.is)
   where
     go : (e : Error) → Rattle.sled_store.specs.Store.is_refused_as e old new → is_action_refused_as e old new
@@ -182,7 +182,7 @@ refused j old new a e r = refuses j old new a e (go e r.is)
     go error.Closed t = absurd t
 
 -- a read is,
-pub unread : (j : Course) (s : Store) (a : Stage) (pid : ℕ) (e : Error) → IsReadRefused pid s e → StageAction j s a (next.Refused e) s
+pub unread : (j : Course) (s : Store) (a : Stage) (pid : ℕ) (e : Error) → IsReadRefused pid s e → StageAction j s a (sequel.Refused e) s
 unread j s a pid e r = refuses j s s a e (go e r.is)
   where
     go : (e : Error) → Rattle.sled_store.specs.Store.is_read_refused_as pid s e → is_action_refused_as e s s
@@ -195,14 +195,14 @@ unread j s a pid e r = refuses j s s a e (go e r.is)
     go error.Closed t = absurd t
 
 -- or there is no memory
-pub unable : (j : Course) (s : Store) (a : Stage) (e : Error) → e ≡ error.NoMemory → StageAction j s a (next.Refused e) s
-unable j s a e none = subst (λ z. StageAction j s a (next.Refused z) s) (sym none) (refuses j s s a error.NoMemory refl)
+pub unable : (j : Course) (s : Store) (a : Stage) (e : Error) → e ≡ error.NoMemory → StageAction j s a (sequel.Refused e) s
+unable j s a e none = subst (λ z. StageAction j s a (sequel.Refused z) s) (sym none) (refuses j s s a error.NoMemory refl)
 
 -- a changing action after which the call goes on
 pub moves_on : (j : Course) (old new : Store) (a b : Stage) → ActsOnce old new → changes_at j b
     → ((numbers : Tree → Option ℕ) (given : ℕ → Bool) (w : Forest) → HasForest (snapshot_of old numbers given) w → numbers j.tree.name ≡ Some j.tree.number → IsStage (snapshot_of old numbers given) w j.tree.name j.tree.number j.aim a
     → (m : Snapshot) × (snapshot_of new numbers given ≡ m) × (v : Forest) × StageActionLaw (snapshot_of old numbers given) w m v j.tree.name j.tree.number j.aim a b × LeaksNoPage (owned a) (owned b) (now old) m.state v)
-    → StageAction j old a (next.Go b) new
+    → StageAction j old a (sequel.Go b) new
 moves_on j old new a b once plain known = record {
   touches = inr once;
   is = λ numbers given w is named k.
@@ -247,8 +247,8 @@ long_enough b c told is = more c (told.0 is).0
     more c h = omega arith
 
 -- the page had changed, and the call begins again
-pub stale : (j : Course) (old new : Store) (a : Stage) {change : Node → Node} {pid version : ℕ} {present : Option ℕ} → ((q : ℕ) → In q (owned a) → ⊥) → Changes change pid version old new (Err present) → StageAction j old a (next.Go stage.Root) new
-stale j old new a none c = subst (λ (s : Store). StageAction j old a (next.Go stage.Root) s) (sym c.is.0) (restarts j old a none)
+pub stale : (j : Course) (old new : Store) (a : Stage) {change : Node → Node} {pid version : ℕ} {present : Option ℕ} → ((q : ℕ) → In q (owned a) → ⊥) → Changes change pid version old new (Err present) → StageAction j old a (sequel.Go stage.Root) new
+stale j old new a none c = subst (λ (s : Store). StageAction j old a (sequel.Go stage.Root) s) (sym c.is.0) (restarts j old a none)
 
 -- the key lies before where it is not beyond
 pub not_up_to : (a b : Key) → (UpTo a b → ⊥) → Below b a
@@ -264,11 +264,11 @@ pub live_view : (s : Store) (pid : ℕ) (v : View) → Some v ≡ view_of pid ((
 live_view s pid v e = let k = viewed pid ((now s).pages pid) v e in ap (now s).pages k.0 ∙ k.1
 
 -- a step after which the call goes on
-pub goes_on : {by : Option Operator → Type 0} (old new : Store) (f : InFlight) (taken stage : Stage) (n : Next) → taken ≡ f.stage → n ≡ next.Go stage → StageActionBy by (course_of f) old taken n new → FlightStepBy by old f went.Moved new (record { job = f.job; aim = f.aim; stage = stage; turns = f.turns + 1 })
-goes_on {by} old new f taken stage n e is m = record { is = (refl, refl, refl, subst (λ z. StageActionBy by (course_of f) old z (next.Go stage) new) e (subst (λ z. StageActionBy by (course_of f) old taken z new) is m)) }
+pub goes_on : {by : Option Operator → Type 0} (old new : Store) (f : InFlight) (taken stage : Stage) (n : Sequel) → taken ≡ f.stage → n ≡ sequel.Go stage → StageActionBy by (course_of f) old taken n new → FlightStepBy by old f went.Moved new (record { job = f.job; aim = f.aim; stage = stage; turns = f.turns + 1 })
+goes_on {by} old new f taken stage n e is m = record { is = (refl, refl, refl, subst (λ z. StageActionBy by (course_of f) old z (sequel.Go stage) new) e (subst (λ z. StageActionBy by (course_of f) old taken z new) is m)) }
 
 -- what is decided by whichever operator is decided by these
-pub by_these : {by : Option Operator → Type 0} (j : Course) (old new : Store) (a : Stage) (n : Next) → StageAction j old a n new → StageActionBy by j old a n new
+pub by_these : {by : Option Operator → Type 0} (j : Course) (old new : Store) (a : Stage) (n : Sequel) → StageAction j old a n new → StageActionBy by j old a n new
 by_these {by} j old new a n s = record {
   touches = s.touches;
   is = λ numbers given w is named k.
@@ -276,13 +276,13 @@ by_these {by} j old new a n s = record {
       (r.0, r.1, go n (snapshot_of old numbers given) w (snapshot_of new numbers given) r.0 r.2, r.3);
 }
   where
-    go : (n : Next) (m : Snapshot) (w : Forest) (l : Snapshot) (v : Forest) → StageOutcome Whichever j old new m w n l v → StageOutcome by j old new m w n l v
-    go (next.Go stage) m w l v o = o
-    go (next.Decided reply) m w l v o = λ operator these. o operator tt
-    go (next.Refused e) m w l v o = o
+    go : (n : Sequel) (m : Snapshot) (w : Forest) (l : Snapshot) (v : Forest) → StageOutcome Whichever j old new m w n l v → StageOutcome by j old new m w n l v
+    go (sequel.Go stage) m w l v o = o
+    go (sequel.Decided reply) m w l v o = λ operator these. o operator tt
+    go (sequel.Refused e) m w l v o = o
 
 pub flies_by_these : {by : Option Operator → Type 0} (old new : Store) (f g : InFlight) (w : Went) → FlightStep old f w new g → FlightStepBy by old f w new g
-flies_by_these old new f g went.Moved s = record { is = (s.is.0, s.is.1, s.is.2, by_these (course_of f) old new f.stage (next.Go g.stage) s.is.3) }
+flies_by_these old new f g went.Moved s = record { is = (s.is.0, s.is.1, s.is.2, by_these (course_of f) old new f.stage (sequel.Go g.stage) s.is.3) }
 flies_by_these old new f g (went.Yielded key value) s = absurd s.is
-flies_by_these old new f g (went.Decided reply) s = record { is = by_these (course_of f) old new f.stage (next.Decided reply) s.is }
-flies_by_these old new f g (went.Refused e) s = record { is = by_these (course_of f) old new f.stage (next.Refused e) s.is }
+flies_by_these old new f g (went.Decided reply) s = record { is = by_these (course_of f) old new f.stage (sequel.Decided reply) s.is }
+flies_by_these old new f g (went.Refused e) s = record { is = by_these (course_of f) old new f.stage (sequel.Refused e) s.is }

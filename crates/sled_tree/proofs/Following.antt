@@ -6,14 +6,14 @@ use Rattle.sled_nodes.specs.Order.{Key}
 use Rattle.sled_nodes.specs.Node.{count}
 use Rattle.sled_store.specs.declared.page.View.{View}
 use Rattle.sled_tree.specs.Course.{Course}
-use Rattle.sled_tree.specs.declared.flight.Next.{Next}
-use Rattle.sled_tree.specs.declared.flight.Next.TheVariants.{Go}
+use Rattle.sled_tree.specs.declared.flight.Sequel.{Sequel}
+use Rattle.sled_tree.specs.declared.flight.Sequel.TheVariants.{Go}
 use Rattle.tree_laws.specs.Snapshot.{LiesUnder}
 use Rattle.tree_laws.specs.declared.flight.Stage.TheVariants as stage
 use Rattle.tree_laws.specs.declared.flight.Reached.{Reached}
 use Rattle.sled_tree.specs.Follows.{follows_read, follows_not_merging, follows_open, follows_here, EndsWithin}
 
-module _ (j : Course) (v : View) (by : Reached) (n : Next) (not_merging : v.node.merging ≡ false) (free : v.node.merging_child ≡ None) where
+module _ (j : Course) (v : View) (by : Reached) (n : Sequel) (not_merging : v.node.merging ≡ false) (free : v.node.merging_child ≡ None) where
   pub opened : follows_open j v by n → follows_read j v by n
   opened f = inr ((λ m. true_false (sym m ∙ not_merging)), subst (λ o. follows_not_merging o j v by n) (sym free) f)
 

@@ -24,7 +24,7 @@ use Rattle.sled_tree.specs.theory.Linking.{IsAtLink, begun_again, StepsBy, went_
 use Rattle.sled_tree.specs.theory.StageAction.{StageAction, StageActionBy, Only}
 use Rattle.sled_tree.specs.declared.act.Change.{Change}
 use Rattle.sled_tree.specs.declared.flight.InFlight.{InFlight}
-use Rattle.sled_tree.specs.declared.flight.Next.TheVariants as next
+use Rattle.sled_tree.specs.declared.flight.Sequel.TheVariants as sequel
 use Rattle.sled_tree.specs.declared.flight.Went.{Went}
 use Rattle.sled_tree.specs.declared.flight.Went.TheVariants as went
 use Rattle.sled_tree.proofs.Acting.{act_moves, links_follows, late_follows}
@@ -45,37 +45,37 @@ module _ (link : Link) (a b : Store) (f : InFlight) (view : View) (here : f.stag
   pub link_refused : (e : Error) (g : InFlight) → IsRefused e a b → LinksAtLeaf link a f (Err e) b g
   link_refused e g r = record {
     is = λ operator reply p. record {
-      advances = record { is = subst (λ z. StageActionBy (Only operator) (course_of f) a z (next.Refused e) b) (sym here) (by_these (course_of f) a b (stage.Act view) (next.Refused e) moves) };
+      advances = record { is = subst (λ z. StageActionBy (Only operator) (course_of f) a z (sequel.Refused e) b) (sym here) (by_these (course_of f) a b (stage.Act view) (sequel.Refused e) moves) };
       passes = record { is = tt };
-      follows = record { is = subst (λ z. Follows (course_of f) a z (next.Refused e) b) (sym here) (record { is = inr (e, refl, r) }) };
+      follows = record { is = subst (λ z. Follows (course_of f) a z (sequel.Refused e) b) (sym here) (record { is = inr (e, refl, r) }) };
     };
     touches = moves.touches;
     again = λ late. absurd (no_answer e (Err e) refl late);
   }
     where
-      moves : StageAction (course_of f) a (stage.Act view) (next.Refused e) b
+      moves : StageAction (course_of f) a (stage.Act view) (sequel.Refused e) b
       moves = refused (course_of f) a b (stage.Act view) e r
 
   pub link_late : (present : Option ℕ) → Changes (after_link link) view.pid view.version a b (Err present) → LinksAtLeaf link a f (Ok false) b (begun_again f)
   link_late present c = record {
     is = λ operator reply p. record {
-      advances = goes_on a b f (stage.Act view) stage.Root (next.Go stage.Root) (sym here) refl (by_these (course_of f) a b (stage.Act view) (next.Go stage.Root) moves);
-      passes = passes_further (now a) (now b) f (stage.Act view) stage.Root (next.Go stage.Root) (sym here) refl (act_current (course_of f) a b view (next.Go stage.Root) c);
-      follows = record { is = subst (λ z. Follows (course_of f) a z (next.Go stage.Root) b) (sym here) (record { is = inl (late_follows operator (course_of f) a b view (with_reply reply) (p.is view here) present c) }) };
+      advances = goes_on a b f (stage.Act view) stage.Root (sequel.Go stage.Root) (sym here) refl (by_these (course_of f) a b (stage.Act view) (sequel.Go stage.Root) moves);
+      passes = passes_further (now a) (now b) f (stage.Act view) stage.Root (sequel.Go stage.Root) (sym here) refl (act_current (course_of f) a b view (sequel.Go stage.Root) c);
+      follows = record { is = subst (λ z. Follows (course_of f) a z (sequel.Go stage.Root) b) (sym here) (record { is = inl (late_follows operator (course_of f) a b view (with_reply reply) (p.is view here) present c) }) };
     };
     touches = moves.touches;
     again = λ late. refl;
   }
     where
-      moves : StageAction (course_of f) a (stage.Act view) (next.Go stage.Root) b
+      moves : StageAction (course_of f) a (stage.Act view) (sequel.Go stage.Root) b
       moves = stale (course_of f) a b (stage.Act view) (λ q i. i) c
 
   pub link_done : (given : ℕ) (g : InFlight) → Changes (after_link link) view.pid view.version a b (Ok given) → LinksAtLeaf link a f (Ok true) b g
   link_done given g c = record {
     is = λ operator reply p. record {
-      advances = record { is = subst (λ z. StageActionBy (Only operator) (course_of f) a z (next.Decided reply) b) (sym here) (act_moves operator (course_of f) a b view (with_reply reply) given (p.is view here) c) };
+      advances = record { is = subst (λ z. StageActionBy (Only operator) (course_of f) a z (sequel.Decided reply) b) (sym here) (act_moves operator (course_of f) a b view (with_reply reply) given (p.is view here) c) };
       passes = record { is = tt };
-      follows = record { is = subst (λ z. Follows (course_of f) a z (next.Decided reply) b) (sym here) (record { is = inl (links_follows operator (course_of f) a b view (with_reply reply) (p.is view here) given c) }) };
+      follows = record { is = subst (λ z. Follows (course_of f) a z (sequel.Decided reply) b) (sym here) (record { is = inl (links_follows operator (course_of f) a b view (with_reply reply) (p.is view here) given c) }) };
     };
     touches = inr (once_acts c.is.2);
     again = λ late. absurd (not_late (Ok true) refl late);
@@ -100,21 +100,21 @@ module _ (operator : Option Operator) (a : Store) (f : InFlight) (view : View) (
   -- there is no memory
   pub unprepared : (e : Error) (g : InFlight) → e ≡ NoMemory → StepsBy operator a f (went.Refused e) a g
   unprepared e g none = record {
-    advances = record { is = subst (λ z. StageActionBy (Only operator) (course_of f) a z (next.Refused e) a) (sym here) (by_these (course_of f) a a (stage.Act view) (next.Refused e) (unable (course_of f) a (stage.Act view) e none)) };
+    advances = record { is = subst (λ z. StageActionBy (Only operator) (course_of f) a z (sequel.Refused e) a) (sym here) (by_these (course_of f) a a (stage.Act view) (sequel.Refused e) (unable (course_of f) a (stage.Act view) e none)) };
     passes = record { is = tt };
-    follows = record { is = subst (λ z. Follows (course_of f) a z (next.Refused e) a) (sym here) (record { is = inr (e, refl, subst (λ z. IsRefused z a a) (sym none) (record { is = refl })) }) };
+    follows = record { is = subst (λ z. Follows (course_of f) a z (sequel.Refused e) a) (sym here) (record { is = inr (e, refl, subst (λ z. IsRefused z a a) (sym none) (record { is = refl })) }) };
   }
 
   -- the call changes nothing
   pub unchanged : IsChangeOf operator f.job.call view.node.content None → StepsBy operator a f went.Moved a (begun_again f)
   unchanged p = record {
-    advances = goes_on a a f (stage.Act view) stage.Root (next.Go stage.Root) (sym here) refl (by_these (course_of f) a a (stage.Act view) (next.Go stage.Root) (restarts (course_of f) a (stage.Act view) (λ q i. i)));
-    passes = passes_further (now a) (now a) f (stage.Act view) stage.Root (next.Go stage.Root) (sym here) refl (act_changes operator (course_of f) (now a) (now a) view (next.Go stage.Root) p);
+    advances = goes_on a a f (stage.Act view) stage.Root (sequel.Go stage.Root) (sym here) refl (by_these (course_of f) a a (stage.Act view) (sequel.Go stage.Root) (restarts (course_of f) a (stage.Act view) (λ q i. i)));
+    passes = passes_further (now a) (now a) f (stage.Act view) stage.Root (sequel.Go stage.Root) (sym here) refl (act_changes operator (course_of f) (now a) (now a) view (sequel.Go stage.Root) p);
     follows = record {
-      is = subst (λ z. Follows (course_of f) a z (next.Go stage.Root) a) (sym here) (record {
+      is = subst (λ z. Follows (course_of f) a z (sequel.Go stage.Root) a) (sym here) (record {
         is = inl (record {
           operator = operator;
-          is = subst (λ (e : Effect). MatchOption (link_of e (key_of f.job.call)) ((a ≡ a) × (next.Go stage.Root ≡ next.Go stage.Root)) (λ link. TakesWay (after_link link) view.pid view.version a a (next.Go stage.Root) (λ _. next.Decided (decision_at operator f.job.call view.node.content).reply) (λ _. next.Go stage.Root))) (sym p) (refl, refl);
+          is = subst (λ (e : Effect). MatchOption (link_of e (key_of f.job.call)) ((a ≡ a) × (sequel.Go stage.Root ≡ sequel.Go stage.Root)) (λ link. TakesWay (after_link link) view.pid view.version a a (sequel.Go stage.Root) (λ _. sequel.Decided (decision_at operator f.job.call view.node.content).reply) (λ _. sequel.Go stage.Root))) (sym p) (refl, refl);
         });
       });
     };

@@ -28,8 +28,8 @@ use Rattle.sled_tree.specs.theory.Stages.{IsElsewhere}
 use Rattle.sled_tree.specs.theory.Passing.{AdvancesOnPath, AdvancesFromPage}
 use Rattle.sled_tree.specs.declared.flight.InFlight.{InFlight}
 use Rattle.sled_tree.specs.Course.{Course, course_of}
-use Rattle.sled_tree.specs.declared.flight.Next.{Next}
-use Rattle.sled_tree.specs.declared.flight.Next.TheVariants as next
+use Rattle.sled_tree.specs.declared.flight.Sequel.{Sequel}
+use Rattle.sled_tree.specs.declared.flight.Sequel.TheVariants as sequel
 use Rattle.tree_laws.specs.declared.flight.Stage.{Stage}
 use Rattle.tree_laws.specs.declared.flight.Stage.TheVariants as stage
 use Rattle.tree_laws.specs.declared.flight.Walk.{Walk}
@@ -42,11 +42,11 @@ use Rattle.sled_tree.proofs.Replying.{links_law}
 use Rattle.sled_tree.proofs.Arriving.{leaf_is, index_is}
 
 -- a stage that no clean path leads to
-pub passes_never : (j : Course) (old new : State) (a : Stage) (n : Next) → ((path : List ℕ) → IsOnPath old j a path → ⊥) → AdvancesOnPath j old a n new
+pub passes_never : (j : Course) (old new : State) (a : Stage) (n : Sequel) → ((path : List ℕ) → IsOnPath old j a path → ⊥) → AdvancesOnPath j old a n new
 passes_never j old new a n off = record { is = λ path k. absurd (off path k) }
 
 -- no clean path leads to a stage of a repair
-pub passes_elsewhere : (j : Course) (old new : State) (a : Stage) (n : Next) → IsElsewhere a → AdvancesOnPath j old a n new
+pub passes_elsewhere : (j : Course) (old new : State) (a : Stage) (n : Sequel) → IsElsewhere a → AdvancesOnPath j old a n new
 passes_elsewhere j old new a n elsewhere = passes_never j old new a n (off a elsewhere)
   where
     off : (a : Stage) → IsElsewhere a → (path : List ℕ) → IsOnPath old j a path → ⊥
@@ -70,16 +70,16 @@ clean_ahead nodes aim p (reached.Next parent) path k = absurd k
 
 module _ (j : Course) (s : State) where
   -- the tree has no root,
-  pub no_root : (name : Key) (found : Option ℕ) (n : Next) → name ≡ j.tree.name → found ≡ s.roots name → found ≡ None → AdvancesOnPath j s stage.Root n s
+  pub no_root : (name : Key) (found : Option ℕ) (n : Sequel) → name ≡ j.tree.name → found ≡ s.roots name → found ≡ None → AdvancesOnPath j s stage.Root n s
   no_root name found n called is_found none = passes_never j s s stage.Root n (λ path k. none_some (sym none ∙ is_found ∙ ap s.roots called ∙ k.is_root))
 
   -- the root is gone,
-  pub root_gone : (name : Key) (found : Option ℕ) (root : ℕ) (n : Next) → name ≡ j.tree.name → found ≡ s.roots name → found ≡ Some root → None ≡ view_of root (s.pages root) → AdvancesOnPath j s stage.Root n s
+  pub root_gone : (name : Key) (found : Option ℕ) (root : ℕ) (n : Sequel) → name ≡ j.tree.name → found ≡ s.roots name → found ≡ Some root → None ≡ view_of root (s.pages root) → AdvancesOnPath j s stage.Root n s
   root_gone name found root n called is_found is_some read = passes_never j s s stage.Root n
       (λ path k. live_at s j.aim k.root true path k.clean (subst (λ r. s.pages r ≡ None) (some_is (sym is_some ∙ is_found ∙ ap s.roots called ∙ k.is_root)) (gone root (s.pages root) read)))
 
   -- or it was read
-  pub root_passes : (name : Key) (found : Option ℕ) (root : ℕ) (view : View) (n : Next) → name ≡ j.tree.name → found ≡ s.roots name → found ≡ Some root → Some view ≡ view_of root (s.pages root)
+  pub root_passes : (name : Key) (found : Option ℕ) (root : ℕ) (view : View) (n : Sequel) → name ≡ j.tree.name → found ≡ s.roots name → found ≡ Some root → Some view ≡ view_of root (s.pages root)
       → AdvancesFromPage j view reached.Root n → AdvancesOnPath j s stage.Root n s
   root_passes name found root view n called is_found is_some read t = record {
     is = λ path k.
@@ -88,11 +88,11 @@ module _ (j : Course) (s : State) where
   }
 
   -- the cursor is gone,
-  pub cursor_gone : (a : Walk) (n : Next) → None ≡ view_of a.cursor (s.pages a.cursor) → AdvancesOnPath j s (stage.Walk a) n s
+  pub cursor_gone : (a : Walk) (n : Sequel) → None ≡ view_of a.cursor (s.pages a.cursor) → AdvancesOnPath j s (stage.Walk a) n s
   cursor_gone a n read = passes_never j s s (stage.Walk a) n (λ path k. let c = clean_ahead (nodes_of s) j.aim a.cursor a.reached path k in live_at s j.aim a.cursor c.0 path c.1 (gone a.cursor (s.pages a.cursor) read))
 
   -- or it was read
-  pub cursor_passes : (a : Walk) (view : View) (n : Next) → Some view ≡ view_of a.cursor (s.pages a.cursor) → AdvancesFromPage j view a.reached n → AdvancesOnPath j s (stage.Walk a) n s
+  pub cursor_passes : (a : Walk) (view : View) (n : Sequel) → Some view ≡ view_of a.cursor (s.pages a.cursor) → AdvancesFromPage j view a.reached n → AdvancesOnPath j s (stage.Walk a) n s
   cursor_passes a view n read t = record {
     is = λ path k.
         let v = viewed a.cursor (s.pages a.cursor) view read in
@@ -107,7 +107,7 @@ steps s aim path view first live k = clean_step_law (nodes_of s) aim path view.p
 pub not_behind : (n : Node) (aim : Bound Key) → LiesUnder aim n → EndsWithin n aim → ⊥
 not_behind n aim under ends = elim under.1 [ inl endless ↦ ends.0 endless | inr off ↦ true_false (sym ends.1 ∙ off) ]
 
-module _ (j : Course) (view : View) (by : Reached) (n : Next) where
+module _ (j : Course) (view : View) (by : Reached) (n : Sequel) where
   -- no clean path comes here
   pub shut : ((nodes : Nodes) (first : Bool) → NeedsNoRepair nodes j.aim view.pid first view.node → ⊥) → AdvancesFromPage j view by n
   shut off = record { is = λ s path live k. let c = clean_ahead (nodes_of s) j.aim view.pid by path k in absurd (off (nodes_of s) c.0 (steps s j.aim path view c.0 live c.1).passed) }
@@ -131,10 +131,10 @@ module _ (j : Course) (view : View) (by : Reached) (n : Next) where
   shut_behind b bound e told is = shut (λ nodes first passed. not_behind view.node j.aim passed.under (subst (EndsWithin view.node) e (told.0 is)))
 
 -- a walk that came to a page by `next` is on no clean path, nor is one that came by a later pointer to a page of few entries
-pub shut_next : (j : Course) (view parent : View) (n : Next) → AdvancesFromPage j view (reached.Next parent) n
+pub shut_next : (j : Course) (view parent : View) (n : Sequel) → AdvancesFromPage j view (reached.Next parent) n
 shut_next j view parent n = record { is = λ s path live k. absurd k }
 
-pub shut_few : (j : Course) (view parent : View) (n : Next) → count view.node.content ≤ 3 → AdvancesFromPage j view (reached.LaterPointer parent) n
+pub shut_few : (j : Course) (view parent : View) (n : Sequel) → count view.node.content ≤ 3 → AdvancesFromPage j view (reached.LaterPointer parent) n
 shut_few j view parent n fits = record { is = λ s path live k. true_false (sym ((steps s j.aim path view false live k).passed.many fits)) }
 
 -- one alone is the last, so that some element passes
@@ -148,7 +148,7 @@ last_any p xs x k none = true_false (sym (some (list_any p k.before) (p x) (list
 
 module _ (j : Course) (view : View) (by : Reached) where
   -- an index without a pointer is on no clean path,
-  pub shut_pointless : (bound : Bound Key) → bound ≡ j.aim → IsIndex view.node.content → IsPointerFor bound (pointers view.node.content) None → (n : Next) → AdvancesFromPage j view by n
+  pub shut_pointless : (bound : Bound Key) → bound ≡ j.aim → IsIndex view.node.content → IsPointerFor bound (pointers view.node.content) None → (n : Sequel) → AdvancesFromPage j view by n
   shut_pointless bound e index none n = record { is = λ s path live k. let c = clean_ahead (nodes_of s) j.aim view.pid by path k in absurd (go s path c.0 live c.1) }
     where
       b : (es : List (Key × ℕ)) × (view.node.content ≡ Index es)
@@ -174,7 +174,7 @@ module _ (j : Course) (view : View) (by : Reached) where
 
   -- below one with a pointer the rest of the path is ahead,
   pub down_passes : (c : ℕ) (first : Bool) → IsIndex view.node.content → IsPointer j.aim (pointers view.node.content) c first
-      → AdvancesFromPage j view by (next.Go (stage.Walk (record { cursor = c; reached = by_pointer view first })))
+      → AdvancesFromPage j view by (sequel.Go (stage.Walk (record { cursor = c; reached = by_pointer view first })))
   down_passes c first index is_last = record {
     is = λ s path live k.
         let b = index_is view.node.content index in
@@ -188,7 +188,7 @@ module _ (j : Course) (view : View) (by : Reached) where
       go false nodes rest k = k
 
   -- and a leaf is its end
-  pub leaf_passes : IsLeaf view.node.content → reply_at j.call view.node.content ≡ None → AdvancesFromPage j view by (next.Go (stage.Act view))
+  pub leaf_passes : IsLeaf view.node.content → reply_at j.call view.node.content ≡ None → AdvancesFromPage j view by (sequel.Go (stage.Act view))
   leaf_passes leaf changes = record {
     is = λ s path live k.
         let b = leaf_is view.node.content leaf in
@@ -197,7 +197,7 @@ module _ (j : Course) (view : View) (by : Reached) where
   }
 
   -- and so it is one whose pairs a scan is to give
-  pub kept_passes : IsLeaf view.node.content → AdvancesFromPage j view by (next.Go (stage.Give (record { leaf = view; given = 0 })))
+  pub kept_passes : IsLeaf view.node.content → AdvancesFromPage j view by (sequel.Go (stage.Give (record { leaf = view; given = 0 })))
   kept_passes leaf = record {
     is = λ s path live k.
         let b = leaf_is view.node.content leaf in
@@ -206,13 +206,13 @@ module _ (j : Course) (view : View) (by : Reached) where
   }
 
 -- the leaf is unchanged, so that the call does not begin again
-pub act_current : (j : Course) (old new : Store) (view : View) {change : Node → Node} {present : Option ℕ} (n : Next) → Changes change view.pid view.version old new (Err present) → AdvancesOnPath j (now old) (stage.Act view) n (now new)
+pub act_current : (j : Course) (old new : Store) (view : View) {change : Node → Node} {present : Option ℕ} (n : Sequel) → Changes change view.pid view.version old new (Err present) → AdvancesOnPath j (now old) (stage.Act view) n (now new)
 act_current j old new view n c = passes_never j (now old) (now new) (stage.Act view) n (λ path k. c.is.2 (c.is.1 ∙ ap (option_map (λ (g : Page). g.version)) k.1))
 
 -- it changes the leaf
-pub act_changes : (operator : Option Operator) (j : Course) (old new : State) (view : View) (n : Next) → (decision_at operator j.call view.node.content).effect ≡ Nothing → AdvancesOnPath j old (stage.Act view) n new
+pub act_changes : (operator : Option Operator) (j : Course) (old new : State) (view : View) (n : Sequel) → (decision_at operator j.call view.node.content).effect ≡ Nothing → AdvancesOnPath j old (stage.Act view) n new
 act_changes operator j old new view n none = passes_never j old new (stage.Act view) n (λ path k. links_law operator j.call (value_at view.node.content (key_of j.call)) k.2 none)
 
 -- a step after which the call goes on
-pub passes_further : (old new : State) (f : InFlight) (taken stage : Stage) (n : Next) → taken ≡ f.stage → n ≡ next.Go stage → AdvancesOnPath (course_of f) old taken n new → StepsOnPath old f went.Moved new (record { job = f.job; aim = f.aim; stage = stage; turns = f.turns + 1 })
+pub passes_further : (old new : State) (f : InFlight) (taken stage : Stage) (n : Sequel) → taken ≡ f.stage → n ≡ sequel.Go stage → AdvancesOnPath (course_of f) old taken n new → StepsOnPath old f went.Moved new (record { job = f.job; aim = f.aim; stage = stage; turns = f.turns + 1 })
 passes_further old new f taken stage n e is p = record { is = λ path k. (subst (λ z. AdvancesOnPath (course_of f) old taken z new) is p).is path (subst (λ z. IsOnPath old (course_of f) z path) (sym e) k) }

@@ -28,7 +28,7 @@ use Rattle.tree_laws.specs.declared.flight.SwapRoot.{SwapRoot}
 use Rattle.tree_laws.specs.declared.flight.Orphan.{Orphan}
 use Rattle.tree_laws.specs.declared.flight.Posting.TheVariants as posting
 use Rattle.tree_laws.specs.declared.flight.Stage.TheVariants as stage
-use Rattle.sled_tree.specs.declared.flight.Next.TheVariants as next
+use Rattle.sled_tree.specs.declared.flight.Sequel.TheVariants as sequel
 use Rattle.sled_tree.specs.Stages.{changes_at}
 use Rattle.sled_tree.specs.theory.StageAction.{StageAction}
 use Rattle.sled_tree.proofs.Facts.{moves_on, once_made, once_acts, once_freed, once_rooted, stays, restarts, leaves_replaced, leaves_allocated, leaves_hoisted, leaves_freed, rid_of_none}
@@ -39,13 +39,13 @@ made_below {node} {q} {version} {old} {new} c given = given.numbered q (record {
 
 -- the right half is made
 pub halves : (j : Course) (old new : Store) (a : Split) (left right : Node) (at : Key) (q version : ℕ) → 2 ≤ count a.page.node.content → left ≡ left_half a.page.node → right ≡ right_half a.page.node → at ≡ right.lo → Allocates right q version old new → AreGiven new
-    → StageAction j old (stage.Split a) (next.Go (stage.InstallLeft (record { page = a.page; posting = a.posting; left = record left { next = Some q }; at = at; right = q; version = version }))) new
-halves j old new a left right at q version many l r b c given = subst (λ (z : Node). StageAction j old (stage.Split a) (next.Go (stage.InstallLeft (record { page = a.page; posting = a.posting; left = record z { next = Some q }; at = at; right = q; version = version }))) new) (sym l)
-    (subst (λ z. StageAction j old (stage.Split a) (next.Go (stage.InstallLeft (record { page = a.page; posting = a.posting; left = record (left_half a.page.node) { next = Some q }; at = z; right = q; version = version }))) new) (sym (b ∙ ap (λ (z : Node). z.lo) r))
+    → StageAction j old (stage.Split a) (sequel.Go (stage.InstallLeft (record { page = a.page; posting = a.posting; left = record left { next = Some q }; at = at; right = q; version = version }))) new
+halves j old new a left right at q version many l r b c given = subst (λ (z : Node). StageAction j old (stage.Split a) (sequel.Go (stage.InstallLeft (record { page = a.page; posting = a.posting; left = record z { next = Some q }; at = at; right = q; version = version }))) new) (sym l)
+    (subst (λ z. StageAction j old (stage.Split a) (sequel.Go (stage.InstallLeft (record { page = a.page; posting = a.posting; left = record (left_half a.page.node) { next = Some q }; at = z; right = q; version = version }))) new) (sym (b ∙ ap (λ (z : Node). z.lo) r))
     (made (subst (λ z. Allocates z q version old new) r c)))
   where
     made : Allocates (right_half a.page.node) q version old new
-        → StageAction j old (stage.Split a) (next.Go (stage.InstallLeft (record { page = a.page; posting = a.posting; left = record (left_half a.page.node) { next = Some q }; at = (right_half a.page.node).lo; right = q; version = version }))) new
+        → StageAction j old (stage.Split a) (sequel.Go (stage.InstallLeft (record { page = a.page; posting = a.posting; left = record (left_half a.page.node) { next = Some q }; at = (right_half a.page.node).lo; right = q; version = version }))) new
     made c = moves_on j old new _ _ (once_made c) tt (λ numbers gave w is named k. let m : Snapshot = snapshot_of old numbers gave in (
       after_allocation m q (record { version = version; node = right_half a.page.node }),
       store_allocated numbers gave c,
@@ -61,7 +61,7 @@ module _ (j : Course) (old new : Store) (a : InstallLeft) (version : ℕ) (c : C
   plainly posting.Root = tt
   plainly posting.Nowhere = tt
 
-  after_install_left : StageAction j old (stage.InstallLeft a) (next.Go (posts_half a a.posting)) new
+  after_install_left : StageAction j old (stage.InstallLeft a) (sequel.Go (posts_half a a.posting)) new
   after_install_left = moves_on j old new _ _ (once_acts c.is.2) (plainly a.posting) (λ numbers gave w is named k.
       let m : Snapshot = snapshot_of old numbers gave in
       let g : Page = record { version = a.page.version; node = c.is.0 } in
@@ -76,17 +76,17 @@ module _ (j : Course) (old new : Store) (a : InstallLeft) (version : ℕ) (c : C
             (λ q i. elim i [ inl e ↦ subst (λ z. (x : Place) × In z (did.0.chain x)) (sym e) did.2 | inr b ↦ absurd b ]),
       ))
 
-  pub shortens : (p : Posting) → a.posting ≡ p → StageAction j old (stage.InstallLeft a) (next.Go (posts_half a p)) new
-  shortens p e = subst (λ z. StageAction j old (stage.InstallLeft a) (next.Go (posts_half a z)) new) e after_install_left
+  pub shortens : (p : Posting) → a.posting ≡ p → StageAction j old (stage.InstallLeft a) (sequel.Go (posts_half a p)) new
+  shortens p e = subst (λ z. StageAction j old (stage.InstallLeft a) (sequel.Go (posts_half a z)) new) e after_install_left
 
 -- the page had changed: the right half is freed
-pub shorten_stale : (j : Course) (old new : Store) (a : InstallLeft) (present : Option ℕ) → Changes (λ _. a.left) a.page.pid a.page.version old new (Err present) → StageAction j old (stage.InstallLeft a) (next.Go (stage.Free (record { pid = a.right; version = a.version }))) new
-shorten_stale j old new a present c = subst (λ (s : Store). StageAction j old (stage.InstallLeft a) (next.Go (stage.Free (record { pid = a.right; version = a.version }))) s) (sym c.is.0)
+pub shorten_stale : (j : Course) (old new : Store) (a : InstallLeft) (present : Option ℕ) → Changes (λ _. a.left) a.page.pid a.page.version old new (Err present) → StageAction j old (stage.InstallLeft a) (sequel.Go (stage.Free (record { pid = a.right; version = a.version }))) new
+shorten_stale j old new a present c = subst (λ (s : Store). StageAction j old (stage.InstallLeft a) (sequel.Go (stage.Free (record { pid = a.right; version = a.version }))) s) (sym c.is.0)
     (stays j old (stage.InstallLeft a) (stage.Free (record { pid = a.right; version = a.version })) (λ q i. i) (λ q i. i) tt (λ m w is named k. shorten_late m w j.tree.name j.tree.number j.aim a k))
 
 -- the pointer goes into the parent, or the parent had changed
-pub posted : (j : Course) (old new : Store) (a : Post) (node : Node) (answer : Result ℕ (Option ℕ)) → Posts a.at a.pid a.parent.node node Rattle.std.proofs.Common.true → Changes (λ _. node) a.parent.pid a.parent.version old new answer → StageAction j old (stage.Post a) (next.Go stage.Root) new
-posted j old new a node (Err present) p c = subst (λ (s : Store). StageAction j old (stage.Post a) (next.Go stage.Root) s) (sym c.is.0) (restarts j old (stage.Post a) (λ q i. i))
+pub posted : (j : Course) (old new : Store) (a : Post) (node : Node) (answer : Result ℕ (Option ℕ)) → Posts a.at a.pid a.parent.node node Rattle.std.proofs.Common.true → Changes (λ _. node) a.parent.pid a.parent.version old new answer → StageAction j old (stage.Post a) (sequel.Go stage.Root) new
+posted j old new a node (Err present) p c = subst (λ (s : Store). StageAction j old (stage.Post a) (sequel.Go stage.Root) s) (sym c.is.0) (restarts j old (stage.Post a) (λ q i. i))
 posted j old new a node (Ok version) p c = moves_on j old new _ _ (once_acts c.is.2) tt (λ numbers gave w is named k.
     let m : Snapshot = snapshot_of old numbers gave in
     let g : Page = record { version = a.parent.version; node = c.is.0 } in
@@ -101,7 +101,7 @@ posted j old new a node (Ok version) p c = moves_on j old new _ _ (once_acts c.i
 
 -- a new root is made,
 pub raises : (j : Course) (old new : Store) (a : Hoist) (root : Node) (q version : ℕ) → IsOver root a.left a.at a.right → Allocates root q version old new → AreGiven new
-    → StageAction j old (stage.Hoist a) (next.Go (stage.SwapRoot (record { old = a.left; new = q; version = version }))) new
+    → StageAction j old (stage.Hoist a) (sequel.Go (stage.SwapRoot (record { old = a.left; new = q; version = version }))) new
 raises j old new a root q version over c given = moves_on j old new _ _ (once_made c) tt (λ numbers gave w is named k. let m : Snapshot = snapshot_of old numbers gave in (
   after_allocation m q (record { version = version; node = root }),
   store_allocated numbers gave c,
@@ -111,7 +111,7 @@ raises j old new a root q version over c given = moves_on j old new _ _ (once_ma
 ))
 
 -- and set, or another came before
-pub after_swap_root : (j : Course) (old new : Store) (a : SwapRoot) (name : Key) (done : Unit {0}) → name ≡ j.tree.name → SwapsRoot name (Some a.old) (Some a.new) old new (Ok done) → StageAction j old (stage.SwapRoot a) (next.Go stage.Root) new
+pub after_swap_root : (j : Course) (old new : Store) (a : SwapRoot) (name : Key) (done : Unit {0}) → name ≡ j.tree.name → SwapsRoot name (Some a.old) (Some a.new) old new (Ok done) → StageAction j old (stage.SwapRoot a) (sequel.Go stage.Root) new
 after_swap_root j old new a name done e c = moves_on j old new _ _ (once_rooted name (Some a.new) old new c.is.1) tt (λ numbers gave w is named k.
     let m : Snapshot = snapshot_of old numbers gave in
     let did = crown_action m w j.tree.name j.tree.number j.aim a is named (ap (now old).roots (sym e) ∙ c.is.0) k in (
@@ -122,13 +122,13 @@ after_swap_root j old new a name done e c = moves_on j old new _ _ (once_rooted 
       leaves_hoisted m j.tree.name a.new did.0 did.1.acts.is,
     ))
 
-pub crown_stale : (j : Course) (old new : Store) (a : SwapRoot) (name : Key) (present : Option ℕ) → SwapsRoot name (Some a.old) (Some a.new) old new (Err present) → StageAction j old (stage.SwapRoot a) (next.Go (stage.Free (record { pid = a.new; version = a.version }))) new
-crown_stale j old new a name present c = subst (λ (s : Store). StageAction j old (stage.SwapRoot a) (next.Go (stage.Free (record { pid = a.new; version = a.version }))) s) (sym c.is.0)
+pub crown_stale : (j : Course) (old new : Store) (a : SwapRoot) (name : Key) (present : Option ℕ) → SwapsRoot name (Some a.old) (Some a.new) old new (Err present) → StageAction j old (stage.SwapRoot a) (sequel.Go (stage.Free (record { pid = a.new; version = a.version }))) new
+crown_stale j old new a name present c = subst (λ (s : Store). StageAction j old (stage.SwapRoot a) (sequel.Go (stage.Free (record { pid = a.new; version = a.version }))) s) (sym c.is.0)
     (stays j old (stage.SwapRoot a) (stage.Free (record { pid = a.new; version = a.version })) (λ q i. i) (λ q i. i) tt (λ m w is named k. crown_late m w j.tree.name j.tree.number j.aim a k))
 
 -- a page of the call's own is freed
-pub freed_own : (j : Course) (old new : Store) (a : Orphan) (answer : Result (Unit {0}) (Option ℕ)) → Frees a.pid a.version old new answer → StageAction j old (stage.Free a) (next.Go stage.Root) new
-freed_own j old new a (Err present) c = subst (λ (s : Store). StageAction j old (stage.Free a) (next.Go stage.Root) s) (sym c.is.0) (record {
+pub freed_own : (j : Course) (old new : Store) (a : Orphan) (answer : Result (Unit {0}) (Option ℕ)) → Frees a.pid a.version old new answer → StageAction j old (stage.Free a) (sequel.Go stage.Root) new
+freed_own j old new a (Err present) c = subst (λ (s : Store). StageAction j old (stage.Free a) (sequel.Go stage.Root) s) (sym c.is.0) (record {
   touches = inl refl;
   -- the page has this version, as it is the call's own
   is = λ numbers given w is named k. absurd (c.is.2 (c.is.1 ∙ ap (option_map (λ (g : Page). g.version)) k.0.own.live));

@@ -6,8 +6,8 @@ use Rattle.sled_store.specs.Store.{Store, after_action, now}
 use Rattle.sled_store.specs.declared.page.Page.{Page}
 use Rattle.tree_laws.specs.Forest.{Forest, Place}
 use Rattle.tree_laws.specs.Stages.{owned}
-use Rattle.sled_tree.specs.declared.flight.Next.{Next}
-use Rattle.sled_tree.specs.declared.flight.Next.TheVariants.{Go, Decided, Refused}
+use Rattle.sled_tree.specs.declared.flight.Sequel.{Sequel}
+use Rattle.sled_tree.specs.declared.flight.Sequel.TheVariants.{Go, Decided, Refused}
 
 -- one changing action, and what it gave; nothing else of the store changes
 pub record ActsOnce (old new : Store) : Type 0 where
@@ -33,7 +33,7 @@ pub record LeaksNoPage (mine own : List ℕ) (old new : State) (v : Forest) : Ty
   pub merged : (p c : ℕ) (g h : Page) → old.pages p ≡ Some g → g.node.merging_child ≡ Some c → new.pages p ≡ Some h → (h.node.merging_child ≡ Some c) ⊎ In c own
 
 -- .. but for what a refused call leaves
-abbrev pub leaks_no_page_as : Next → List ℕ → State → State → Forest → Type 0
+abbrev pub leaks_no_page_as : Sequel → List ℕ → State → State → Forest → Type 0
 leaks_no_page_as (Go stage) mine old new v = LeaksNoPage mine (owned stage) old new v
 leaks_no_page_as (Decided reply) mine old new v = LeaksNoPage mine [] old new v
 leaks_no_page_as (Refused e) mine old new v = Unit {0}

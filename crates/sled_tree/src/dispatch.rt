@@ -12,7 +12,7 @@ ghost use Rattle.sled_tree.specs.theory.Stages.{IsOffWalk, IsElsewhere};
 ghost use Rattle.sled_tree.specs.theory.Walking.{WalksDown};
 
 use crate::act::act;
-use crate::flight::{Aim, InFlight, Job, Next, Went};
+use crate::flight::{Aim, InFlight, Job, Sequel, Went};
 use crate::hoist::{hoist, swap_root};
 use crate::merge::{cap, confirm, intend, read_child, receive, seek};
 use crate::split::{free, halve, install_left, post};
@@ -29,7 +29,7 @@ fn step_elsewhere<P: Pages>(
     job: &Job,
     aim: &Aim,
     stage: Stage,
-) -> Next
+) -> Sequel
     requires { IsElsewhere stage }
     ensures moves { StageAction (course job.now aim.now) (P.store pages.old) stage result (P.store pages.new) }
     ensures follows { Follows (course job.now aim.now) (P.store pages.old) stage result (P.store pages.new) }
@@ -62,14 +62,14 @@ fn advance_elsewhere<P: Pages>(pages: &mut P, alloc: Global, flight: &mut InFlig
 {
     let stage = std::mem::replace(&mut flight.stage, Stage::Root);
     match step_elsewhere(pages, alloc, &flight.job, &flight.aim, stage) {
-        Next::Go(stage) => {
+        Sequel::Go(stage) => {
             let old = std::mem::replace(&mut flight.stage, stage);
             drop(old);
             flight.turns += 1;
             Went::Moved
         }
-        Next::Decided(reply) => Went::Decided(reply),
-        Next::Refused(e) => Went::Refused(e),
+        Sequel::Decided(reply) => Went::Decided(reply),
+        Sequel::Refused(e) => Went::Refused(e),
     }
 }
 
@@ -115,8 +115,8 @@ pub fn advance<P: Pages, M: MergeOperator>(
         }
         Descent::Leaf(view) => at_leaf(flight, view),
         Descent::Unclean(view) => mend(flight, view),
-        Descent::Lost => settle(flight, Next::Go(Stage::Root)),
-        Descent::Refused(e) => settle(flight, Next::Refused(e)),
+        Descent::Lost => settle(flight, Sequel::Go(Stage::Root)),
+        Descent::Refused(e) => settle(flight, Sequel::Refused(e)),
     }
 }
 
@@ -131,8 +131,8 @@ pub fn walk_down<P: Pages>(pages: &P, alloc: Global, flight: &mut InFlight) -> O
             Descent::Further => flight.turns += 1,
             Descent::Leaf(view) => return Some(at_leaf(flight, view)),
             Descent::Unclean(view) => return Some(mend(flight, view)),
-            Descent::Lost => return Some(settle(flight, Next::Go(Stage::Root))),
-            Descent::Refused(e) => return Some(settle(flight, Next::Refused(e))),
+            Descent::Lost => return Some(settle(flight, Sequel::Go(Stage::Root))),
+            Descent::Refused(e) => return Some(settle(flight, Sequel::Refused(e))),
         }
     }
     None

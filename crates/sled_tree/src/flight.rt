@@ -49,7 +49,7 @@ impl InFlight {
 
 /// What comes after a page action.
 #[derive(Drop)]
-pub enum Next {
+pub enum Sequel {
     /// The call goes on from this stage.
     Go(Stage),
     /// The call was decided.

@@ -6,7 +6,7 @@ ghost use Rattle.sled_tree.specs.Course.{course};
 ghost use Rattle.sled_tree.specs.theory.StageAction.{StageAction};
 ghost use Rattle.sled_tree.specs.Follows.{OrRefused, Hoists, SwapsTheRoot};
 
-use crate::flight::{Aim, Job, Next};
+use crate::flight::{Aim, Job, Sequel};
 use sled_nodes::{Data, IVec, Index, Node, Pid, Result};
 use sled_store::{Pages, law_given};
 use std::alloc::Global;
@@ -68,7 +68,7 @@ pub(crate) fn hoist<P: Pages>(
     job: &Job,
     aim: &Aim,
     hoist: Hoist,
-) -> Next
+) -> Sequel
     ensures moves { StageAction (course job.now aim.now) (P.store pages.old) (Stage.Hoist hoist) result (P.store pages.new) }
     ensures follows { OrRefused (P.store pages.old) (P.store pages.new) result (Hoists (P.store pages.old) (P.store pages.new) hoist result) }
 {
@@ -76,15 +76,15 @@ pub(crate) fn hoist<P: Pages>(
     let over = root_over(alloc, left, &at, right);
     drop(at);
     let root = match over {
-        Err(e) => return Next::Refused(e),
+        Err(e) => return Sequel::Refused(e),
         Ok(root) => root,
     };
     let (new, version) = match pages.allocate(root) {
-        Err(e) => return Next::Refused(e),
+        Err(e) => return Sequel::Refused(e),
         Ok(given) => given,
     };
     law_given(pages);
-    Next::Go(Stage::SwapRoot(SwapRoot {
+    Sequel::Go(Stage::SwapRoot(SwapRoot {
         old: left,
         new,
         version,
@@ -92,7 +92,12 @@ pub(crate) fn hoist<P: Pages>(
 }
 
 // Sets the new root, where the old one is still the root.
-pub(crate) fn swap_root<P: Pages>(pages: &mut P, job: &Job, aim: &Aim, swap_root: SwapRoot) -> Next
+pub(crate) fn swap_root<P: Pages>(
+    pages: &mut P,
+    job: &Job,
+    aim: &Aim,
+    swap_root: SwapRoot,
+) -> Sequel
     ensures moves { StageAction (course job.now aim.now) (P.store pages.old) (Stage.SwapRoot swap_root) result (P.store pages.new) }
     ensures follows { OrRefused (P.store pages.old) (P.store pages.new) result (SwapsTheRoot job.now.tree.name (P.store pages.old) (P.store pages.new) swap_root result) }
 {
@@ -101,11 +106,11 @@ pub(crate) fn swap_root<P: Pages>(pages: &mut P, job: &Job, aim: &Aim, swap_root
         Some(swap_root.old),
         Some(swap_root.new),
     ) {
-        Err(e) => Next::Refused(e),
-        Ok(Err(_)) => Next::Go(Stage::Free(Orphan {
+        Err(e) => Sequel::Refused(e),
+        Ok(Err(_)) => Sequel::Go(Stage::Free(Orphan {
             pid: swap_root.new,
             version: swap_root.version,
         })),
-        Ok(Ok(())) => Next::Go(Stage::Root),
+        Ok(Ok(())) => Sequel::Go(Stage::Root),
     }
 }

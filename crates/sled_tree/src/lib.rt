@@ -17,8 +17,9 @@ mod walk;
 
 pub use act::{Change, begin_again, event_of, link_change, prepare_change};
 pub use dispatch::{advance, walk_down};
-pub use flight::{Aim, InFlight, Job, Next, Went};
-pub use sled_model::{Event, Subscriber};
+pub use flight::{Aim, InFlight, Job, Sequel, Went};
+pub use sled_batch::Batch;
+pub use sled_model::{Event, Next, Subscriber};
 pub use tree_laws::flight::{
     Cap, Confirm, Giving, Hoist, InstallLeft, Merge, Orphan, Post, Posting, Reached, Receive, Seek,
     Split, Stage, SwapRoot, Walk,

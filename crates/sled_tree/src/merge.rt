@@ -9,25 +9,25 @@ ghost use Rattle.sled_nodes.specs.Order.{UpTo};
 ghost use Rattle.sled_tree.specs.Course.{course};
 ghost use Rattle.sled_tree.specs.theory.StageAction.{AfterRead, StageAction};
 ghost use Rattle.sled_tree.specs.Follows.{ResumesMerge, BeginsMerge, follows_child, follows_cursor, follows_search, follows_met, FollowsPage, OrRefused, follows_intend, follows_cap, follows_receive, follows_confirm};
-ghost use Rattle.sled_tree.specs.declared.flight.Next.TheVariants.{Go};
+ghost use Rattle.sled_tree.specs.declared.flight.Sequel.TheVariants.{Go};
 ghost use Rattle.tree_laws.specs.declared.flight.Stage.TheVariants as stage;
 
-use crate::flight::{Aim, Job, Next};
+use crate::flight::{Aim, Job, Sequel};
 use sled_nodes::{Link, Node, Pid, Result, Shared, Version};
 use sled_store::{Pages, View};
 use std::alloc::Global;
 use tree_laws::flight::{Cap, Confirm, Merge, Orphan, Posting, Receive, Seek, Split, Stage};
 
 // A page merges into the one before it.
-pub(crate) fn begin(parent: View, child: Pid) -> Next
+pub(crate) fn begin(parent: View, child: Pid) -> Sequel
     ensures { BeginsMerge parent child result }
 {
     match parent.node.pointer_before(child) {
         None => {
             drop(parent);
-            Next::Go(Stage::Root)
+            Sequel::Go(Stage::Root)
         }
-        Some(before) => Next::Go(Stage::Intend(Merge {
+        Some(before) => Sequel::Go(Stage::Intend(Merge {
             parent,
             child,
             before,
@@ -62,7 +62,7 @@ pub(crate) fn intend<P: Pages>(
     job: &Job,
     aim: &Aim,
     merge: Merge,
-) -> Next
+) -> Sequel
     ensures moves { StageAction (course job.now aim.now) (P.store pages.old) (Stage.Intend merge) result (P.store pages.new) }
     ensures follows { OrRefused (P.store pages.old) (P.store pages.new) result (follows_intend (P.store pages.old) (P.store pages.new) merge result) }
 {
@@ -75,19 +75,19 @@ pub(crate) fn intend<P: Pages>(
     let intending = with_child(alloc, &parent.node, child);
     drop(parent);
     let node = match intending {
-        Err(e) => return Next::Refused(e),
+        Err(e) => return Sequel::Refused(e),
         Ok(node) => node,
     };
     match pages.link(pid, version, Link::ParentMergeIntention(child)) {
         Err(e) => {
             drop(node);
-            Next::Refused(e)
+            Sequel::Refused(e)
         }
         Ok(Err(_)) => {
             drop(node);
-            Next::Go(Stage::Root)
+            Sequel::Go(Stage::Root)
         }
-        Ok(Ok(version)) => Next::Go(Stage::Child(Merge {
+        Ok(Ok(version)) => Sequel::Go(Stage::Child(Merge {
             parent: View { pid, version, node },
             child,
             before,
@@ -96,15 +96,15 @@ pub(crate) fn intend<P: Pages>(
 }
 
 // A page was read that has a merging child: that merge goes on first.
-pub(crate) fn help(view: View, child: Pid) -> Next
+pub(crate) fn help(view: View, child: Pid) -> Sequel
     ensures { ResumesMerge view child result }
 {
     match view.node.pointer_before(child) {
         None => {
             drop(view);
-            Next::Go(Stage::Root)
+            Sequel::Go(Stage::Root)
         }
-        Some(before) => Next::Go(Stage::Child(Merge {
+        Some(before) => Sequel::Go(Stage::Child(Merge {
             parent: view,
             child,
             before,
@@ -119,31 +119,31 @@ pub(crate) fn read_child<P: Pages>(
     job: &Job,
     aim: &Aim,
     merge: Merge,
-) -> Next
+) -> Sequel
     ensures moves { StageAction (course job.now aim.now) (P.store pages.now) (Stage.Child merge) result (P.store pages.now) }
     ensures follows { FollowsPage (P.store pages.now) merge.child (follows_child merge) result }
 {
     match pages.read(alloc, merge.child) {
         Err(e) => {
             drop(merge);
-            Next::Refused(e)
+            Sequel::Refused(e)
         }
         Ok(None) => {
             drop(merge);
-            Next::Go(Stage::Root)
+            Sequel::Go(Stage::Root)
         }
         Ok(Some(view)) => at_child(job, aim, merge, view),
     }
 }
 
 // What comes after the merging child was read.
-fn at_child(job: &Job, aim: &Aim, merge: Merge, view: View) -> Next
+fn at_child(job: &Job, aim: &Aim, merge: Merge, view: View) -> Sequel
     ensures reads { AfterRead (course job.now aim.now) (Stage.Child merge) merge.child view result }
     ensures follows { follows_child merge view result }
 {
     let read: &Node = &view.node;
     if read.merging {
-        return Next::Go(Stage::Seek(Seek {
+        return Sequel::Go(Stage::Seek(Seek {
             cursor: merge.before,
             merge,
             version: view.version,
@@ -154,7 +154,7 @@ fn at_child(job: &Job, aim: &Aim, merge: Merge, view: View) -> Next
         drop(merge);
         return help(view, child);
     }
-    Next::Go(Stage::Cap(Cap {
+    Sequel::Go(Stage::Cap(Cap {
         merge,
         version: view.version,
         node: view.node,
@@ -162,7 +162,7 @@ fn at_child(job: &Job, aim: &Aim, merge: Merge, view: View) -> Next
 }
 
 // Caps the merging child. All that wants memory comes before the link.
-pub(crate) fn cap<P: Pages>(pages: &mut P, alloc: Global, job: &Job, aim: &Aim, cap: Cap) -> Next
+pub(crate) fn cap<P: Pages>(pages: &mut P, alloc: Global, job: &Job, aim: &Aim, cap: Cap) -> Sequel
     ensures moves { StageAction (course job.now aim.now) (P.store pages.old) (Stage.Cap cap) result (P.store pages.new) }
     ensures follows { OrRefused (P.store pages.old) (P.store pages.new) result (follows_cap (P.store pages.old) (P.store pages.new) cap result) }
 {
@@ -176,7 +176,7 @@ pub(crate) fn cap<P: Pages>(pages: &mut P, alloc: Global, job: &Job, aim: &Aim, 
     let node = match capped {
         Err(e) => {
             drop(merge);
-            return Next::Refused(e);
+            return Sequel::Refused(e);
         }
         Ok(node) => node,
     };
@@ -184,18 +184,18 @@ pub(crate) fn cap<P: Pages>(pages: &mut P, alloc: Global, job: &Job, aim: &Aim, 
         Err(e) => {
             drop(merge);
             drop(node);
-            Next::Refused(e)
+            Sequel::Refused(e)
         }
         Ok(Err(None)) => {
             drop(merge);
             drop(node);
-            Next::Go(Stage::Root)
+            Sequel::Go(Stage::Root)
         }
         Ok(Err(Some(_))) => {
             drop(node);
-            Next::Go(Stage::Child(merge))
+            Sequel::Go(Stage::Child(merge))
         }
-        Ok(Ok(version)) => Next::Go(Stage::Seek(Seek {
+        Ok(Ok(version)) => Sequel::Go(Stage::Seek(Seek {
             cursor: merge.before,
             merge,
             version,
@@ -220,10 +220,10 @@ fn reaches(view: &View, seek: &Seek) -> bool
 }
 
 // The child was received: its pointer is to go.
-fn to_confirm(merge: Merge, version: Version) -> Next
+fn to_confirm(merge: Merge, version: Version) -> Sequel
     ensures { result ≡ Go (stage.Confirm (record { parent = merge.parent; child = merge.child; version = version })) }
 {
-    Next::Go(Stage::Confirm(Confirm {
+    Sequel::Go(Stage::Confirm(Confirm {
         parent: merge.parent,
         child: merge.child,
         version,
@@ -231,25 +231,25 @@ fn to_confirm(merge: Merge, version: Version) -> Next
 }
 
 // Reads the cursor of the search for the page before the merging child.
-pub(crate) fn seek<P: Pages>(pages: &P, alloc: Global, job: &Job, aim: &Aim, seek: Seek) -> Next
+pub(crate) fn seek<P: Pages>(pages: &P, alloc: Global, job: &Job, aim: &Aim, seek: Seek) -> Sequel
     ensures moves { StageAction (course job.now aim.now) (P.store pages.now) (Stage.Seek seek) result (P.store pages.now) }
     ensures follows { FollowsPage (P.store pages.now) seek.cursor (follows_cursor seek) result }
 {
     match pages.read(alloc, seek.cursor) {
         Err(e) => {
             drop(seek);
-            Next::Refused(e)
+            Sequel::Refused(e)
         }
         Ok(None) => {
             drop(seek);
-            Next::Go(Stage::Root)
+            Sequel::Go(Stage::Root)
         }
         Ok(Some(view)) => at_cursor(job, aim, seek, view),
     }
 }
 
 // What comes after the cursor of the search was read.
-fn at_cursor(job: &Job, aim: &Aim, seek: Seek, view: View) -> Next
+fn at_cursor(job: &Job, aim: &Aim, seek: Seek, view: View) -> Sequel
     ensures looks { AfterRead (course job.now aim.now) (Stage.Seek seek) seek.cursor view result }
     ensures follows { follows_cursor seek view result }
 {
@@ -257,7 +257,7 @@ fn at_cursor(job: &Job, aim: &Aim, seek: Seek, view: View) -> Next
     if node.merging {
         drop(view);
         drop(seek);
-        return Next::Go(Stage::Root);
+        return Sequel::Go(Stage::Root);
     }
     if let Some(child) = node.merging_child {
         drop(seek);
@@ -267,7 +267,7 @@ fn at_cursor(job: &Job, aim: &Aim, seek: Seek, view: View) -> Next
 }
 
 // An open page, before the merging child or at it.
-fn compare(job: &Job, aim: &Aim, seek: Seek, view: View) -> Next
+fn compare(job: &Job, aim: &Aim, seek: Seek, view: View) -> Sequel
     requires not_merging { view.node.merging ≡ false }
     requires free { view.node.merging_child ≡ None }
     ensures looks { AfterRead (course job.now aim.now) (Stage.Seek seek) seek.cursor view result }
@@ -285,17 +285,17 @@ fn compare(job: &Job, aim: &Aim, seek: Seek, view: View) -> Next
         None => {
             drop(view);
             drop(seek);
-            Next::Go(Stage::Root)
+            Sequel::Go(Stage::Root)
         }
         Some(cursor) => {
             drop(view);
-            Next::Go(Stage::Seek(Seek { cursor, ..seek }))
+            Sequel::Go(Stage::Seek(Seek { cursor, ..seek }))
         }
     }
 }
 
 // The page before the merging child: it receives the child, or is split first.
-fn meet(job: &Job, aim: &Aim, seek: Seek, view: View) -> Next
+fn meet(job: &Job, aim: &Aim, seek: Seek, view: View) -> Sequel
     requires not_merging { view.node.merging ≡ false }
     requires free { view.node.merging_child ≡ None }
     requires leads { view.node.next ≡ Some seek.merge.child }
@@ -304,12 +304,12 @@ fn meet(job: &Job, aim: &Aim, seek: Seek, view: View) -> Next
 {
     if view.node.should_split() {
         drop(seek);
-        return Next::Go(Stage::Split(Split {
+        return Sequel::Go(Stage::Split(Split {
             page: view,
             posting: Posting::Nowhere,
         }));
     }
-    Next::Go(Stage::Receive(Receive {
+    Sequel::Go(Stage::Receive(Receive {
         merge: seek.merge,
         version: seek.version,
         node: seek.node,
@@ -324,7 +324,7 @@ pub(crate) fn receive<P: Pages>(
     job: &Job,
     aim: &Aim,
     receive: Receive,
-) -> Next
+) -> Sequel
     ensures moves { StageAction (course job.now aim.now) (P.store pages.old) (Stage.Receive receive) result (P.store pages.new) }
     ensures follows { OrRefused (P.store pages.old) (P.store pages.new) result (follows_receive (P.store pages.old) (P.store pages.new) receive result) }
 {
@@ -341,7 +341,7 @@ pub(crate) fn receive<P: Pages>(
         Err(e) => {
             drop(merge);
             drop(node);
-            return Next::Refused(e);
+            return Sequel::Refused(e);
         }
         Ok(both) => both,
     };
@@ -349,14 +349,14 @@ pub(crate) fn receive<P: Pages>(
         Err(e) => {
             drop(merge);
             drop(node);
-            Next::Refused(e)
+            Sequel::Refused(e)
         }
         Ok(Err(None)) => {
             drop(merge);
             drop(node);
-            Next::Go(Stage::Root)
+            Sequel::Go(Stage::Root)
         }
-        Ok(Err(Some(_))) => Next::Go(Stage::Seek(Seek {
+        Ok(Err(Some(_))) => Sequel::Go(Stage::Seek(Seek {
             merge,
             version,
             node,
@@ -370,7 +370,7 @@ pub(crate) fn receive<P: Pages>(
 }
 
 // The pointer to the received child goes.
-pub(crate) fn confirm<P: Pages>(pages: &mut P, job: &Job, aim: &Aim, confirm: Confirm) -> Next
+pub(crate) fn confirm<P: Pages>(pages: &mut P, job: &Job, aim: &Aim, confirm: Confirm) -> Sequel
     ensures moves { StageAction (course job.now aim.now) (P.store pages.old) (Stage.Confirm confirm) result (P.store pages.new) }
     ensures follows { OrRefused (P.store pages.old) (P.store pages.new) result (follows_confirm (P.store pages.old) (P.store pages.new) confirm result) }
 {
@@ -382,9 +382,9 @@ pub(crate) fn confirm<P: Pages>(pages: &mut P, job: &Job, aim: &Aim, confirm: Co
     let (pid, seen) = (parent.pid, parent.version);
     drop(parent);
     match pages.link(pid, seen, Link::ParentMergeConfirm) {
-        Err(e) => Next::Refused(e),
-        Ok(Err(_)) => Next::Go(Stage::Root),
-        Ok(Ok(_)) => Next::Go(Stage::Free(Orphan {
+        Err(e) => Sequel::Refused(e),
+        Ok(Err(_)) => Sequel::Go(Stage::Root),
+        Ok(Ok(_)) => Sequel::Go(Stage::Free(Orphan {
             pid: child,
             version,
         })),

@@ -14,9 +14,9 @@ ghost use Rattle.sled_tree.specs.theory.Descent.{RepairsParent, NeedsRepair};
 ghost use Rattle.sled_tree.specs.theory.StageAction.{AfterPage};
 ghost use Rattle.sled_tree.specs.Follows.{follows_read, follows_here, posting_of, onward, pointed, OrNoMemory, BeginsMerge, EndsWithin};
 ghost use Rattle.sled_tree.specs.theory.Passing.{AdvancesFromPage};
-ghost use Rattle.sled_tree.specs.declared.flight.Next.TheVariants.{Go};
+ghost use Rattle.sled_tree.specs.declared.flight.Sequel.TheVariants.{Go};
 
-use crate::flight::{Aim, Job, Next};
+use crate::flight::{Aim, Job, Sequel};
 use crate::merge::{begin, help};
 use crate::walk::{lies_under, target};
 use sled_nodes::{Node, is_up_to};
@@ -44,7 +44,7 @@ fn ends_within(node: &Node, target: Bound<&[u8]>) -> bool
 }
 
 // What comes after a page was read where something is to be repaired, or which does not lie under the aim.
-pub(crate) fn repair(job: &Job, aim: &Aim, view: View, reached: Reached) -> Next
+pub(crate) fn repair(job: &Job, aim: &Aim, view: View, reached: Reached) -> Sequel
     requires { NeedsRepair (course job.now aim.now) reached view }
     ensures arrives { AfterPage (course job.now aim.now) view reached result }
     ensures passes { AdvancesFromPage (course job.now aim.now) view reached result }
@@ -54,7 +54,7 @@ pub(crate) fn repair(job: &Job, aim: &Aim, view: View, reached: Reached) -> Next
     if node.merging {
         drop(view);
         drop(reached);
-        return Next::Go(Stage::Root);
+        return Sequel::Go(Stage::Root);
     }
     if let Some(child) = node.merging_child {
         drop(reached);
@@ -69,24 +69,24 @@ pub(crate) fn repair(job: &Job, aim: &Aim, view: View, reached: Reached) -> Next
     if !lies_under(node, target(job, aim)) {
         drop(view);
         drop(reached);
-        return Next::Go(Stage::Root);
+        return Sequel::Go(Stage::Root);
     }
     repair_parent(job, aim, view, reached)
 }
 
 // A page that is too long.
-fn split(job: &Job, aim: &Aim, view: View, reached: Reached) -> Next
+fn split(job: &Job, aim: &Aim, view: View, reached: Reached) -> Sequel
     requires not_merging { view.node.merging ≡ false }
     requires free { view.node.merging_child ≡ None }
     ensures arrives { AfterPage (course job.now aim.now) view reached result }
     ensures follows { result ≡ Go (stage.Split (record { page = view; posting = posting_of (parent_of reached) })) }
 {
     match into_parent(reached) {
-        Some(parent) => Next::Go(Stage::Split(Split {
+        Some(parent) => Sequel::Go(Stage::Split(Split {
             page: view,
             posting: Posting::Parent(parent),
         })),
-        None => Next::Go(Stage::Split(Split {
+        None => Sequel::Go(Stage::Split(Split {
             page: view,
             posting: Posting::Root,
         })),
@@ -94,7 +94,7 @@ fn split(job: &Job, aim: &Aim, view: View, reached: Reached) -> Next
 }
 
 // The target lies behind the page: a root is hoisted, and below a parent the walk goes on to the next page.
-fn go_on(job: &Job, aim: &Aim, view: View, reached: Reached) -> Next
+fn go_on(job: &Job, aim: &Aim, view: View, reached: Reached) -> Sequel
     requires not_merging { view.node.merging ≡ false }
     requires free { view.node.merging_child ≡ None }
     requires behind { EndsWithin view.node (aim_of job.now aim.now) }
@@ -105,15 +105,15 @@ fn go_on(job: &Job, aim: &Aim, view: View, reached: Reached) -> Next
     let Some(next) = view.node.next else {
         drop(view);
         drop(reached);
-        return Next::Go(Stage::Root);
+        return Sequel::Go(Stage::Root);
     };
     match into_parent(reached) {
         None => {
             let at = view.node.hi.clone();
             drop(view);
             match at {
-                Err(e) => Next::Refused(e),
-                Ok(at) => Next::Go(Stage::Hoist(Hoist {
+                Err(e) => Sequel::Refused(e),
+                Ok(at) => Sequel::Go(Stage::Hoist(Hoist {
                     left: pid,
                     at,
                     right: next,
@@ -122,7 +122,7 @@ fn go_on(job: &Job, aim: &Aim, view: View, reached: Reached) -> Next
         }
         Some(parent) => {
             drop(view);
-            Next::Go(Stage::Walk(Walk {
+            Sequel::Go(Stage::Walk(Walk {
                 cursor: next,
                 reached: Reached::Next(parent),
             }))
@@ -131,7 +131,7 @@ fn go_on(job: &Job, aim: &Aim, view: View, reached: Reached) -> Next
 }
 
 // A page that its parent has to change for: it has no pointer there, or it merges.
-fn repair_parent(job: &Job, aim: &Aim, view: View, reached: Reached) -> Next
+fn repair_parent(job: &Job, aim: &Aim, view: View, reached: Reached) -> Sequel
     requires not_merging { view.node.merging ≡ false }
     requires free { view.node.merging_child ≡ None }
     requires needed { RepairsParent reached (count view.node.content) }
@@ -147,7 +147,7 @@ fn repair_parent(job: &Job, aim: &Aim, view: View, reached: Reached) -> Next
 }
 
 // A page that was reached by `next`: its pointer is posted.
-fn post(job: &Job, aim: &Aim, view: View, parent: View) -> Next
+fn post(job: &Job, aim: &Aim, view: View, parent: View) -> Sequel
     requires not_merging { view.node.merging ≡ false }
     requires free { view.node.merging_child ≡ None }
     ensures arrives { AfterPage (course job.now aim.now) view (way.Next parent) result }
@@ -157,16 +157,16 @@ fn post(job: &Job, aim: &Aim, view: View, parent: View) -> Next
     let at = view.node.lo.clone();
     drop(view);
     match at {
-        Ok(at) => Next::Go(Stage::Post(Post { parent, at, pid })),
+        Ok(at) => Sequel::Go(Stage::Post(Post { parent, at, pid })),
         Err(e) => {
             drop(parent);
-            Next::Refused(e)
+            Sequel::Refused(e)
         }
     }
 }
 
 // A page of few entries merges into the one before it.
-fn merge(job: &Job, aim: &Aim, view: View, parent: View) -> Next
+fn merge(job: &Job, aim: &Aim, view: View, parent: View) -> Sequel
     requires not_merging { view.node.merging ≡ false }
     requires free { view.node.merging_child ≡ None }
     requires fits { count view.node.content ≤ 3 }

@@ -5,7 +5,7 @@ ghost use Rattle.sled_tree.specs.Course.{course};
 ghost use Rattle.sled_tree.specs.theory.StageAction.{StageAction};
 ghost use Rattle.sled_tree.specs.Follows.{OrRefused, follows_split, follows_install_left, follows_post, FreesOrphan};
 
-use crate::flight::{Aim, Job, Next};
+use crate::flight::{Aim, Job, Sequel};
 use sled_store::{Pages, law_given};
 use std::alloc::Global;
 use tree_laws::flight::{Hoist, InstallLeft, Orphan, Post, Posting, Split, Stage};
@@ -18,18 +18,18 @@ pub(crate) fn halve<P: Pages>(
     job: &Job,
     aim: &Aim,
     split: Split,
-) -> Next
+) -> Sequel
     ensures moves { StageAction (course job.now aim.now) (P.store pages.old) (Stage.Split split) result (P.store pages.new) }
     ensures follows { OrRefused (P.store pages.old) (P.store pages.new) result (follows_split (P.store pages.old) (P.store pages.new) split result) }
 {
     if !split.page.node.should_split() {
         drop(split);
-        return Next::Go(Stage::Root);
+        return Sequel::Go(Stage::Root);
     }
     let (left, right) = match split.page.node.split(alloc) {
         Err(e) => {
             drop(split);
-            return Next::Refused(e);
+            return Sequel::Refused(e);
         }
         Ok(halves) => halves,
     };
@@ -37,7 +37,7 @@ pub(crate) fn halve<P: Pages>(
         Err(e) => {
             drop(right);
             drop(split);
-            return Next::Refused(e);
+            return Sequel::Refused(e);
         }
         Ok(left) => left,
     };
@@ -46,7 +46,7 @@ pub(crate) fn halve<P: Pages>(
             drop(left);
             drop(right);
             drop(split);
-            return Next::Refused(e);
+            return Sequel::Refused(e);
         }
         Ok(at) => at,
     };
@@ -55,14 +55,14 @@ pub(crate) fn halve<P: Pages>(
             drop(at);
             drop(left);
             drop(split);
-            return Next::Refused(e);
+            return Sequel::Refused(e);
         }
         Ok(given) => given,
     };
     law_given(pages);
     let Split { page, posting } = split;
     left.set_next(right);
-    Next::Go(Stage::InstallLeft(InstallLeft {
+    Sequel::Go(Stage::InstallLeft(InstallLeft {
         page,
         posting,
         left,
@@ -78,7 +78,7 @@ pub(crate) fn install_left<P: Pages>(
     job: &Job,
     aim: &Aim,
     split: InstallLeft,
-) -> Next
+) -> Sequel
     ensures moves { StageAction (course job.now aim.now) (P.store pages.old) (Stage.InstallLeft split) result (P.store pages.new) }
     ensures follows { OrRefused (P.store pages.old) (P.store pages.new) result (follows_install_left (P.store pages.old) (P.store pages.new) split result) }
 {
@@ -96,25 +96,25 @@ pub(crate) fn install_left<P: Pages>(
         Err(e) => {
             drop(posting);
             drop(at);
-            Next::Refused(e)
+            Sequel::Refused(e)
         }
         Ok(Err(_)) => {
             drop(posting);
             drop(at);
-            Next::Go(Stage::Free(Orphan {
+            Sequel::Go(Stage::Free(Orphan {
                 pid: right,
                 version,
             }))
         }
         Ok(Ok(_)) => match posting {
-            Posting::Parent(parent) => Next::Go(Stage::Post(Post {
+            Posting::Parent(parent) => Sequel::Go(Stage::Post(Post {
                 parent,
                 at,
                 pid: right,
             })),
             Posting::Root => {
                 drop(posting);
-                Next::Go(Stage::Hoist(Hoist {
+                Sequel::Go(Stage::Hoist(Hoist {
                     left: pid,
                     at,
                     right,
@@ -123,14 +123,20 @@ pub(crate) fn install_left<P: Pages>(
             Posting::Nowhere => {
                 drop(posting);
                 drop(at);
-                Next::Go(Stage::Root)
+                Sequel::Go(Stage::Root)
             }
         },
     }
 }
 
 // Puts a pointer to a page into its parent, where it has none.
-pub(crate) fn post<P: Pages>(pages: &mut P, alloc: Global, job: &Job, aim: &Aim, post: Post) -> Next
+pub(crate) fn post<P: Pages>(
+    pages: &mut P,
+    alloc: Global,
+    job: &Job,
+    aim: &Aim,
+    post: Post,
+) -> Sequel
     ensures moves { StageAction (course job.now aim.now) (P.store pages.old) (Stage.Post post) result (P.store pages.new) }
     ensures follows { OrRefused (P.store pages.old) (P.store pages.new) result (follows_post (P.store pages.old) (P.store pages.new) post result) }
 {
@@ -141,34 +147,34 @@ pub(crate) fn post<P: Pages>(pages: &mut P, alloc: Global, job: &Job, aim: &Aim,
     let mut node = match copy {
         Err(e) => {
             drop(at);
-            return Next::Refused(e);
+            return Sequel::Refused(e);
         }
         Ok(node) => node,
     };
     match node.parent_split(at, pid) {
         Err(e) => {
             drop(node);
-            return Next::Refused(e);
+            return Sequel::Refused(e);
         }
         Ok(false) => {
             drop(node);
-            return Next::Go(Stage::Root);
+            return Sequel::Go(Stage::Root);
         }
         Ok(true) => {}
     }
     match pages.replace(index, version, node) {
-        Err(e) => Next::Refused(e),
-        Ok(_) => Next::Go(Stage::Root),
+        Err(e) => Sequel::Refused(e),
+        Ok(_) => Sequel::Go(Stage::Root),
     }
 }
 
 // Frees a page that is no part of any tree.
-pub(crate) fn free<P: Pages>(pages: &mut P, job: &Job, aim: &Aim, own: Orphan) -> Next
+pub(crate) fn free<P: Pages>(pages: &mut P, job: &Job, aim: &Aim, own: Orphan) -> Sequel
     ensures moves { StageAction (course job.now aim.now) (P.store pages.old) (Stage.Free own) result (P.store pages.new) }
     ensures follows { OrRefused (P.store pages.old) (P.store pages.new) result (FreesOrphan (P.store pages.old) (P.store pages.new) own result) }
 {
     match pages.free(own.pid, own.version) {
-        Err(e) => Next::Refused(e),
-        Ok(_) => Next::Go(Stage::Root),
+        Err(e) => Sequel::Refused(e),
+        Ok(_) => Sequel::Go(Stage::Root),
     }
 }

@@ -24,7 +24,7 @@ ghost use Rattle.sled_tree.specs.theory.Stages.{IsOffWalk};
 ghost use Rattle.tree_laws.specs.declared.flight.Stage.{Stage};
 ghost use Rattle.tree_laws.specs.declared.flight.Stage.TheVariants as variant;
 
-use crate::flight::{Aim, InFlight, Job, Next, Went};
+use crate::flight::{Aim, InFlight, Job, Sequel, Went};
 use crate::repair::repair;
 use sled_model::{Call, MAX_LOOPS, Reply};
 use sled_nodes::{Data, Error, IVec, Node, Pid, Result, key_is_up_to};
@@ -305,18 +305,18 @@ pub(crate) fn descend<P: Pages>(
 
 // The call goes on from a stage, or ends.
 #[inline(always)]
-pub(crate) fn settle(flight: &mut InFlight, next: Next) -> Went
+pub(crate) fn settle(flight: &mut InFlight, next: Sequel) -> Went
     requires { flight.old.turns < MAX_LOOPS }
     ensures { (s : Store) (a : Stage) → Leads s (course_of flight.old) a next → Settles s (record { job = flight.old.job; aim = flight.old.aim; stage = a; turns = flight.old.turns }) result flight.new }
 {
     match next {
-        Next::Go(stage) => {
+        Sequel::Go(stage) => {
             set(&mut flight.stage, stage);
             flight.turns += 1;
             Went::Moved
         }
-        Next::Decided(reply) => Went::Decided(reply),
-        Next::Refused(e) => Went::Refused(e),
+        Sequel::Decided(reply) => Went::Decided(reply),
+        Sequel::Refused(e) => Went::Refused(e),
     }
 }
 

@@ -13,8 +13,9 @@ use std::collections::BTreeMap;
 /// Tests whether the pages are well formed, as `Db::open` asks for. Half-done splits and merges are, and nothing is asked of pages that
 /// no tree has. It reads each page of each tree, and changes nothing.
 ///
-/// Refused with `NoMemory`; with `Io` where a page cannot be read; and with `Corruption` where something is found that is not well
-/// formed. The code says what was found first, and stands in `findings`:
+/// Refused with `NoMemory`; with `Io` where a page cannot be read; and with `Corruption` and a code from 1 to 9, which stands in `findings`.
+/// What it accepts is well formed: that is proved. That it refuses nothing else, and that the code names something that is wrong, is tested
+/// alone; where several things are wrong it is one of theirs:
 ///
 /// | code | constant | what was found |
 /// |---|---|---|
@@ -32,7 +33,7 @@ use std::collections::BTreeMap;
 /// match verify_integrity(alloc, &pages) {
 ///     Ok(()) => (), // The pages are well formed.
 ///     Err(Error::Corruption(code)) => {
-///         let is_lost = code == findings::MISSING_ROOT; // They are not: a root names no page, say.
+///         let is_lost = code == findings::MISSING_ROOT; // A root names no page, say.
 ///     }
 ///     Err(e) => return Err(e), // Nobody knows: there was no memory, or a page cannot be read.
 /// }

@@ -29,17 +29,17 @@ use Rattle.sled_tree.specs.Change.{decision_at, link_of, reply_at}
 use Rattle.sled_tree.specs.Course.{Course}
 use Rattle.sled_tree.specs.Follows.{Where, OrNoMemory, OrRefused, TakesWay, FollowsPage, Follows, resumed, ResumesMerge, begun, BeginsMerge, onward, down, done_at, follows_leaf_as, follows_content, follows_here, follows_open, follows_not_merging, follows_read, follows_child_not_merging, follows_child, searched, follows_search, follows_cursor_not_merging, follows_cursor, follows_root, after_install_left, after_swap_root, read_again, sought_again, follows_as}
 use Rattle.sled_tree.specs.Stages.{IsOnItsWay}
-use Rattle.sled_tree.specs.declared.flight.Next.{Next}
-use Rattle.sled_tree.specs.declared.flight.Next.TheVariants.{Go, Decided, Refused}
+use Rattle.sled_tree.specs.declared.flight.Sequel.{Sequel}
+use Rattle.sled_tree.specs.declared.flight.Sequel.TheVariants.{Go, Decided, Refused}
 
 -- where the call goes on, it does at a stage on its way
-abbrev keeps_way : Next → Type 0
+abbrev keeps_way : Sequel → Type 0
 keeps_way (Go s) = IsOnItsWay s
 keeps_way (Decided reply) = Unit {0}
 keeps_way (Refused e) = Unit {0}
 
 -- .. with an answer and without one
-either_way : {A : Type 0} (next : Option A → Next) → keeps_way (next None) → ((x : A) → keeps_way (next (Some x))) → (o : Option A) → keeps_way (next o)
+either_way : {A : Type 0} (next : Option A → Sequel) → keeps_way (next None) → ((x : A) → keeps_way (next (Some x))) → (o : Option A) → keeps_way (next o)
 either_way next without with None = without
 either_way next without with (Some x) = with x
 
@@ -78,8 +78,8 @@ read_way a = either_way (read_again a) tt (λ v. tt)
 sought_way : (a : Receive) (present : Option ℕ) → keeps_way (sought_again a present)
 sought_way a = either_way (sought_again a) tt (λ v. tt)
 
-module _ (n : Next) where
-  it_is : (m : Next) → keeps_way m → n ≡ m → keeps_way n
+module _ (n : Sequel) where
+  it_is : (m : Sequel) → keeps_way m → n ≡ m → keeps_way n
   it_is m way e = subst keeps_way (sym e) way
 
   -- both of a line and of those below it
@@ -87,7 +87,7 @@ module _ (n : Next) where
   each first rest (inl t) = first t.1
   each first rest (inr t) = rest t.1
 
-  has_memory : (m : Next) → keeps_way m → OrNoMemory n m → keeps_way n
+  has_memory : (m : Sequel) → keeps_way m → OrNoMemory n m → keeps_way n
   has_memory m way (inl e) = it_is m way e
   has_memory m way (inr e) = it_is (Refused NoMemory) tt e
 
@@ -95,16 +95,16 @@ module _ (n : Next) where
   acted a b way (inl t) = way t
   acted a b way (inr t) = it_is (Refused t.0) tt t.1
 
-  changed : (change : Node → Node) (pid version : ℕ) (a b : Store) (took : ℕ → Next) (late : Option ℕ → Next) → ((given : ℕ) → keeps_way (took given)) → ((present : Option ℕ) → keeps_way (late present))
+  changed : (change : Node → Node) (pid version : ℕ) (a b : Store) (took : ℕ → Sequel) (late : Option ℕ → Sequel) → ((given : ℕ) → keeps_way (took given)) → ((present : Option ℕ) → keeps_way (late present))
       → TakesWay change pid version a b n took late → keeps_way n
   changed change pid version a b took late first second (inl t) = it_is (took t.0) (first t.0) t.2
   changed change pid version a b took late first second (inr t) = it_is (late t.0) (second t.0) t.2
 
-  of_view : (found : View → Next → Type 0) → ((v : View) → found v n → keeps_way n) → (o : Option View) → MatchOption o (n ≡ Go stage.Root) (λ v. found v n) → keeps_way n
+  of_view : (found : View → Sequel → Type 0) → ((v : View) → found v n → keeps_way n) → (o : Option View) → MatchOption o (n ≡ Go stage.Root) (λ v. found v n) → keeps_way n
   of_view found way None e = it_is (Go stage.Root) tt e
   of_view found way (Some v) f = way v f
 
-  of_page : (s : Store) (pid : ℕ) (found : View → Next → Type 0) → ((v : View) → found v n → keeps_way n) → FollowsPage s pid found n → keeps_way n
+  of_page : (s : Store) (pid : ℕ) (found : View → Sequel → Type 0) → ((v : View) → found v n → keeps_way n) → FollowsPage s pid found n → keeps_way n
   of_page s pid found way f = elim f.is [
     | inl t ↦ of_view found way (view_of pid ((now s).pages pid)) t.1
     | inr t ↦ it_is (Refused t.0) tt t.1

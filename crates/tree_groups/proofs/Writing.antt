@@ -37,8 +37,8 @@ use Rattle.sled_tree.specs.theory.StageAction.{StageActionBy, FlightStepBy, Only
 use Rattle.sled_tree.specs.declared.flight.Aim.TheVariants.{Own}
 use Rattle.sled_tree.specs.declared.flight.InFlight.{InFlight}
 use Rattle.sled_tree.specs.declared.flight.Job.{Job}
-use Rattle.sled_tree.specs.declared.flight.Next.{Next}
-use Rattle.sled_tree.specs.declared.flight.Next.TheVariants as next
+use Rattle.sled_tree.specs.declared.flight.Sequel.{Sequel}
+use Rattle.sled_tree.specs.declared.flight.Sequel.TheVariants as sequel
 use Rattle.sled_tree.specs.declared.flight.Went.TheVariants.{Moved, Decided, Refused}
 use Rattle.sled_tree.proofs.Facts.{rests}
 use Rattle.sled_tree.proofs.Known.{known_kept, not_own, aims}
@@ -224,7 +224,7 @@ module _ (j : Job) (old a b : Store) (f : InFlight) (numbers : Tree → Option �
   keeps_step v off r = keeps_more at_first at_last at_next w p.after v is p.keeps r off
 
   -- the call goes on
-  pub moved_at : (g : InFlight) → StageActionBy (Only None) (course j Own) a f.stage (next.Go g.stage) b → IsOnWay j at_first w at_next g
+  pub moved_at : (g : InFlight) → StageActionBy (Only None) (course j Own) a f.stage (sequel.Go g.stage) b → IsOnWay j at_first w at_next g
   moved_at g step =
       let r = step.is numbers given p.after p.keeps.is named p.knows in record {
         after = r.0;
@@ -235,7 +235,7 @@ module _ (j : Job) (old a b : Store) (f : InFlight) (numbers : Tree → Option �
       }
 
   -- it is decided
-  pub decided_at : needs_operator j.call ≡ false → (reply : Reply) → StageActionBy (Only None) (course j Own) a f.stage (next.Decided reply) b → WrittenAt j at_first w at_next
+  pub decided_at : needs_operator j.call ≡ false → (reply : Reply) → StageActionBy (Only None) (course j Own) a f.stage (sequel.Decided reply) b → WrittenAt j at_first w at_next
   decided_at plain reply step =
       let r = step.is numbers given p.after p.keeps.is named p.knows in
       let d = r.2 None refl in record {
@@ -246,7 +246,7 @@ module _ (j : Job) (old a b : Store) (f : InFlight) (numbers : Tree → Option �
       }
 
   -- it is refused
-  pub refused_at : (e : Error) → StageActionBy (Only None) (course j Own) a f.stage (next.Refused e) b → KeepsMapsAt at_first w at_next
+  pub refused_at : (e : Error) → StageActionBy (Only None) (course j Own) a f.stage (sequel.Refused e) b → KeepsMapsAt at_first w at_next
   refused_at e step =
       let r = step.is numbers given p.after p.keeps.is named p.knows in record {
         after = r.0;
@@ -257,7 +257,7 @@ module _ (j : Job) (old a b : Store) (f : InFlight) (numbers : Tree → Option �
 -- ---- and from the store before the write
 
 module _ (j : Job) (old a : Store) (f : InFlight) (k : OnWay j old a f) (b : Store) where
-  on_course : (n : Next) → StageActionBy (Only None) (course_of f) a f.stage n b → StageActionBy (Only None) (course j Own) a f.stage n b
+  on_course : (n : Sequel) → StageActionBy (Only None) (course_of f) a f.stage n b → StageActionBy (Only None) (course j Own) a f.stage n b
   on_course n s = subst (λ (z : Course). StageActionBy (Only None) z a f.stage n b) k.course_is s
 
   -- the call goes on
@@ -276,8 +276,8 @@ module _ (j : Job) (old a : Store) (f : InFlight) (k : OnWay j old a f) (b : Sto
     told = λ numbers given w is named. moved_at j old a b f numbers given w is named (k.told numbers given w is named) g step;
   }
     where
-      step : StageActionBy (Only None) (course j Own) a f.stage (next.Go g.stage) b
-      step = on_course (next.Go g.stage) x.is.3
+      step : StageActionBy (Only None) (course j Own) a f.stage (sequel.Go g.stage) b
+      step = on_course (sequel.Go g.stage) x.is.3
 
       course_on : course_of g ≡ course j Own
       course_on = ap (λ (z : Job). course z g.aim) x.is.0 ∙ ap (course f.job) x.is.1 ∙ k.course_is
@@ -292,8 +292,8 @@ module _ (j : Job) (old a : Store) (f : InFlight) (k : OnWay j old a f) (b : Sto
     told = λ numbers given w is named. decided_at j old a b f numbers given w is named (k.told numbers given w is named) plain reply step;
   }
     where
-      step : StageActionBy (Only None) (course j Own) a f.stage (next.Decided reply) b
-      step = on_course (next.Decided reply) x.is
+      step : StageActionBy (Only None) (course j Own) a f.stage (sequel.Decided reply) b
+      step = on_course (sequel.Decided reply) x.is
 
   -- it is refused
   pub on_way_refused : (e : Error) (g : InFlight) → FlightStepBy (Only None) a f (Refused e) b g → StopsWriting j old b e
@@ -305,8 +305,8 @@ module _ (j : Job) (old a : Store) (f : InFlight) (k : OnWay j old a f) (b : Sto
     told = λ numbers given w is named. refused_at j old a b f numbers given w is named (k.told numbers given w is named) e step;
   }
     where
-      step : StageActionBy (Only None) (course j Own) a f.stage (next.Refused e) b
-      step = on_course (next.Refused e) x.is
+      step : StageActionBy (Only None) (course j Own) a f.stage (sequel.Refused e) b
+      step = on_course (sequel.Refused e) x.is
 
 pub limit_is : MAX_LOOPS ≡ turns_limit
 limit_is = refl

@@ -1,3 +1,4 @@
 pub mod Walks
 pub mod Operating
 pub mod Dropping
+pub mod Sizing

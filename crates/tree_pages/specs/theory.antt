@@ -1,3 +1,4 @@
 pub mod Export
 pub mod Operators
 pub mod Drops
+pub mod Stats

@@ -50,7 +50,7 @@ pub(crate) fn first_child<P: Pages>(alloc: Global, pages: &P, pid: Pid) -> Resul
 }
 
 // The first leaf under a root: no way down is longer than there are page numbers.
-fn first_leaf<P: Pages>(alloc: Global, pages: &P, root: Pid) -> Result<Pid>
+pub(crate) fn first_leaf<P: Pages>(alloc: Global, pages: &P, root: Pid) -> Result<Pid>
     ensures ok { IfOk result (λ leaf. leaf ≡ leaf_under page_numbers (nodes_of (now (P.store pages.now))) root (first_of (nodes_of (now (P.store pages.now)) root))) }
     ensures err { IfErr result (RefusesRead (P.store pages.now)) }
 {
@@ -79,7 +79,7 @@ fn node_pairs_and_next(alloc: Global, node: &Node) -> Result<(Vec<(IVec, IVec)>,
 }
 
 // A page's pairs, and the next page.
-fn read_pairs<P: Pages>(
+pub(crate) fn read_pairs<P: Pages>(
     alloc: Global,
     pages: &P,
     pid: Pid,

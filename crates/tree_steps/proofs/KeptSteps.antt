@@ -37,8 +37,8 @@ use Rattle.sled_tree.specs.theory.Linking.{IsAtLink, StepsBy, LinksPrepared}
 use Rattle.sled_tree.specs.theory.StageAction.{StageActionBy, Only}
 use Rattle.sled_tree.specs.declared.act.Change.{Change}
 use Rattle.sled_tree.specs.declared.flight.InFlight.{InFlight}
-use Rattle.sled_tree.specs.declared.flight.Next.{Next}
-use Rattle.sled_tree.specs.declared.flight.Next.TheVariants.{Go, Decided, Refused}
+use Rattle.sled_tree.specs.declared.flight.Sequel.{Sequel}
+use Rattle.sled_tree.specs.declared.flight.Sequel.TheVariants.{Go, Decided, Refused}
 use Rattle.sled_tree.specs.declared.flight.Went.{Went}
 use Rattle.sled_tree.specs.declared.flight.Went.TheVariants as went
 use Rattle.sled_tree.proofs.Facts.{unable, by_these}
@@ -127,7 +127,7 @@ module _ (reply : Reply) where
       go None f = at_search seek v f
       go (Some child) f = resumes_not v child f.before f.is
 
-  pages : (s : Store) (pid : ℕ) (found : View → Next → Type 0) → ((v : View) → found v (Decided reply) → found v (Refused NoMemory)) → FollowsPage s pid found (Decided reply) → FollowsPage s pid found (Refused NoMemory)
+  pages : (s : Store) (pid : ℕ) (found : View → Sequel → Type 0) → ((v : View) → found v (Decided reply) → found v (Refused NoMemory)) → FollowsPage s pid found (Decided reply) → FollowsPage s pid found (Refused NoMemory)
   pages s pid found turned f = record {
     is = elim f.is [
       | inl t ↦ inl (t.0, go (view_of pid ((now s).pages pid)) t.1)
@@ -144,7 +144,7 @@ module _ (reply : Reply) where
   at_root j s (Some root) f = pages s root (λ v. follows_read j v reached.Root) (λ v. at_read j v reached.Root) f
 
   -- no other action decides
-  takes_not : {P : Type 0} (change : _) (pid version : ℕ) (old new : Store) (took : ℕ → Next) (late : Option ℕ → Next) → ((n : ℕ) → Decided reply ≡ took n → ⊥) → ((o : Option ℕ) → Decided reply ≡ late o → ⊥)
+  takes_not : {P : Type 0} (change : _) (pid version : ℕ) (old new : Store) (took : ℕ → Sequel) (late : Option ℕ → Sequel) → ((n : ℕ) → Decided reply ≡ took n → ⊥) → ((o : Option ℕ) → Decided reply ≡ late o → ⊥)
       → TakesWay change pid version old new (Decided reply) took late → P
   takes_not change pid version old new took late a b (inl t) = absurd (a t.0 t.2)
   takes_not change pid version old new took late a b (inr t) = absurd (b t.0 t.2)

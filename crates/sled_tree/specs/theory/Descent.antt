@@ -14,8 +14,8 @@ use Rattle.sled_tree.specs.theory.Passing.{AdvancesOnPath, AdvancesFromPage}
 use Rattle.sled_tree.specs.declared.walk.Descent.{Descent}
 use Rattle.sled_tree.specs.declared.walk.Descent.TheVariants as descent
 use Rattle.sled_tree.specs.declared.flight.InFlight.{InFlight}
-use Rattle.sled_tree.specs.declared.flight.Next.{Next}
-use Rattle.sled_tree.specs.declared.flight.Next.TheVariants.{Go, Refused}
+use Rattle.sled_tree.specs.declared.flight.Sequel.{Sequel}
+use Rattle.sled_tree.specs.declared.flight.Sequel.TheVariants.{Go, Refused}
 use Rattle.tree_laws.specs.Snapshot.{LiesUnder}
 use Rattle.tree_laws.specs.declared.flight.Stage.{Stage}
 use Rattle.tree_laws.specs.declared.flight.Stage.TheVariants as stage
@@ -50,12 +50,12 @@ pub record NeedsRepair (j : Course) (by : Reached) (view : View) : Type 0 where
 
 -- the stage reads this page, and what comes of the page is what comes of the stage
 pub record Meets (s : Store) (j : Course) (a : Stage) (view : View) : Type 0 where
-  pub moves : (next : Next) → AfterPage j view (way_of a) next → StageAction j s a next s
-  pub passes : (next : Next) → AdvancesFromPage j view (way_of a) next → AdvancesOnPath j (now s) a next (now s)
-  pub follows : (next : Next) → follows_read j view (way_of a) next → Follows j s a next s
+  pub moves : (next : Sequel) → AfterPage j view (way_of a) next → StageAction j s a next s
+  pub passes : (next : Sequel) → AdvancesFromPage j view (way_of a) next → AdvancesOnPath j (now s) a next (now s)
+  pub follows : (next : Sequel) → follows_read j view (way_of a) next → Follows j s a next s
 
 -- this comes of the stage, which changes nothing
-pub record Leads (s : Store) (j : Course) (a : Stage) (next : Next) : Type 0 where
+pub record Leads (s : Store) (j : Course) (a : Stage) (next : Sequel) : Type 0 where
   pub moves : StageAction j s a next s
   pub passes : AdvancesOnPath j (now s) a next (now s)
   pub follows : Follows j s a next s

@@ -15,8 +15,8 @@ use Rattle.tree_laws.specs.Stages.{owned}
 use Rattle.tree_laws.specs.theory.Stages.{IsHere}
 use Rattle.tree_laws.specs.declared.flight.Stage.{Stage}
 use Rattle.tree_laws.specs.declared.flight.Reached.{Reached}
-use Rattle.sled_tree.specs.declared.flight.Next.{Next}
-use Rattle.sled_tree.specs.declared.flight.Next.TheVariants.{Go, Decided, Refused}
+use Rattle.sled_tree.specs.declared.flight.Sequel.{Sequel}
+use Rattle.sled_tree.specs.declared.flight.Sequel.TheVariants.{Go, Decided, Refused}
 use Rattle.sled_tree.specs.declared.flight.InFlight.{InFlight}
 use Rattle.sled_tree.specs.declared.flight.Went.{Went}
 use Rattle.sled_tree.specs.declared.flight.Went.TheVariants as went
@@ -29,7 +29,7 @@ is_action_refused_as (Io fault) old new = is_refused_as (Io fault) old new ⊎ (
 is_action_refused_as e old new = is_refused_as e old new
 
 -- a refusal changes nothing, but that a fault may be counted; without one some page is not readable
-abbrev pub effect_of_action : Next → Store → Store → Type 0
+abbrev pub effect_of_action : Sequel → Store → Store → Type 0
 effect_of_action (Go stage) old new = ActsAtMostOnce old new
 effect_of_action (Decided reply) old new = ActsAtMostOnce old new
 effect_of_action (Refused e) old new = is_action_refused_as e old new
@@ -48,13 +48,13 @@ pub record DecidesAs (operator : Option Operator) (j : Course) (reply : Reply) (
   pub quiet : (answer_of operator j.call (contents (nodes_at old) w j.tree.name)).event ≡ None → b ≡ a
   pub loud : (answer_of operator j.call (contents (nodes_at old) w j.tree.name)).event ≢ None → ActsOnce a b
 
-abbrev pub owned_next : Next → List ℕ
+abbrev pub owned_next : Sequel → List ℕ
 owned_next (Go stage) = owned stage
 owned_next (Decided reply) = []
 owned_next (Refused e) = []
 
 -- what comes of an action from the store a to the store b. The call is decided as it is by each of these operators
-abbrev pub StageOutcome : (Option Operator → Type 0) → Course → Store → Store → Snapshot → Forest → Next → Snapshot → Forest → Type 0
+abbrev pub StageOutcome : (Option Operator → Type 0) → Course → Store → Store → Snapshot → Forest → Sequel → Snapshot → Forest → Type 0
 StageOutcome by j a b old w (Go stage) new v = Knows new v j stage × KeepsContents old w new v
 StageOutcome by j a b old w (Decided reply) new v = (operator : Option Operator) → by operator → DecidesAs operator j reply a b old w new v
 StageOutcome by j a b old w (Refused e) new v = KeepsContents old w new v
@@ -68,14 +68,14 @@ Only this operator = operator ≡ this
 
 -- One page action of a call whose tree is current, from a stage to what comes next.
 -- At every forest that shows the pages well formed, where the stage's facts hold, there is a forest after
-pub record StageActionBy (by : Option Operator → Type 0) (j : Course) (old : Store) (stage : Stage) (next : Next) (new : Store) : Type 0 where
+pub record StageActionBy (by : Option Operator → Type 0) (j : Course) (old : Store) (stage : Stage) (next : Sequel) (new : Store) : Type 0 where
   pub touches : effect_of_action next old new
   pub is : (numbers : Tree → Option ℕ) (given : ℕ → Bool) (w : Forest)
       → HasForest (snapshot_of old numbers given) w → numbers j.tree.name ≡ Some j.tree.number → Knows (snapshot_of old numbers given) w j stage
       → (v : Forest) × KeepsForest (owned stage) (owned_next next) (snapshot_of old numbers given) w (snapshot_of new numbers given) v × StageOutcome by j old new (snapshot_of old numbers given) w next (snapshot_of new numbers given) v × leaks_no_page_as next (owned stage) (now old) (now new) v
 
 -- .. that does not ask for the operator
-abbrev pub StageAction : Course → Store → Stage → Next → Store → Type 0
+abbrev pub StageAction : Course → Store → Stage → Sequel → Store → Type 0
 StageAction = StageActionBy Whichever
 
 abbrev pub flight_step_as : (Option Operator → Type 0) → Store → InFlight → Went → Store → InFlight → Type 0
@@ -96,11 +96,11 @@ abbrev pub IsReadPage : Snapshot → Forest → Course → View → Reached → 
 IsReadPage m w j v by = IsHere m w j.tree.name j.tree.number j.aim v by × IsAimed j
 
 -- what comes of a read, which changes nothing
-abbrev pub ReadOutcome : Course → Store → Snapshot → Forest → Next → Type 0
+abbrev pub ReadOutcome : Course → Store → Snapshot → Forest → Sequel → Type 0
 ReadOutcome j s m w next = (owned_next next ≡ []) × StageOutcome Whichever j s s m w next m w
 
 -- What comes after a page was read, of every store where it was read
-pub record AfterPage (j : Course) (view : View) (by : Reached) (next : Next) : Type 0 where
+pub record AfterPage (j : Course) (view : View) (by : Reached) (next : Sequel) : Type 0 where
   pub touches : (s : Store) → effect_of_action next s s
   pub is : (s : Store) (numbers : Tree → Option ℕ) (given : ℕ → Bool) (w : Forest)
       → HasForest (snapshot_of s numbers given) w → numbers j.tree.name ≡ Some j.tree.number → IsReadPage (snapshot_of s numbers given) w j view by
@@ -111,7 +111,7 @@ abbrev pub IsUnchangedNow : Snapshot → View → Type 0
 IsUnchangedNow m v = m.state.pages v.pid ≡ Some (record { version = v.version; node = v.node })
 
 -- what comes after a stage of a merge has read its page
-pub record AfterRead (j : Course) (taken : Stage) (pid : ℕ) (view : View) (next : Next) : Type 0 where
+pub record AfterRead (j : Course) (taken : Stage) (pid : ℕ) (view : View) (next : Sequel) : Type 0 where
   pub touches : (s : Store) → effect_of_action next s s
   pub is : (s : Store) (numbers : Tree → Option ℕ) (given : ℕ → Bool) (w : Forest)
       → HasForest (snapshot_of s numbers given) w → numbers j.tree.name ≡ Some j.tree.number → view.pid ≡ pid → IsUnchangedNow (snapshot_of s numbers given) view → Knows (snapshot_of s numbers given) w j taken
