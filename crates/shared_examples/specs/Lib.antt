@@ -2,3 +2,11 @@ pub mod Places
 pub mod Counting
 pub mod Raising
 pub mod Queueing
+pub use Rattle.sled_nodes.specs as sled_nodes
+pub use Rattle.sled_store.specs as sled_store
+pub use Rattle.sled_model.specs as sled_model
+pub use Rattle.tree_laws.specs as tree_laws
+pub use Rattle.tree_steps.specs as tree_steps
+pub use Rattle.sled_shared.specs as sled_shared
+pub use Rattle.sled_machine.specs as sled_machine
+pub use Rattle.example_parts.specs as example_parts

@@ -1,1 +1,2 @@
 pub mod Batch
+pub use Rattle.sled_nodes.specs as sled_nodes

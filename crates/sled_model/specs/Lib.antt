@@ -13,3 +13,6 @@ pub mod Groups
 pub mod Imports
 pub mod Transition
 pub mod Runs
+pub use Rattle.sled_nodes.specs as sled_nodes
+pub use Rattle.sled_store.specs as sled_store
+pub use Rattle.sled_batch.specs as sled_batch

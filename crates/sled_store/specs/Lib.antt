@@ -6,3 +6,4 @@ pub mod Crash
 pub mod Faults
 pub mod theory
 pub mod Roots
+pub use Rattle.sled_nodes.specs as sled_nodes
