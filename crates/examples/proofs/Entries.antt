@@ -1,5 +1,5 @@
 -- The entries of an index that have a first part.
-use Rattle.std.proofs.Common.{◌≡◌, ℕ, ◌<◌, ◌^◌, Bool, true, false, cond, nat_eq, filter, drop, length, List, [], ◌∷◌, ◌++◌, refl, sym, ap, ◌∙◌, subst, inl, inr, ◌⊎◌, Some, None, Ok, Err, Result, IfOk, append_assoc, append-nil}
+use Rattle.std.proofs.Common.{◌≡◌, ℕ, ◌<◌, ◌^◌, Bool, true, false, cond, nat_eq, filter, drop, length, List, [], ◌∷◌, ◌++◌, refl, sym, ap, ◌∙◌, subst, inl, inr, Ok, Err, Result, IfOk, append-nil}
 use Rattle.std.specs.List.{starts_with, AllByRecursion}
 use Rattle.std.proofs.lemmas.Bool.Decides.{Decides-eqb}
 use Rattle.std.proofs.lemmas.Slice.Eq.{starts_is}
@@ -9,7 +9,7 @@ use Rattle.sled_store.specs.Store.{Store}
 use Rattle.sled_model.specs.Maps.{Map, Merge}
 use Rattle.sled_model.specs.declared.tree.Tree.{Tree}
 use Rattle.tree_reads.specs.Prefixes.{IsBytes, pairs_beginning}
-use Rattle.tree_reads.specs.Ranges.{Coming, TakesFirst, whole}
+use Rattle.tree_reads.specs.Ranges.{Coming}
 use Rattle.sled.specs.Reads
 use Rattle.sled.specs.Reads.{ReadsMap}
 use Rattle.sled.specs.Values.{DbValue}
@@ -89,46 +89,6 @@ module _ (law : KeepsPrefixes) (number : ℕ) (fits : number < 2 ^ 64) (map : Ma
     where
       are : found ≡ pairs_beginning (spelled (first number)) map
       are = is ∙ ap (λ key. pairs_beginning key map) same
-
--- The loop over a scan of all these pairs: what was found and what is still to come are all of them, and the keys that were found
--- are byte strings
-abbrev pub Goes : {P : Type 0} → Map → Map → Coming P → Type 0
-Goes all found coming = (found ++ coming.pairs ≡ all) × (coming.ended ≡ true → coming.pairs ≡ []) × AllByRecursion (λ e. IsBytes e.0) found
-
-all_and : (entry : Key × Key) (found : Map) → AllByRecursion (λ e. IsBytes e.0) found → IsBytes entry.0 → AllByRecursion (λ e. IsBytes e.0) (found ++ entry ∷ [])
-all_and entry [] each last = (last, tt)
-all_and entry (e ∷ found) each last = (each.0, all_and entry found each.1 last)
-
-nothing_left : (pairs : Map) (ended : Bool) → (ended ≡ true → pairs ≡ []) → (pairs ≡ []) ⊎ (ended ≡ true) → pairs ≡ []
-nothing_left pairs ended none (inl e) = e
-nothing_left pairs ended none (inr e) = none e
-
-pub not_ended : {P : Type 0} (entries : Coming P) → entries.ended ≡ false → entries.ended ≡ true → entries.pairs ≡ []
-not_ended entries e h = absurd cc
-
-pub goes_first : {P : Type 0} (found : Map) (entries : Coming P) → found ≡ [] → (entries.ended ≡ true → entries.pairs ≡ []) → Goes entries.pairs found entries
-goes_first found entries e going = (ap (λ m. m ++ entries.pairs) e, going, subst (λ m. AllByRecursion (λ e. IsBytes e.0) m) (sym e) tt)
-
-module _ {P : Type 0} (store : P → Store) (all found : Map) (old new : Coming P) where
-  pub goes_on : (entry : Key × Key) (more : Map) → Goes all found old → TakesFirst store whole old (Some (Ok entry)) new → IsBytes entry.0 → more ≡ found ++ entry ∷ [] → Goes all more new
-  goes_on entry more i takes bytes is =
-      let p = takes.is.1 in
-      let same : entry ≡ p = takes.is.2 in
-      let rest = takes.is.3 in
-      let splits : old.pairs ≡ p ∷ rest = takes.is.4 in
-      let left : new ≡ record old { pairs = rest } = takes.is.5 in (
-        ap (λ (c : Coming P). more ++ c.pairs) left
-            ∙ ap (λ m. m ++ rest) is
-            ∙ append_assoc found (entry ∷ []) rest
-            ∙ ap (λ (e : Key × Key). found ++ e ∷ rest) same
-            ∙ ap (λ pairs. found ++ pairs) (sym splits)
-            ∙ i.0,
-        not_ended new (ap (λ (c : Coming P). c.ended) left ∙ takes.is.0),
-        subst (λ m. AllByRecursion (λ e. IsBytes e.0) m) (sym is) (all_and entry found i.2 bytes),
-      )
-
-  pub goes_to_end : Goes all found old → TakesFirst store whole old None new → found ≡ all
-  goes_to_end i takes = sym (append-nil found) ∙ ap (λ pairs. found ++ pairs) (sym (nothing_left old.pairs old.ended i.1 takes.is.0)) ∙ i.0
 
 module _ {P M : Type 0} (store : P → Store) (meant : M → Merge) (d : DbValue P M) (tree : Tree) (law : KeepsPrefixes) (number : ℕ) (fits : number < 2 ^ 64) (prefix : Key) (entries : Coming P) where
   found_all : (found : Map) → prefix ≡ spelled (Number number ∷ []) → Reads.BeginsWith store meant d tree prefix entries → found ≡ entries.pairs → AllByRecursion (λ e. IsBytes e.0) found → ReadsMap store meant d tree (λ map. FindsUnder number map found)

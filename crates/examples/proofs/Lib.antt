@@ -3,8 +3,6 @@ pub mod Queueing
 pub mod Copying
 pub mod Keeping
 pub mod Counting
-pub mod Typing
-pub mod Walking
 pub mod Opening
 pub mod Turned
 pub mod Missing

@@ -11,7 +11,6 @@ ghost use Rattle.sled.specs.Values.{db_state};
 ghost use Rattle.sled.specs.Watch.{WatchesDb, EndsSubscriber};
 ghost use Rattle.examples.specs.Endings.{turned, entries_ending, while_beginning, HasSame, has_missed, IsIndex, IsUpToDate, BeginsIndex, TakesOldest, CatchesUp, CatchesUpBy, BeginsAnew, StaysIndex, FindsEnding, StillFollowsLaw, KeepsFollowing, FindsInTree};
 
-use crate::index::all_of;
 use sled::Db;
 use sled_model::{Event, MergeOperator, Next, Subscriber, Tree};
 use sled_nodes::{Error, IVec, Result};
@@ -21,6 +20,7 @@ use std::collections::BTreeMap;
 use std::collections::btree_map::Range;
 use std::marker::Model;
 use std::mem::replace;
+use typed_map::all_of;
 
 // A byte string read from its end.
 fn turn(alloc: Global, bytes: &[u8]) -> Result<IVec>

@@ -1,6 +1,6 @@
 //! Callers of a database that are proved from public contracts alone, as a user would write them: what those contracts say is enough to
 //! build on. `index` is an example of a scan, `queue` of a database that takes pairs out, `copy` of one that gets the trees of another,
-//! `typed` of keys and values of a user's own types, `counters` of a merge operator and of a closure, `endings` of a subscriber that keeps
+//! `typed` of a type of one's own that keys of `typed_map` may have, `counters` of a merge operator and of a closure, `endings` of a subscriber that keeps
 //! an index, and begins anew where it missed events, `stock` of two trees that groups keep in step, and `batches` of many pairs that are
 //! loaded a hundred at a time.
 #![tactic(auto)]
@@ -22,4 +22,4 @@ pub use example_parts::{Adds, number_at};
 pub use index::entries_under;
 pub use queue::{add, take};
 pub use stock::{new_stock, open_part, open_stock, put_item, recover_stock, take_item};
-pub use typed::{Reading, Spelled, TypedError, TypedResult, look_up, put, walk};
+pub use typed::Reading;

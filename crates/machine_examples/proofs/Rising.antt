@@ -9,7 +9,7 @@ use Rattle.sled_calls.specs.Ids.{ids_of, RiseBetween}
 use Rattle.sled_calls.specs.Run.{MachineSteps}
 use Rattle.sled_calls.specs.Values.{MachineValue}
 use Rattle.sled_calls.proofs.Rising.{rise_on, run_rises}
-use Rattle.machine_examples.specs.Ids.{Rise, Lives, Runs, RunsAgain, RunsOn, IdsLaw}
+use Rattle.machine_examples.specs.Ids.{Rise, Lives, Runs, RunsAgain, RunsOn, RunsFurther, GivesBeside, IdsLaw}
 
 module _ {P M : Type 0} (store : P → Store) (number : P → ℕ) (meant : M → Merge) where
   -- a run, and another on what was opened after it, where the ids that were set aside count as given
@@ -41,6 +41,9 @@ module _ {P M : Type 0} (store : P → Store) (number : P → ℕ) (meant : M �
   lives_rise (RunsOn {a = a} {b = b} {c = c} {d = d} {ids = ids} {steps = ss} {outcomes = os} before db opens run) =
       rise_on a.db.greatest_id b.db.greatest_id d.db.greatest_id ids (ids_of ss os) (lives_rise before)
       (rise_on b.db.greatest_id c.db.greatest_id d.db.greatest_id [] (ids_of ss os) (counted b.db.greatest_id (store b.db.pages).mark c.db.greatest_id db.ids opens.ids) (run_rises store number meant c d ss os run))
+  lives_rise (RunsFurther {a = a} {b = b} {c = c} {ids = ids} {steps = ss} {outcomes = os} before run) =
+      rise_on a.db.greatest_id b.db.greatest_id c.db.greatest_id ids (ids_of ss os) (lives_rise before) (run_rises store number meant b c ss os run)
+  lives_rise (GivesBeside {a = a} {b = b} {ids = ids} {d = d} more before given) = rise_on a.db.greatest_id b.db.greatest_id d.greatest_id ids more (lives_rise before) given
 
   -- no id comes twice
   pub ids_rise : IdsLaw store number meant

@@ -27,8 +27,8 @@ use Rattle.sled.specs.Direct.{PointDecided, PointRefused, WholeDecided, WholeRef
 use Rattle.sled.specs.Ids.{GivesId, RefusesId}
 use Rattle.sled.specs.Values.{DbValue, db_state}
 use Rattle.example_parts.specs.Reads.{maps_now}
-use Rattle.examples.specs.Typed.{Spelling, by_parts, as_it_is, pairs_in, IsTyped, Walks, IsForeign}
-use Rattle.examples.specs.theory.Spelling.{number_order}
+use Rattle.typed_map.specs.Typed.{Spelling, by_parts, as_it_is, pairs_in, IsTyped, Walks, IsForeign}
+use Rattle.typed_map.specs.theory.Spelling.{number_order}
 use Rattle.examples.proofs.Queueing.{inserted}
 use Rattle.examples.proofs.Opening.{opened_now}
 use Rattle.machine_examples.specs.Events.{Event, pairs_of, HasEvents, KeepsStreams, OpensStream, Appends, ReadsFrom}

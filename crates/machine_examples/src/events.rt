@@ -1,16 +1,16 @@
 //! An event store: a stream is a tree of a database, and an event stands in it at its id, which no other event has. Ids rise, and
 //! so does their spelling, so a stream has its events in the order in which they came.
 ghost use Rattle.std.specs.Prelude.{◌≡◌, IfOk, IfErr, OnErr, List};
-ghost use Rattle.examples.specs.declared.typed.TypedError.TheVariants.{Foreign};
+ghost use Rattle.typed_map.specs.declared.typed.TypedError.TheVariants.{Foreign};
 ghost use Rattle.machine_examples.specs.Events.{Event, HasEvents, KeepsStreams, OpensStream, Appends, ReadsFrom};
 
-use examples::{Spelled, TypedResult, walk};
 use sled::Db;
 use sled_model::{MergeOperator, Tree};
 use sled_nodes::{IVec, Result};
 use sled_store::Pages;
 use std::alloc::Global;
 use std::ops::Bound;
+use typed_map::{Spelled, TypedResult, walk};
 
 /// Opens the stream of a name, which has no events where the name is new. Refused, every stream is as before.
 pub fn open_stream<P: Pages, M: MergeOperator>(db: &mut Db<P, M>, name: &[u8]) -> Result<Tree>

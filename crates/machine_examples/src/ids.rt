@@ -65,8 +65,8 @@ pub fn run_twice(
     }
 }
 
-/// Over any number of runs, with an opening between each and the next, and a crash before it or none, every id that is given is above all that were given
-/// before it.
+/// Over any number of runs, with an opening between each and the next, a crash before it or none, and calls that are no steps between them,
+/// every id that is given is above all that were given before it.
 pub fn law_ids<P: Pages, M: MergeOperator>()
     ensures { IdsLaw P.store P.flush_number M.meant }
 {}

@@ -1,8 +1,8 @@
 //! The event store in `machine_examples`, with two streams.
 use crate::trial::Trial;
 use crate::typed::tells;
-use examples::TypedResult;
 use machine_examples::{append, read_from};
+use typed_map::TypedResult;
 
 // Whether the two last events of a stream are read, from an id on that the other one has.
 fn reads_two(trial: &Trial) -> TypedResult<bool> {

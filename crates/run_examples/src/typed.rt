@@ -1,10 +1,11 @@
-//! The typed map in `examples`, with readings of two stations in the first tree.
+//! A typed map, with readings of two stations in the first tree.
 use crate::seen::Seen;
 use crate::trial::Trial;
-use examples::{Reading, TypedError, TypedResult, look_up, put, walk};
+use examples::Reading;
 use sled_nodes::{IVec, Result};
 use std::alloc::Global;
 use std::ops::Bound;
+use typed_map::{TypedError, TypedResult, look_up, put, walk};
 
 // What was measured at a station in an hour.
 fn reading(alloc: Global, station: &str, hour: u64) -> Result<Reading> {

@@ -1,5 +1,5 @@
--- The spellings of a reading and of a number keep the order and are one to one, since keys of one shape are.
-use Rattle.std.proofs.Common.{◌≡◌, ℕ, List, [], ◌∷◌, ◌++◌, ap}
+-- The spelling of a reading keeps the order and is one to one, since keys of one shape are.
+use Rattle.std.proofs.Common.{◌≡◌, List, [], ◌∷◌, ◌++◌, ap}
 use Rattle.sled_nodes.specs.Order.{key_cmp}
 use Rattle.ordered_keys.specs.Keys.{HasShape, spelled, parts_cmp}
 use Rattle.ordered_keys.specs.declared.part.Kind.{Kind}
@@ -18,10 +18,6 @@ abbrev reading_of : List Part → Reading
 reading_of (Text station ∷ Number hour ∷ rest) = record { station = station; hour = hour }
 reading_of _ = record { station = []; hour = 0 }
 
-abbrev number_of : List Part → ℕ
-number_of (Number n ∷ rest) = n
-number_of _ = 0
-
 abbrev shape : List Kind
 shape = kind.Text ∷ kind.Number ∷ []
 
@@ -30,9 +26,3 @@ reading_order a b i j = keeps_order shape (parts_of a) (parts_of b) ([], i) ([],
 
 pub reading_apart : (a b : Reading) → HasShape shape (parts_of a) → HasShape shape (parts_of b) → spelled (parts_of a) ≡ spelled (parts_of b) → a ≡ b
 reading_apart a b i j e = ap reading_of (one_to_one shape (parts_of a) (parts_of b) [] [] i j (ap (λ k. k ++ []) e)).0
-
-pub number_order : (a b : ℕ) → HasShape (kind.Number ∷ []) (Number a ∷ []) → HasShape (kind.Number ∷ []) (Number b ∷ []) → key_cmp (spelled (Number a ∷ [])) (spelled (Number b ∷ [])) ≡ parts_cmp (Number a ∷ []) (Number b ∷ [])
-number_order a b i j = keeps_order (kind.Number ∷ []) (Number a ∷ []) (Number b ∷ []) ([], i) ([], j)
-
-pub number_apart : (a b : ℕ) → HasShape (kind.Number ∷ []) (Number a ∷ []) → HasShape (kind.Number ∷ []) (Number b ∷ []) → spelled (Number a ∷ []) ≡ spelled (Number b ∷ []) → a ≡ b
-number_apart a b i j e = ap number_of (one_to_one (kind.Number ∷ []) (Number a ∷ []) (Number b ∷ []) [] [] i j (ap (λ k. k ++ []) e)).0

@@ -1,6 +1,6 @@
 use Rattle.std.proofs.Common.{◌∙◌}
-use Rattle.examples.proofs.Walking.{puts}
-use Rattle.examples.proofs.typed.put.Goals as goal
+use Rattle.typed_map.proofs.Walking.{puts}
+use Rattle.typed_map.proofs.typed.put.Goals as goal
 
 pub returns-in-Ok-stood-clause-ok : goal.returns-in-Ok-stood-clause-ok
 returns-in-Ok-stood-clause-ok g c = puts g.P.Pages.store g.M.MergeOperator.meant _ _ g.K.Spelled.spelling g.V.Spelled.spelling g.met.K.Spelled.keeps_order _ _ c.in-Ok.ensures.is_value c.in-Ok-spell.ensures.is_value c.audit.ensures.ascend _ _ _ _

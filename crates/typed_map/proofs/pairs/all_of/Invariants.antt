@@ -1,6 +1,6 @@
 use Rattle.std.proofs.Common.{length}
-use Rattle.examples.proofs.Entries.{Goes}
-use Rattle.examples.proofs.index.all_of.Given as goal
+use Rattle.typed_map.proofs.Listing.{Goes}
+use Rattle.typed_map.proofs.pairs.all_of.Given as goal
 
 abbrev pub invariant-loop-entry : goal.invariant-loop-entry
 invariant-loop-entry g l = Goes l.fn.entries.pairs l.found.items l.entries

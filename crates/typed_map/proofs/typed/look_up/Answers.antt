@@ -1,6 +1,6 @@
 use Rattle.std.proofs.Common.{sym, ◌∙◌}
-use Rattle.examples.proofs.Walking.{looks_up_none, looks_up_some, looks_up_foreign}
-use Rattle.examples.proofs.typed.look_up.Goals as goal
+use Rattle.typed_map.proofs.Walking.{looks_up_none, looks_up_some, looks_up_foreign}
+use Rattle.typed_map.proofs.typed.look_up.Goals as goal
 
 pub returns-in-Ok-None-clause-ok : goal.returns-in-Ok-None-clause-ok
 returns-in-Ok-None-clause-ok g c = looks_up_none g.P.Pages.store g.M.MergeOperator.meant _ _ g.K.Spelled.spelling g.V.Spelled.spelling g.met.K.Spelled.keeps_order _ _ c.in-Ok-None.field-0 c.in-Ok.ensures.is_value (c.as_ref.ensures ∙ c.in-Ok.ensures.ok)

@@ -1,7 +1,7 @@
 use Rattle.std.proofs.Common.{◌∙◌}
 use Rattle.sled_nodes.proofs.Basics.{ok_weaker, err_weaker}
-use Rattle.examples.proofs.Walking.{walks, walks_foreign, ends_empty}
-use Rattle.examples.proofs.typed.walk.Goals as goal
+use Rattle.typed_map.proofs.Walking.{walks, walks_foreign, ends_empty}
+use Rattle.typed_map.proofs.typed.walk.Goals as goal
 
 pub all_of-pairs-requires-after_bounds : goal.all_of-pairs-requires-after_bounds
 all_of-pairs-requires-after_bounds g c = λ κs lives. ends_empty g.P.Pages.store g.M.MergeOperator.meant _ _ g.K.Spelled.spelling g.V.Spelled.spelling g.met.K.Spelled.keeps_order _ _ _ c.in-Ok-range.ensures.ok

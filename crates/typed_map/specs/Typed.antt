@@ -49,17 +49,6 @@ bound_at (Included b) = Included b.now
 bound_at (Excluded b) = Excluded b.now
 bound_at Unbounded = Unbounded
 
--- the bytes of a bound
-abbrev pub bound_bytes : {A : Type 0} → Spelling A → Bound A → Bound Key
-bound_bytes s (Included b) = Included (s.bytes b)
-bound_bytes s (Excluded b) = Excluded (s.bytes b)
-bound_bytes s Unbounded = Unbounded
-
-abbrev pub bounds_value : {A : Type 0} → Spelling A → Bound A → Type 0
-bounds_value s (Included b) = s.is_value b
-bounds_value s (Excluded b) = s.is_value b
-bounds_value s Unbounded = Unit {0}
-
 module _ {K V : Type 0} (keys : Spelling K) (values : Spelling V) where
   abbrev pub pair_bytes : K × V → Key × Key
   pair_bytes e = (keys.bytes e.0, values.bytes e.1)

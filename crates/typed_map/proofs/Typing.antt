@@ -16,7 +16,8 @@ use Rattle.sled_model.specs.Maps.{Map, Merge}
 use Rattle.sled_model.specs.Answer.{answer_of, decision_of, map_after}
 use Rattle.sled_model.specs.declared.call.Call.TheVariants.{Insert}
 use Rattle.sled_model.specs.declared.decision.Effect.TheVariants.{Nothing, Set}
-use Rattle.examples.specs.Typed.{Spelling, is_above, is_below, pair_bytes, bound_bytes, bounds_value}
+use Rattle.typed_map.specs.Typed.{Spelling, is_above, is_below, pair_bytes}
+use Rattle.typed_map.specs.theory.Typed.{bound_bytes, bounds_value}
 
 -- ---- an insert puts its pair in its place, also where an equal value stands and nothing is written
 

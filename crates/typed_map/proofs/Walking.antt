@@ -22,9 +22,9 @@ use Rattle.sled.specs.Values.{DbValue, db_state}
 use Rattle.sled.specs.Sound.{MapsAscend}
 use Rattle.sled.specs.Direct.{PointDecided}
 use Rattle.sled.specs.Reads.{ReadsMap, BeginsRange}
-use Rattle.example_parts.specs.Reads.{maps_now}
-use Rattle.examples.specs.Typed.{Spelling, pairs_in, is_above, is_below, pair_bytes, bound_bytes, bounds_value, IsTyped, Puts, LooksUp, Walks, IsForeign}
-use Rattle.examples.proofs.Typing.{KeepsOrder, IsOneToOne, insert_puts, put_bytes, put_values, find_bytes, find_value, within_bytes, within_values, sorted_bytes, same_entries_of}
+use Rattle.typed_map.specs.Typed.{Spelling, pairs_in, is_above, is_below, pair_bytes, IsTyped, Puts, LooksUp, Walks, IsForeign}
+use Rattle.typed_map.specs.theory.Typed.{bound_bytes, bounds_value}
+use Rattle.typed_map.proofs.Typing.{KeepsOrder, IsOneToOne, insert_puts, put_bytes, put_values, find_bytes, find_value, within_bytes, within_values, sorted_bytes, same_entries_of}
 
 none_of : {A B : Type 0} (f : A → B) (o : Option A) → None ≡ option_map f o → None ≡ o
 none_of f None e = refl
@@ -36,7 +36,7 @@ some_of f (Some x) b e = (x, refl, cc)
 
 module _ {P M : Type 0} (store : P → Store) (meant : M → Merge) (d : DbValue P M) (tree : Tree) {K V : Type 0} (keys : Spelling K) (values : Spelling V) (order : KeepsOrder keys) where
   -- the tree's pairs are its map
-  pairs_are : (named : NamedTree) → (db_state store meant d).trees tree.name ≡ Some named → pairs_in (maps_now store meant d tree.name) ≡ named.map
+  pairs_are : (named : NamedTree) → (db_state store meant d).trees tree.name ≡ Some named → pairs_in (maps_of (db_state store meant d) tree.name) ≡ named.map
   pairs_are named there = ap (λ o. pairs_in (option_map (λ (t : NamedTree). t.map) o)) there
 
   -- its keys rise
@@ -47,7 +47,7 @@ module _ {P M : Type 0} (store : P → Store) (meant : M → Merge) (d : DbValue
   decided s named k v = ap (λ o. pairs_in (option_map (λ (t : NamedTree). t.map) o)) (put_name_here s.trees tree.name (Some (record named { map = (answer_of named.merge (Insert k v) named.map).map })))
 
   pub puts : (key : K) (value : V) → keys.is_value key → values.is_value value → MapsAscend (maps_of (db_state store meant d)) → (new : DbValue P M) (k v : Key) (reply : Reply) → k ≡ keys.bytes key → v ≡ values.bytes value → PointDecided store meant d tree (Insert k v) reply new
-      → Puts keys values (maps_now store meant d) (maps_now store meant new) tree.name key value
+      → Puts keys values (maps_of (db_state store meant d)) (maps_of (db_state store meant new)) tree.name key value
   puts key value i j db new k v reply k-is v-is p =
       let e = p.decides in record {
         here = λ entries typed. record {
@@ -68,7 +68,7 @@ module _ {P M : Type 0} (store : P → Store) (meant : M → Merge) (d : DbValue
 
   -- what stands at the key
   stands : (key : K) (k : Key) (value : Option Key) → keys.is_value key → k ≡ keys.bytes key → ReadsMap store meant d tree (λ map. value ≡ find key_cmp k map)
-      → (entries : List (K × V)) → IsTyped keys values (pairs_in (maps_now store meant d tree.name)) entries → value ≡ option_map values.bytes (find keys.order key entries)
+      → (entries : List (K × V)) → IsTyped keys values (pairs_in (maps_of (db_state store meant d) tree.name)) entries → value ≡ option_map values.bytes (find keys.order key entries)
   stands key k value i k-is r entries typed =
       r.is
       ∙ ap (find key_cmp k) (sym (pairs_are r.named r.there) ∙ typed.is)
@@ -76,11 +76,11 @@ module _ {P M : Type 0} (store : P → Store) (meant : M → Merge) (d : DbValue
       ∙ find_bytes keys values order key entries i typed.are_values
 
   pub looks_up_none : (key : K) (k : Key) (value : Option Key) → keys.is_value key → k ≡ keys.bytes key → ReadsMap store meant d tree (λ map. value ≡ find key_cmp k map) → value ≡ None
-      → LooksUp keys values (maps_now store meant d) tree.name key None
+      → LooksUp keys values (maps_of (db_state store meant d)) tree.name key None
   looks_up_none key k value i k-is r none = record { is = λ entries typed. none_of values.bytes (find keys.order key entries) (sym none ∙ stands key k value i k-is r entries typed) }
 
   pub looks_up_some : IsOneToOne values → (key : K) (k : Key) (value : Option Key) (b : Key) (x : V) → keys.is_value key → k ≡ keys.bytes key → ReadsMap store meant d tree (λ map. value ≡ find key_cmp k map) → value ≡ Some b
-      → values.is_value x × (b ≡ values.bytes x) → LooksUp keys values (maps_now store meant d) tree.name key (Some x)
+      → values.is_value x × (b ≡ values.bytes x) → LooksUp keys values (maps_of (db_state store meant d)) tree.name key (Some x)
   looks_up_some apart key k value b x i k-is r some is = record {
     is = λ entries typed.
         let w = some_of values.bytes (find keys.order key entries) b (sym some ∙ stands key k value i k-is r entries typed) in
@@ -89,7 +89,7 @@ module _ {P M : Type 0} (store : P → Store) (meant : M → Merge) (d : DbValue
   }
 
   pub looks_up_foreign : (key : K) (k : Key) (value : Option Key) (b : Key) → keys.is_value key → k ≡ keys.bytes key → ReadsMap store meant d tree (λ map. value ≡ find key_cmp k map) → value ≡ Some b
-      → ((x : V) → values.is_value x → b ≢ values.bytes x) → IsForeign keys values (maps_now store meant d) tree.name
+      → ((x : V) → values.is_value x → b ≢ values.bytes x) → IsForeign keys values (maps_of (db_state store meant d)) tree.name
   looks_up_foreign key k value b i k-is r some none = record {
     is = λ entries typed.
         let w = some_of values.bytes (find keys.order key entries) b (sym some ∙ stands key k value i k-is r entries typed) in
@@ -109,7 +109,7 @@ module _ {P M : Type 0} (store : P → Store) (meant : M → Merge) (d : DbValue
     pairs_walked = all ∙ b.all.is ∙ ap (λ z. pairs_within z hi-bytes b.all.named.map) lo-is ∙ ap (λ z. pairs_within (bound_bytes keys lo) z b.all.named.map) hi-is
 
     -- of a tree of entries, the pairs are those of the entries within the bounds
-    typed_within : (entries : List (K × V)) → IsTyped keys values (pairs_in (maps_now store meant d tree.name)) entries → IsTyped keys values pairs (within entries)
+    typed_within : (entries : List (K × V)) → IsTyped keys values (pairs_in (maps_of (db_state store meant d) tree.name)) entries → IsTyped keys values pairs (within entries)
     typed_within entries typed = record {
       is =
           pairs_walked
@@ -118,7 +118,7 @@ module _ {P M : Type 0} (store : P → Store) (meant : M → Merge) (d : DbValue
       are_values = within_values keys values order lo hi entries typed.are_values;
     }
 
-    pub walks : IsOneToOne keys → IsOneToOne values → MapsAscend (maps_of (db_state store meant d)) → (found : List (K × V)) → IsTyped keys values pairs found → Walks keys values (maps_now store meant d) tree.name lo hi found
+    pub walks : IsOneToOne keys → IsOneToOne values → MapsAscend (maps_of (db_state store meant d)) → (found : List (K × V)) → IsTyped keys values pairs found → Walks keys values (maps_of (db_state store meant d)) tree.name lo hi found
     walks k-apart v-apart db found is = record {
       are = λ entries typed. let w = typed_within entries typed in same_entries_of keys values order k-apart v-apart found (within entries) is.are_values w.are_values (sym is.is ∙ w.is);
       rises =
@@ -127,7 +127,7 @@ module _ {P M : Type 0} (store : P → Store) (meant : M → Merge) (d : DbValue
           ∙ true_of _ (is_sorted-where_key key_cmp (λ k. is_from (bound_bytes keys lo) k && is_up_to (bound_bytes keys hi) k) b.all.named.map (sorted db b.all.named b.all.there));
     }
 
-    pub walks_foreign : ((entries : List (K × V)) → IsTyped keys values pairs entries → ⊥) → IsForeign keys values (maps_now store meant d) tree.name
+    pub walks_foreign : ((entries : List (K × V)) → IsTyped keys values pairs entries → ⊥) → IsForeign keys values (maps_of (db_state store meant d)) tree.name
     walks_foreign none = record { is = λ entries typed. none (within entries) (typed_within entries typed) }
 
 -- ---- pairs that are read one after the other

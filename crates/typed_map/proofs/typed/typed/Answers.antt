@@ -1,6 +1,6 @@
 use Rattle.std.proofs.Common.{sym, ◌∙◌}
-use Rattle.examples.proofs.Walking.{typed_next, foreign_key, foreign_value}
-use Rattle.examples.proofs.typed.typed.Goals as goal
+use Rattle.typed_map.proofs.Walking.{typed_next, foreign_key, foreign_value}
+use Rattle.typed_map.proofs.typed.typed.Goals as goal
 
 pub pairs-preserved : goal.pairs-preserved
 pairs-preserved g c = typed_next g.K.Spelled.spelling g.V.Spelled.spelling c.args.pairs.now c.pairs.pair-index c.pairs.found.items _ c.pair-item.result c.in-Ok.key c.in-Ok-read_whole.value c.pairs-test.true c.pair-item.is c.pairs.invariant
