@@ -19,9 +19,11 @@ import cases_groups
 import cases_images
 import cases_imports
 import cases_levels
+import cases_links
 import cases_merges
 import cases_names
 import cases_owned
+import cases_people
 import cases_pops
 import cases_prefixes
 import cases_rare

@@ -409,7 +409,7 @@ def each_crash_of_trees_by_name_keeps_a_beginning(s):
         s.new()
         for line in lines:
             s.ask(line)
-        s.line(f'crash {keep}', 'recovered')
+        s.ask(f'crash {keep}')
         s.ask('names')
         s.ask('dump')
         s.line('id', 'number 4097')
@@ -443,7 +443,7 @@ def ids_are_given_beside_calls_in_flight(s):
         flush               flushed 5
         id                  number 6
         flush               flushed 0
-        crash 0             recovered
+        crash 0             recovered, tree __sled__default
         id                  number 4097
         owned id            number 4098
         reopen              opened
@@ -493,7 +493,7 @@ def names_that_cannot_be_read(s):
     tree(s, 't')
     s.line('insert a 1', 'old -')
     s.begin(1, 'get a')
-    for line in ('tree', 'tree ', 'tree -', 'tree a b', 'tree %zz', 'tree %A0', 'Tree t', 'trees', 'old-tree', 'old-tree -', 'old-tree t u', 'old-tree ',
+    for line in ('tree', 'tree ', 'tree -', 'tree a b', 'tree %zz', 'tree %A0', 'Tree t', 'treess', 'old-tree', 'old-tree -', 'old-tree t u', 'old-tree ',
                  'old', 'drop', 'drop ', 'drop -', 'drop t t', 'drop %', 'id 1', 'id ', 'ids', 'names t', 'owned drop', 'owned drop -', 'owned drop t u',
                  'owned id 1', 'owned tree t', 'owned names', 'owned old-tree t', 'begin tree t', 'begin drop t', 'begin id'):
         s.ask(line)

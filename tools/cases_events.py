@@ -183,10 +183,10 @@ def each_change_goes_on_where_1024_events_wait(s):
         update b set 4      value 4
         fetch b delete      value 4
         next 1              event missed 2
-        pop-min             found a 2
-        pop-max             found k 5
+        pop-min             pair a 2
+        pop-max             pair k 5
         next 1              event missed 2
-        pop-max             found -
+        pop-max             pair -
         clear               done
         import __sled__default e 1 f 2 g 3    done
         next 1              event missed 3
@@ -200,9 +200,9 @@ def each_change_goes_on_where_1024_events_wait(s):
         next 1              event missed 3
         owned update b append 4       value 234
         owned fetch b set 1           value 234
-        owned pop-min       found b 1
+        owned pop-min       pair b 1
         owned insert c 1    old -
-        owned pop-max       found c 1
+        owned pop-max       pair c 1
         owned insert d 1    old -
         owned del d         old 1
         owned insert d 1    old -
@@ -631,8 +631,8 @@ def merges_pops_and_imports_bring_events(s):
         next 1                event insert k 4
         next 1                event insert k 4
         next 1                event -
-        pop-min               found k 4
-        pop-max               found -
+        pop-min               pair k 4
+        pop-max               pair -
         clear                 done
         next 1                event remove k
         next 1                event -
@@ -643,8 +643,8 @@ def merges_pops_and_imports_bring_events(s):
         next 1                event insert c 3
         next 1                event -
         import __sled__default d 4 a 1        refused E2
-        pop-max               found d 4
-        owned pop-min         found a 1
+        pop-max               pair d 4
+        owned pop-min         pair a 1
         clear                 done
         next 1                event insert d 4
         next 1                event remove d
@@ -666,8 +666,8 @@ def merges_pops_and_imports_bring_events(s):
         next 1                event missed 2
         next 1                event insert a 1
         import __sled__default e 1 f 2    done
-        range .. ..           at e 1
-                              at f 2
+        range .. ..           pair e 1
+                              pair f 2
                               end 2
         next 1                event missed 1
         next 1                event insert a 1
@@ -722,7 +722,7 @@ def owned_calls_of_subscribers_count_on(s):
         owned flush             flushed 1
         next 2                  event insert ab 1
         watch %                 subscriber 3
-        owned pop-min           found ab 1
+        owned pop-min           pair ab 1
         owned next 3            event remove ab
         owned unwatch 2         done
         owned unwatch 4         no subscriber

@@ -28,30 +28,30 @@ def the_greatest_strings_come_last(s):
     is_sound(s)
     words = [greatest(count) for count in range(41)]
     s.holds(*words)
-    s.line('first', 'found % %')
-    s.line('last', f'found {words[40]} {words[40]}')
-    s.line('gt %', 'found %ff %ff')
-    s.line('lt %ff', 'found % %')
-    s.line(f'gt {words[40]}', 'found -')
-    s.line(f'gt {greatest(41)}', 'found -')
-    s.line(f'lt {greatest(41)}', f'found {words[40]} {words[40]}')
-    s.line('lt %', 'found -')
+    s.line('first', 'pair % %')
+    s.line('last', f'pair {words[40]} {words[40]}')
+    s.line('gt %', 'pair %ff %ff')
+    s.line('lt %ff', 'pair % %')
+    s.line(f'gt {words[40]}', 'pair -')
+    s.line(f'gt {greatest(41)}', 'pair -')
+    s.line(f'lt {greatest(41)}', f'pair {words[40]} {words[40]}')
+    s.line('lt %', 'pair -')
     s.line('len', 'number 41')
-    s.line(f'prefix {words[20]}', *(f'at {word} {word}' for word in words[20:]), 'end 21')
-    s.line('prefix %', *(f'at {word} {word}' for word in words), 'end 41')
-    s.line(f'prefix-back {words[20]}', *(f'at {word} {word}' for word in words[:19:-1]), 'end 21')
-    s.line(f'range ({words[38]} ..', *(f'at {word} {word}' for word in words[39:]), 'end 2')
-    s.line(f'range .. ({words[2]}', *(f'at {word} {word}' for word in words[:2]), 'end 2')
-    s.line('pop-max', f'found {words[40]} {words[40]}')
-    s.line('pop-min', 'found % %')
+    s.line(f'prefix {words[20]}', *(f'pair {word} {word}' for word in words[20:]), 'end 21')
+    s.line('prefix %', *(f'pair {word} {word}' for word in words), 'end 41')
+    s.line(f'prefix-back {words[20]}', *(f'pair {word} {word}' for word in words[:19:-1]), 'end 21')
+    s.line(f'range ({words[38]} ..', *(f'pair {word} {word}' for word in words[39:]), 'end 2')
+    s.line(f'range .. ({words[2]}', *(f'pair {word} {word}' for word in words[:2]), 'end 2')
+    s.line('pop-max', f'pair {words[40]} {words[40]}')
+    s.line('pop-min', 'pair % %')
     s.holds(*words[1:40])
     s.line('batch' + ''.join(f' {word} -' for word in words[1:20]), 'done')
     s.holds(*words[20:40])
     is_sound(s)
     s.line('recover', 'opened')
     for count in range(39, 19, -1):
-        s.line('pop-max', f'found {words[count]} {words[count]}')
-    s.line('pop-max', 'found -')
+        s.line('pop-max', f'pair {words[count]} {words[count]}')
+    s.line('pop-max', 'pair -')
     s.line('dump', 'end 0')
     is_sound(s)
 
@@ -74,11 +74,11 @@ def keys_and_values_of_each_length(s):
         s.line(f'has {long("k", length + 2)}', 'no')
         s.line(f'update {long("k", length)} set {long("y", length)}', f'value {long("y", length)}')
     s.line('len', 'number 5')
-    s.line('keys .. ..', *(f'at {long("k", length)}' for length in LENGTHS), 'end 5')
-    s.line('values-back .. ..', *(f'at {long("y", length)}' for length in LENGTHS[::-1]), 'end 5')
-    s.line(f'gt {long("k", 23)}', f'found {long("k", 57)} {long("y", 57)}')
-    s.line(f'lt {long("k", 23)}', 'found k y')
-    s.line(f'prefix {long("k", 57)}', *(f'at {long("k", length)} {long("y", length)}' for length in LENGTHS[3:]), 'end 2')
+    s.line('keys .. ..', *(f'key {long("k", length)}' for length in LENGTHS), 'end 5')
+    s.line('values-back .. ..', *(f'value {long("y", length)}' for length in LENGTHS[::-1]), 'end 5')
+    s.line(f'gt {long("k", 23)}', f'pair {long("k", 57)} {long("y", 57)}')
+    s.line(f'lt {long("k", 23)}', 'pair k y')
+    s.line(f'prefix {long("k", 57)}', *(f'pair {long("k", length)} {long("y", length)}' for length in LENGTHS[3:]), 'end 2')
     for length in LENGTHS:
         s.line(f'tree {long("t", length)}', f'tree {long("t", length)}')
         s.line(f'batch {long("k", length)} {long("v", length)} x {long("z", length)}', 'done')
@@ -103,8 +103,8 @@ def a_key_and_a_value_of_a_million_bytes(s):
     is_sound(s)
     s.line('crash 3', 'recovered')
     s.line('has k', 'no')
-    s.line('lt k', 'found j j')
-    s.line('prefix l', 'at l l', 'end 1')
+    s.line('lt k', 'pair j j')
+    s.line('prefix l', 'pair l l', 'end 1')
     s.line(f'cas {long("k", million)} {long("v", million)} -', 'swapped')
     s.holds('j', 'l')
     is_sound(s)
@@ -128,7 +128,7 @@ def a_tree_of_one_key_over_and_over(s):
         s.line(f'finish {number + 1}', 'old zq')
         value = 's'
         if number % 3 == 0:
-            s.line('pop-max', 'found a s')
+            s.line('pop-max', 'pair a s')
             s.line('remove a', 'old -')
             value = '-'
         s.pages((1, 0 if value == '-' else 1))
@@ -170,3 +170,41 @@ def a_thousand_trees_are_made_and_dropped(s):
     s.line('recover', 'opened')
     s.line('names', f'name {DEFAULT}', 'name t5', 'end 2')
     is_sound(s)
+
+
+@case
+def a_batch_replaces_a_value_of_its_length(s):
+    """A batch puts another value in the place of one of the same length."""
+    for length in 1, 23, 57, 58, 200:
+        s.line(f'insert {length} {long("v", length)}', 'old -')
+        for line, value in ('batch', 'w'), ('owned batch', 'y'), ('group -', 'x'):
+            s.line(f'{line} {length} {long(value, length)}', 'done')
+            s.line(f'get {length}', f'value {long(value, length)}')
+
+
+@case
+def keys_and_values_between_57_and_1000_bytes(s):
+    """Keys and values of lengths between 57 and 1000 bytes."""
+    lengths = 58, 100, 200, 256, 301, 305, 309, 400, 700
+    for length in lengths:
+        s.line(f'batch {long("k", length)} {long("v", length)}', 'done')
+    for length in lengths:
+        s.line(f'get {long("k", length)}', f'value {long("v", length)}')
+
+
+@case
+def a_subscriber_to_a_long_prefix_hears(s):
+    """Subscribers to prefixes of 1 to 1000 bytes hear of the keys that begin with them, and of no others."""
+    lengths = 1, 21, 22, 23, 30, 56, 57, 1000
+    for number, length in enumerate(lengths, 1):
+        s.line(f'watch {long("a", length)}', f'subscriber {number}')
+    for length in lengths:
+        s.line(f'insert {long("a", length)} {length}', 'old -')
+        s.line(f'insert {"a" * (length - 1)}b 1', 'old -')
+    for number, length in enumerate(lengths, 1):
+        for other in lengths:
+            if other >= length:
+                s.line(f'next {number}', f'event insert {long("a", other)} {other}')
+            if other > length:
+                s.line(f'next {number}', f'event insert {"a" * (other - 1)}b 1')
+        s.line(f'next {number}', 'event -')

@@ -154,7 +154,7 @@ def fetches_that_cannot_be_read(s):
         update k add            bad line 4: `add` does not change a value: count, append V, set V, delete and short do
         fetch k count 1         bad line 5: `fetch` takes K HOW, two words or three
         fetch k append          bad line 6: `fetch` takes K HOW, two words or three
-        fetch k set 1 2         bad line 7: `fetch` takes K HOW, two words or three
+        fetch k set 1 2         bad line 7: `fetch` takes K HOW, two words or three; a space inside a word is spelled %20
         fetch k add 1           bad line 8: `add` does not change a value: count, append V, set V, delete and short do
         fetch k set -           bad line 9: `-` is no byte string: `!` to `~` but for `%` stand for themselves, any other byte and a `-` alone as % and two lower-case hexadecimal digits
         update - count          bad line 10: `-` is no byte string: `!` to `~` but for `%` stand for themselves, any other byte and a `-` alone as % and two lower-case hexadecimal digits

@@ -190,6 +190,22 @@ def a_crash_leaves_forty_keys_of_a_batch_or_none(s):
 
 
 @case
+def a_crash_amid_seventy_writes_leaves_none(s):
+    """A batch of seventy new keys, and a group of seventy in two trees: a crash that keeps all actions but the last, or fewer, leaves none
+    of them."""
+    words = [short(number) for number in range(70)]
+    for line in f'batch {written(words)}', f'group - {written(words[:35])} ; t {written(words[35:])}':
+        for missing in 20, 1, 0:
+            s.new()
+            tree(s, 't')
+            tree(s, DEFAULT)
+            s.line('flush', 'flushed 2')
+            s.line(line, 'done')
+            s.line(f'crash {len(s.store.recent) - missing}', 'recovered')
+            s.line('len', 'number 0' if missing else f'number {35 if "group" in line else 70}')
+
+
+@case
 def a_crash_keeps_a_batch_as_one_call(s):
     """Of an insert, a batch and another insert a crash keeps a beginning, of which the batch is one part."""
     for keep, left in [(0, ''), (1, 'x'), (2, 'x'), (3, 'x'), (4, 'x'), (5, 'abx'), (6, 'abxy'), (9, 'abxy')]:
@@ -479,6 +495,23 @@ def a_page_that_cannot_be_read_closes_a_batch_that_repairs(s):
     s.line('batch %0a -', 'done')
     s.holds(*below(10))
     s.pages((1, 1), (1, 10))
+
+
+@case
+def a_write_of_a_group_takes_hundreds_of_turns(s):
+    """An index has a pointer to the first of forty empty leaves alone. A batch that writes behind the last one goes from leaf to leaf, and
+    posts and merges as it goes."""
+    words = ['%', *(key(byte) for byte in range(65, 104)), '%']
+    for pid, (lo, hi) in enumerate(zip(words, words[1:]), 1):
+        s.line(f'page {pid} leaf {lo} {hi} {pid + 1 if pid < 40 else "-"} open', 'noted')
+    s.line('page 41 index % % - open - % 1', 'noted')
+    s.line(f'root {DEFAULT} 41', 'noted')
+    s.line('image', 'opened')
+    s.line('batch z 1 zz 2', 'done')
+    s.line('verify', 'sound')
+    s.line('dump', pair('z', 1), pair('zz', 2), 'end 2')
+    s.line(f'crash {len(s.store.recent) - 1}', 'recovered')
+    s.line('dump', 'end 0')
 
 
 @case

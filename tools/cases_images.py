@@ -60,13 +60,13 @@ def image(s, root, pages, line='image', name=TREE.decode(), code=None):
 
 def holds(s, words):
     """These keys are there, from both ends, each with itself as its value."""
-    at = [f'at {k} {k}' for k in words]
+    at = [f'pair {k} {k}' for k in words]
     s.line('dump', *(pair(k) for k in words), f'end {len(words)}')
     s.line('range .. ..', *at, f'end {len(at)}')
     s.line('range-back .. ..', *at[::-1], f'end {len(at)}')
     s.line('len', f'number {len(at)}')
-    s.line('first', f'found {words[0]} {words[0]}' if words else 'found -')
-    s.line('last', f'found {words[-1]} {words[-1]}' if words else 'found -')
+    s.line('first', f'pair {words[0]} {words[0]}' if words else 'pair -')
+    s.line('last', f'pair {words[-1]} {words[-1]}' if words else 'pair -')
 
 
 @case
@@ -161,6 +161,50 @@ def an_image_that_is_not_well_formed_is_refused(s):
     s.new()
     s.line('verify', 'sound')
     s.holds()
+
+
+# The bounds of thirty-four leaves.
+THIRTY_FOUR = ['%', *keys(1, 34), '%']
+
+# Where one thing alone is wrong, in a place that is easily passed over: the code that is told, what is said of it, the root, and the lines
+# that note the pages and the roots of other trees.
+ONE_FAULT = [
+    (6, 'A leaf that is open has a merging child.', 1, ['page 1 odd-leaf % % - open 1 a 1']),
+    (6, 'An index that is merging has a merging child.', 7, [
+        'page 1 leaf % e 2 open a 1', 'page 2 leaf e j 3 open f 1', 'page 3 leaf j p 4 open k 1', 'page 4 leaf p % - open q 1',
+        'page 5 index % j 6 open - % 1 e 2', 'page 6 index j % - merging 4 j 3 p 4', 'page 7 index % % - open 6 % 5 j 6']),
+    (6, 'A leaf of the chain is merging, and no pointer names it.', 3,
+     ['page 1 leaf % j 2 open a 1', 'page 2 leaf j % - merging k 1', 'page 3 index % % - open - % 1']),
+    (8, 'A key stands twice in a leaf.', 1, ['page 1 leaf % % - open a 1 a 2']),
+    (8, 'A key is the upper bound of its leaf.', 3, ['page 1 leaf % j 2 open a 1 j 2', 'page 2 leaf j % - open k 1', 'page 3 index % % - open - % 1 j 2']),
+    (8, 'The keys of a leaf that was received do not ascend.', 4,
+     ['page 1 leaf % t 3 open a 1', 'page 2 leaf j t 3 merging k 0 j 1', 'page 3 leaf t % - open u 1', 'page 4 index % % - open 2 % 1 j 2 t 3']),
+    (8, 'The last of four trees has a leaf whose keys do not ascend.', 1, [
+        'page 1 leaf % % - open a 1', 'page 2 leaf % % - open a 1', 'page 3 leaf % % - open a 1', 'page 4 leaf % % - open b 1 a 1',
+        'root b 2', 'root c 3', 'root d 4']),
+    (5, 'A pointer has a lower key than its page begins with.', 3,
+     ['page 1 leaf % j 2 open a 1', 'page 2 leaf j % - open k 1', 'page 3 index % % - open - % 1 i 2']),
+    (5, 'The first key of an index is above where the index begins.', 6, [
+        'page 1 leaf % m 2 open a 1', 'page 2 leaf m n 3 open m 1', 'page 3 leaf n % - open o 1',
+        'page 4 index % m 5 open - % 1', 'page 5 index m % - open - n 3', 'page 6 index % % - open - % 4 m 5']),
+    (9, 'Two trees have the same leaf, which another one received in each.', 4, [
+        'page 1 leaf % t 3 open a 1', 'page 2 leaf j t 3 merging k 0', 'page 3 leaf t % - open u 1', 'page 4 index % % - open 2 % 1 j 2 t 3',
+        'page 5 leaf % t 6 open a 1', 'page 6 leaf t % - open u 1', 'page 7 index % % - open 2 % 5 j 2 t 6', 'root other 7']),
+    (9, 'A leaf stands beside an index.', 3,
+     ['page 1 leaf % j 2 open a 1', 'page 2 leaf j % - open k 1', 'page 3 index % j 4 open - % 1', 'page 4 leaf j % - open k 1']),
+    (7, 'An index has 34 pointers.', 35,
+     [leaf(pid, lo, hi, pid + 1 if pid < 34 else '-', []) for pid, (lo, hi) in enumerate(zip(THIRTY_FOUR, THIRTY_FOUR[1:]), 1)]
+     + [index(35, *zip(THIRTY_FOUR, range(1, 35)))]),
+]
+
+
+@case
+def an_image_with_a_single_fault_is_refused(s):
+    """In each of these images one thing alone is wrong, in a place that a check might pass over. None is opened."""
+    for code, said, root, pages in ONE_FAULT:
+        s.note(said)
+        image(s, root, pages, code=code)
+        expect(s.shell.faults() == {code}, said, s.shell.faults())
 
 
 @case
@@ -292,7 +336,7 @@ def a_check_of_the_pages_changes_nothing(s):
     s.line('tree t', 'tree t')
     s.line(f'tree {TREE.decode()}', f'tree {TREE.decode()}')
     s.begin(1, 'scan [c (f')
-    s.line('finish 1', 'at c c')
+    s.line('finish 1', 'pair c c')
     s.insert('r')
     s.ask('flush')
     s.line('operator concat', 'done')
@@ -308,9 +352,9 @@ def a_check_of_the_pages_changes_nothing(s):
     s.note('The call is done, and its subscriber hears of it behind a check.')
     s.line('verify', 'sound')
     s.line('next 1', 'event insert s s')
-    s.line('finish 1', 'at d d')
+    s.line('finish 1', 'pair d d')
     s.line('verify', 'sound')
-    s.line('finish 1', 'at e e')
+    s.line('finish 1', 'pair e e')
     s.line('turns 1', 'number 0')
     s.line('merge s 1', 'value s1')
     s.line('verify', 'sound')
@@ -335,6 +379,7 @@ def a_check_of_the_pages_changes_nothing(s):
     s.line('verify', 'sound')
     s.holds(*'bcdefghijklmnopqr')
     s.line('recovered', 'yes')
+    s.line(f'tree {TREE.decode()}', f'tree {TREE.decode()}')
     s.note('It makes nothing durable in the middle of a merge either: the call that merges goes on, and a crash loses all of it.')
     s.insert('s')
     s.remove(*'bcdef')

@@ -53,7 +53,12 @@ def a_batch_of_two_thousand_pairs_makes_four_levels(s):
         s.line(f'tree {tree}', f'tree {tree}')
         s.line(f'batch x {tree}' if tree != 'b' else 'batch', 'done')
     s.line(f'tree {TREE.decode()}', f'tree {TREE.decode()}')
-    s.line('batch' + ''.join(f' {k} {k}' for k in words), 'done')
+    line = 'batch' + ''.join(f' {k} {k}' for k in words)
+    s.line(line, 'done')
+    s.note('A crash that keeps all but its last action leaves none of it.')
+    s.line(f'crash {len(s.store.recent) - 1}', 'recovered')
+    s.line('dump', pair('x', 'a', 'a'), pair('x', 'z', 'z'), 'end 2')
+    s.line(line, 'done')
     levels = s.ask('pages')
     expect(levels[-1] == 'end 4', levels)
     all = [*(pair(k) for k in words), pair('x', 'a', 'a'), pair('x', 'z', 'z'), 'end 2102']

@@ -52,7 +52,7 @@ def owned_calls_answer_as_those_of_a_machine(s):
 def slots_end_at_an_owned_call(s):
     """A call of the database itself ends every slot, and they are counted from 1 again; a line that cannot be read ends none."""
     for line, printed in (('owned insert b 1', 'old -'), ('owned set b 1', 'old 1'), ('owned remove b', 'old 1'), ('owned del b', 'old -'),
-                          ('owned cas b 1 2', 'conflict - 2'), ('owned pop-min', 'found -'), ('owned pop-max', 'found -'), ('owned clear', 'done'), ('owned batch b -', 'done'),
+                          ('owned cas b 1 2', 'conflict - 2'), ('owned pop-min', 'pair -'), ('owned pop-max', 'pair -'), ('owned clear', 'done'), ('owned batch b -', 'done'),
                           ('owned flush', 'flushed 2')):
         s.begin(1, 'insert a 1')
         s.begin(2, 'get a')
@@ -215,15 +215,15 @@ def owned_pops_take_the_pairs_from_both_ends(s):
         s.begin(1, f'remove {key(3)}')
         s.moves(1)
         for n in range(2):
-            s.line('owned pop-min', f'found {key(n)} {key(n)}')
-            s.line('owned pop-max', f'found {key(count - 1 - n)} {key(count - 1 - n)}')
+            s.line('owned pop-min', f'pair {key(n)} {key(n)}')
+            s.line('owned pop-max', f'pair {key(count - 1 - n)} {key(count - 1 - n)}')
         s.line('step 1', 'no slot')
         s.holds(*below(count - 2, 2))
         s.ask('flush')
         s.line('owned flush', 'flushed 0')
         s.line('owned clear', 'done')
         for line in ('owned pop-min', 'owned pop-max'):
-            s.line(line, 'found -')
+            s.line(line, 'pair -')
         s.line('owned clear', 'done')
         s.line('len', 'number 0')
         s.line('crash 1', 'recovered')
@@ -235,7 +235,7 @@ def owned_pops_take_the_pairs_from_both_ends(s):
         s.remove(*below(18, 11)[::-1])
         s.begin(1, f'remove {key(10)}')
         s.moves(1, steps)
-        s.line('owned pop-max', f'found {key(10)} {key(10)}')
+        s.line('owned pop-max', f'pair {key(10)} {key(10)}')
         s.holds(*below(10))
         s.pages((1, 1), (1, 10))
     s.note('One that is refused changes nothing, but that a clear keeps what is gone.')
@@ -249,7 +249,7 @@ def owned_pops_take_the_pairs_from_both_ends(s):
     s.rows('''
         owned clear    refused E4
         len            number 2
-        first          found b b
+        first          pair b b
         owned clear    done
         dump           end 0
     ''')

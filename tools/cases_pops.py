@@ -22,32 +22,32 @@ def pops_take_the_pairs_from_both_ends(s):
         for n in range(6):
             s.line(f'insert {key(n)} {key(10 * n)}', 'old -')
         for n in order:
-            s.line(f'pop-{name}', f'found {key(n)} {key(10 * n)}')
+            s.line(f'pop-{name}', f'pair {key(n)} {key(10 * n)}')
             s.line(f'has {key(n)}', 'no')
-        s.line(f'pop-{name}', 'found -')
+        s.line(f'pop-{name}', 'pair -')
         s.line('len', 'number 0')
     s.new()
     s.insert(*below(6))
     for n, m in ((0, 5), (1, 4), (2, 3)):
-        s.line('pop-min', f'found {key(n)} {key(n)}')
-        s.line('pop-max', f'found {key(m)} {key(m)}')
+        s.line('pop-min', f'pair {key(n)} {key(n)}')
+        s.line('pop-max', f'pair {key(m)} {key(m)}')
     s.rows("""
-        pop-min     found -
-        pop-max     found -
+        pop-min     pair -
+        pop-max     pair -
         clear       done
         insert % %  old -
-        pop-max     found % %
+        pop-max     pair % %
         flush       flushed 14
-        pop-min     found -
+        pop-min     pair -
         clear       done
         flush       flushed 0
     """)
     s.note('Each pair is taken out by one action.')
     s.insert('a', 'b', 'c')
     s.line('flush', 'flushed 3')
-    s.line('pop-min', 'found a a')
+    s.line('pop-min', 'pair a a')
     s.line('flush', 'flushed 1')
-    s.line('pop-max', 'found c c')
+    s.line('pop-max', 'pair c c')
     s.line('flush', 'flushed 1')
     s.line('dump', pair('b'), 'end 1')
 
@@ -59,14 +59,14 @@ def a_clear_takes_out_all_pairs(s):
         s.new()
         s.insert(*(f'k{n:03}' for n in range(count)))
         if count > 2:
-            s.line('pop-min', 'found k000 k000')
-            s.line('pop-min', 'found k001 k001')
+            s.line('pop-min', 'pair k000 k000')
+            s.line('pop-min', 'pair k001 k001')
         s.rows("""
             clear            done
             len              number 0
             empty            yes
-            first            found -
-            pop-max          found -
+            first            pair -
+            pop-max          pair -
             clear            done
             dump             end 0
             insert k000 x    old -
@@ -86,7 +86,7 @@ def pops_go_on_with_what_slots_left_half_done(s):
             s.pages((1, 2), (2, 8))
             s.begin(1, f'remove {key(10)}')
             s.moves(1, steps)
-            s.line(f'pop-{name}', f'found {key(found)} {key(found)}')
+            s.line(f'pop-{name}', f'pair {key(found)} {key(found)}')
             s.line('finish 1', f'old {old}')
             s.holds(*left)
     for steps in range(8):
@@ -94,7 +94,7 @@ def pops_go_on_with_what_slots_left_half_done(s):
         s.insert(*below(17))
         s.begin(1, f'insert {key(17)} {key(17)}')
         s.moves(1, steps)
-        s.line('pop-max', f'found {key(16)} {key(16)}')
+        s.line('pop-max', f'pair {key(16)} {key(16)}')
         s.line('finish 1', 'old -')
         s.holds(*below(16), key(17))
         s.line('begin get a', 'slot 2')
@@ -146,7 +146,7 @@ def a_pop_that_is_refused_changes_nothing(s):
         recover refuse 2                 opened
         pop-min                          refused E4
         read a                           value 1
-        pop-max                          found a 1
+        pop-max                          pair a 1
         new refuse 1                     refused E4
         pop-min                          refused E8
         pop-max                          refused E8
@@ -168,15 +168,15 @@ def a_crash_after_a_clear_keeps_a_beginning(s):
             s.holds(*FORTY[keep:])
         s.ask('dump')
         s.line('clear', 'done')
-        s.line('pop-min', 'found -')
+        s.line('pop-min', 'pair -')
     s.note('A pop is in the store as soon as it was answered, and kept once it was flushed.')
     s.new()
     s.insert(*below(3))
     s.rows("""
         flush      flushed 3
-        pop-max    found %02 %02
+        pop-max    pair %02 %02
         flush      flushed 1
-        pop-min    found %00 %00
+        pop-min    pair %00 %00
         crash 0    recovered
     """)
     s.holds(*below(2))
@@ -189,8 +189,8 @@ def the_words_of_pops_take_no_words(s):
         pop-min a        bad line 2: `pop-min` takes no words
         pop-max 1        bad line 3: `pop-max` takes no words
         clear %          bad line 4: `clear` takes no words
-        pop              bad line 5: `pop` is no command; `help` lists them
+        pop              bad line 5: `pop` is no command; did you mean `pop-min`? `help` lists them
         begin pop-min    bad line 6: `pop-min` does not follow `begin`; `help` lists what does
         begin clear      bad line 7: `clear` does not follow `begin`; `help` lists what does
-        pop-min          found -
+        pop-min          pair -
     """)

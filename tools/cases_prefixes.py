@@ -16,33 +16,33 @@ def prefixes_of_the_greatest_bytes(s):
     scans(s, '%ff')
     s.insert('%fe', '%ff', '%ff%00', '%ff%ff')
     s.rows("""
-        prefix %              at %fe %fe
-                              at %ff %ff
-                              at %ff%00 %ff%00
-                              at %ff%ff %ff%ff
+        prefix %              pair %fe %fe
+                              pair %ff %ff
+                              pair %ff%00 %ff%00
+                              pair %ff%ff %ff%ff
                               end 4
-        prefix-back %         at %ff%ff %ff%ff
-                              at %ff%00 %ff%00
-                              at %ff %ff
-                              at %fe %fe
+        prefix-back %         pair %ff%ff %ff%ff
+                              pair %ff%00 %ff%00
+                              pair %ff %ff
+                              pair %fe %fe
                               end 4
-        prefix %fe            at %fe %fe
+        prefix %fe            pair %fe %fe
                               end 1
-        prefix-back %fe       at %fe %fe
+        prefix-back %fe       pair %fe %fe
                               end 1
-        prefix %ff            at %ff %ff
-                              at %ff%00 %ff%00
-                              at %ff%ff %ff%ff
+        prefix %ff            pair %ff %ff
+                              pair %ff%00 %ff%00
+                              pair %ff%ff %ff%ff
                               end 3
-        prefix-back %ff       at %ff%ff %ff%ff
-                              at %ff%00 %ff%00
-                              at %ff %ff
+        prefix-back %ff       pair %ff%ff %ff%ff
+                              pair %ff%00 %ff%00
+                              pair %ff %ff
                               end 3
-        prefix %ff%00         at %ff%00 %ff%00
+        prefix %ff%00         pair %ff%00 %ff%00
                               end 1
-        prefix %ff%ff         at %ff%ff %ff%ff
+        prefix %ff%ff         pair %ff%ff %ff%ff
                               end 1
-        prefix-back %ff%ff    at %ff%ff %ff%ff
+        prefix-back %ff%ff    pair %ff%ff %ff%ff
                               end 1
         prefix %ff%ff%ff      end 0
         prefix-back %ff%ff%ff  end 0
@@ -72,8 +72,8 @@ def strings_of_the_greatest_byte(s):
     for n in (0, 1, 20, 39, 40):
         scans(s, keys[n], *keys[n:])
     scans(s, '%ff' * 41)
-    s.line('gt %', 'found %ff %ff')
-    s.line('lt %ff', 'found % %')
+    s.line('gt %', 'pair %ff %ff')
+    s.line('lt %ff', 'pair % %')
 
 
 @case
@@ -128,11 +128,11 @@ def a_prefix_of_a_page_that_cannot_be_read(s):
     fault comes after the pairs before it. Of a database that was not opened a prefix is refused; and words that are no prefix."""
     s.insert(*('a' + key(n) for n in range(8)), *('b' + key(n) for n in range(10)))
     s.line('reopen unreadable 2', 'opened')
-    s.line('prefix a%03', 'at a%03 a%03', 'end 1')
-    s.line('prefix-back a%03', 'at a%03 a%03', 'end 1')
+    s.line('prefix a%03', 'pair a%03 a%03', 'end 1')
+    s.line('prefix-back a%03', 'pair a%03 a%03', 'end 1')
     s.line('prefix b', 'refused E4', 'end 0')
     s.line('prefix-back b', 'refused E4', 'end 0')
-    s.line('prefix %', *(f'at a{key(n)} a{key(n)}' for n in range(8)), 'refused E4', 'end 8')
+    s.line('prefix %', *(f'pair a{key(n)} a{key(n)}' for n in range(8)), 'refused E4', 'end 8')
     s.ask('new refuse 1')
     s.line('prefix a', 'refused E8')
     s.line('prefix-back %', 'refused E8')
@@ -140,7 +140,7 @@ def a_prefix_of_a_page_that_cannot_be_read(s):
     for line, why in (
         ('prefix', '`prefix` takes P, one word'),
         ('prefix-back', '`prefix-back` takes P, one word'),
-        ('prefix a b', '`prefix` takes P, one word'),
+        ('prefix a b', '`prefix` takes P, one word; a space inside a word is spelled %20'),
         ('prefix -', '`-` is no byte string: `!` to `~` but for `%` stand for themselves, any other byte and a `-` alone as % and two lower-case hexadecimal digits'),
         ('prefix [a', None),
     ):

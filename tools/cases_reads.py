@@ -5,11 +5,16 @@ from script import case, crowd_case, expect, key, pair
 
 def at(*keys):
     """What a range prints of keys that have themselves as their values."""
-    return [f'at {k} {k}' for k in keys] + [f'end {len(keys)}']
+    return [f'pair {k} {k}' for k in keys] + [f'end {len(keys)}']
 
 
-def names(*keys):
-    return [f'at {k}' for k in keys] + [f'end {len(keys)}']
+def keys_of(*keys):
+    """What `keys` prints of them."""
+    return [f'key {k}' for k in keys] + [f'end {len(keys)}']
+
+
+def values_of(*values):
+    return [f'value {v}' for v in values] + [f'end {len(values)}']
 
 
 @case
@@ -18,11 +23,11 @@ def an_empty_database_has_nothing_to_read(s):
     for k in ('a', '%', '%ff'):
         s.line(f'has {k}', 'no')
         s.line(f'read {k}', 'value -')
-        s.line(f'lt {k}', 'found -')
-        s.line(f'gt {k}', 'found -')
+        s.line(f'lt {k}', 'pair -')
+        s.line(f'gt {k}', 'pair -')
     s.rows("""
-        first               found -
-        last                found -
+        first               pair -
+        last                pair -
         len                 number 0
         empty               yes
         range .. ..         end 0
@@ -33,15 +38,15 @@ def an_empty_database_has_nothing_to_read(s):
         insert % %          old -
         empty               no
         len                 number 1
-        first               found % %
-        last                found % %
-        lt %                found -
-        gt %                found -
-        lt %00              found % %
+        first               pair % %
+        last                pair % %
+        lt %                pair -
+        gt %                pair -
+        lt %00              pair % %
         has %               yes
         read %              value %
         range .. (%         end 0
-        range .. [%         at % %
+        range .. [%         pair % %
                             end 1
         range (% ..         end 0
     """)
@@ -56,12 +61,12 @@ def neighbours_of_every_key(s):
             s.insert(key(n))
         s.line('len', f'number {count}')
         s.line('empty', 'no')
-        s.line('first', f'found {key(1)} {key(1)}')
-        s.line('last', f'found {key(2 * count - 1)} {key(2 * count - 1)}')
+        s.line('first', f'pair {key(1)} {key(1)}')
+        s.line('last', f'pair {key(2 * count - 1)} {key(2 * count - 1)}')
         for n in range(2 * count + 1):
             below, above = n - 1 - n % 2, n + 1 + n % 2
-            s.line(f'lt {key(n)}', f'found {key(below)} {key(below)}' if below > 0 else 'found -')
-            s.line(f'gt {key(n)}', f'found {key(above)} {key(above)}' if above < 2 * count else 'found -')
+            s.line(f'lt {key(n)}', f'pair {key(below)} {key(below)}' if below > 0 else 'pair -')
+            s.line(f'gt {key(n)}', f'pair {key(above)} {key(above)}' if above < 2 * count else 'pair -')
             s.line(f'has {key(n)}', 'yes' if n % 2 else 'no')
             s.line(f'read {key(n)}', f'value {key(n) if n % 2 else "-"}')
 
@@ -74,14 +79,14 @@ def neighbours_of_keys_that_are_not_there(s):
         s.insert(key(n))
     high, above = word((499).to_bytes(2, 'big')), word((500).to_bytes(2, 'big'))
     s.line(f'insert {above} {key(10)}', 'old -')
-    s.line(f'gt {high}', f'found {above} {key(10)}')
+    s.line(f'gt {high}', f'pair {above} {key(10)}')
     s.new()
     before = word(b'a non-present key before yo!')
     s.rows(f"""
         insert yo! v1        old -
         read yo!             value v1
         cas yo! v1 v2        swapped
-        range [{before} ..   at yo! v2
+        range [{before} ..   pair yo! v2
                              end 1
         remove yo!           old v2
         read yo!             value -
@@ -93,8 +98,8 @@ def a_range_has_the_pairs_within_its_bounds(s):
     """Every pair of bounds over six keys, taken from the front, from the back and from both ends."""
     s.insert(*(key(n) for n in range(6)))
     s.line('range-ends .. ..', *at(*(key(n) for n in (0, 5, 1, 4, 2, 3))))
-    s.line(f'keys-back [{key(1)} [{key(3)}', *names(key(3), key(2), key(1)))
-    s.line(f'values (%01 (%04', *names(key(2), key(3)))
+    s.line(f'keys-back [{key(1)} [{key(3)}', *keys_of(key(3), key(2), key(1)))
+    s.line(f'values (%01 (%04', *values_of(key(2), key(3)))
     bounds = ['..'] + [kind + key(n) for kind in '[(' for n in (0, 2, 3, 5, 9)]
     for lo in bounds:
         for hi in bounds:
@@ -110,8 +115,8 @@ def a_range_over_many_pages_meets_in_the_middle(s):
     s.line('range .. ..', *at(*keys))
     s.line('range-back .. ..', *at(*keys[::-1]))
     s.line('range-ends .. ..', *at(*(keys[i // 2 if i % 2 == 0 else -1 - i // 2] for i in range(300))))
-    s.line('keys [100 (200', *names(*keys[100:200]))
-    s.line('values-back (099 [199', *names(*keys[199:99:-1]))
+    s.line('keys [100 (200', *keys_of(*keys[100:200]))
+    s.line('values-back (099 [199', *values_of(*keys[199:99:-1]))
     s.line('range [299x ..', 'end 0')
     s.line('range [200 (100', 'end 0')
 
@@ -161,7 +166,7 @@ def reads_of_a_hundred_thousand_keys(s):
         s.line('reads', f'reads {levels}')
     s.line('len', 'number 100000')
     s.line('reads', f'reads {leaves + levels - 1}')
-    s.line(f'keys [{keys[70_000]} ({keys[70_100]}', *names(*keys[70_000:70_100]))
+    s.line(f'keys [{keys[70_000]} ({keys[70_100]}', *keys_of(*keys[70_000:70_100]))
     expect(int(s.ask('reads')[0].split()[1]) <= 100 // 8 + 2 + levels, 'a range of a hundred pairs')
 
 
@@ -173,13 +178,13 @@ def reads_to_the_left_in_a_tree_of_many_pages(s):
     keys = [word(key) for key in sorted(some_keys(20000))]
     expect(int(s.ask('pages')[-2].split()[1]) > 1000, 'more than a thousand leaves')
     s.line('len', 'number 20000')
-    s.line('last', f'found {keys[-1]} {keys[-1]}')
-    s.line('first', f'found {keys[0]} {keys[0]}')
+    s.line('last', f'pair {keys[-1]} {keys[-1]}')
+    s.line('first', f'pair {keys[0]} {keys[0]}')
     for place in (1, 9_999, 19_999):
-        s.line(f'lt {keys[place]}', f'found {keys[place - 1]} {keys[place - 1]}')
-        s.line(f'gt {keys[place - 1]}', f'found {keys[place]} {keys[place]}')
+        s.line(f'lt {keys[place]}', f'pair {keys[place - 1]} {keys[place - 1]}')
+        s.line(f'gt {keys[place - 1]}', f'pair {keys[place]} {keys[place]}')
     s.line(f'range-back [{keys[-100]} ..', *at(*keys[:-101:-1]))
-    s.line(f'keys-back [{keys[9_950]} ({keys[10_000]}', *names(*keys[9_999:9_949:-1]))
+    s.line(f'keys-back [{keys[9_950]} ({keys[10_000]}', *keys_of(*keys[9_999:9_949:-1]))
 
 
 @case
@@ -197,9 +202,9 @@ def reads_beside_an_abandoned_merge(s):
         there = list(range(11 if [f'pair __sled__default {key(10)} {key(10)}'] == [p for p in s.shell.run('dump') if p.endswith(f' {key(10)}')] else 10))
         s.line('len', f'number {len(there)}')
         s.line(f'read {key(9)}', f'value {key(9)}')
-        s.line(f'lt {key(8)}', f'found {key(7)} {key(7)}')
-        s.line(f'gt {key(7)}', f'found {key(8)} {key(8)}')
-        s.line('last', f'found {key(there[-1])} {key(there[-1])}')
+        s.line(f'lt {key(8)}', f'pair {key(7)} {key(7)}')
+        s.line(f'gt {key(7)}', f'pair {key(8)} {key(8)}')
+        s.line('last', f'pair {key(there[-1])} {key(there[-1])}')
         s.line('range .. ..', *at(*map(key, there)))
         s.line('range-back .. ..', *at(*map(key, reversed(there))))
         s.ask('range-ends .. ..')
@@ -214,15 +219,15 @@ def a_page_that_cannot_be_read_ends_a_range(s):
     s.line(f'read {key(3)}', f'value {key(3)}')
     s.line(f'read {key(9)}', 'refused E4')
     s.line(f'has {key(9)}', 'refused E4')
-    s.line('range .. ..', *(f'at {key(n)} {key(n)}' for n in range(8)), 'refused E4', 'end 8')
-    s.line('keys .. ..', *(f'at {key(n)}' for n in range(8)), 'refused E4', 'end 8')
+    s.line('range .. ..', *(f'pair {key(n)} {key(n)}' for n in range(8)), 'refused E4', 'end 8')
+    s.line('keys .. ..', *(f'key {key(n)}' for n in range(8)), 'refused E4', 'end 8')
     s.line('range-back .. ..', 'refused E4', 'end 0')
     s.line('values-back .. ..', 'refused E4', 'end 0')
-    s.line('range-ends .. ..', f'at {key(0)} {key(0)}', 'refused E4', 'end 1')
+    s.line('range-ends .. ..', f'pair {key(0)} {key(0)}', 'refused E4', 'end 1')
     s.line('len', 'refused E4')
-    s.line('first', f'found {key(0)} {key(0)}')
+    s.line('first', f'pair {key(0)} {key(0)}')
     s.line('last', 'refused E4')
-    s.line(f'lt {key(8)}', f'found {key(7)} {key(7)}')
+    s.line(f'lt {key(8)}', f'pair {key(7)} {key(7)}')
 
 
 @case

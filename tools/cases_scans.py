@@ -17,7 +17,7 @@ def eighteen(s):
 def gives(s, slot, *keys):
     """The scan gives a pair at each of these steps. Its turns begin again then."""
     for k in keys:
-        s.line(f'step {slot}', f'at {k} {k}')
+        s.line(f'step {slot}', f'pair {k} {k}')
         s.line(f'turns {slot}', 'number 0')
 
 
@@ -30,7 +30,7 @@ def ends(s, slot):
 def finishes(s, slot, *keys):
     """The scan gives these pairs and ends, and all steps up to each of them are made at once."""
     for k in keys:
-        s.line(f'finish {slot}', f'at {k} {k}')
+        s.line(f'finish {slot}', f'pair {k} {k}')
     s.line(f'finish {slot}', 'end')
     s.line(f'finish {slot}', 'no slot')
 
@@ -128,7 +128,7 @@ def a_scan_gives_its_leaf_as_it_was_read(s):
     s.insert('%09%00')
     gives(s, 1, *below(8, 2))
     s.moves(1, 2)
-    s.line('step 1', 'at %08 x')
+    s.line('step 1', 'pair %08 x')
     gives(s, 1, '%09%00', *below(18, 10))
     ends(s, 1)
     s.note('All keys are taken out while it gives the first leaf: it gives that to its end, and nothing more.')
@@ -248,7 +248,7 @@ def a_scan_of_a_tree_of_three_levels(s):
     s.insert(*words)
     levels = s.ask('pages')
     expect(levels[-1] == 'end 3', levels)
-    s.line('range .. ..', *(f'at {k} {k}' for k in words), 'end 400')
+    s.line('range .. ..', *(f'pair {k} {k}' for k in words), 'end 400')
     both_ways(s, '..', '..', *words)
     both_ways(s, '[100', '(300', *words[100:300])
     s.note('From the root to each of its leaves a scan goes on three times, and then gives pair after pair.')
@@ -399,10 +399,10 @@ def a_scan_brings_no_event(s):
     s.line('next 1', 'event -')
     s.line('insert %05 x', 'old %05')
     s.line('insert %08 x', 'old %08')
-    s.line('step 1', 'at %04 %04')
-    s.line('step 1', 'at %05 %05')
+    s.line('step 1', 'pair %04 %04')
+    s.line('step 1', 'pair %05 %05')
     gives(s, 1, '%06', '%07')
-    s.line('finish 1', 'at %08 x')
+    s.line('finish 1', 'pair %08 x')
     gives(s, 1, '%09', '%0a')
     ends(s, 1)
     s.line('next 1', 'event insert %05 x')
@@ -448,9 +448,9 @@ def a_scan_stands_beside_a_group(s):
     gives(s, 1, '%00')
     s.line('batch %01 - %08 x %09 - %0a%00 y', 'done')
     gives(s, 1, *below(8, 1))
-    s.line('finish 1', 'at %08 x')
-    s.line('finish 1', 'at %0a %0a')
-    s.line('finish 1', 'at %0a%00 y')
+    s.line('finish 1', 'pair %08 x')
+    s.line('finish 1', 'pair %0a %0a')
+    s.line('finish 1', 'pair %0a%00 y')
     finishes(s, 1, *below(18, 11))
     s.note('A batch that splits the leaf that comes next.')
     eighteen(s)
@@ -461,6 +461,46 @@ def a_scan_stands_beside_a_group(s):
     s.line('batch' + ''.join(f' {key(number)} {key(number)}' for number in range(18, 40)), 'done')
     s.ask('pages')
     finishes(s, 1, *below(40, 8))
+
+
+@case
+def long_keys_are_changed_beside_a_scan(s):
+    """A scan holds the leaf that it gives. Keys of up to 100 bytes are put in, replaced and taken out beside it, and it gives the leaf as
+    it was."""
+    words = [long('x', length) for length in (1, 23, 41, 57, 100)]
+    s.insert('a', *words)
+    s.begin(1, 'scan .. ..')
+    s.moves(1)
+    gives(s, 1, 'a')
+    for k in words:
+        s.line(f'remove {k}', f'old {k}')
+        s.line(f'get {k}', 'value -')
+        s.line(f'read {k}', 'value -')
+        s.line(f'insert {k} y', 'old -')
+        s.line(f'insert {k} z', 'old y')
+        s.line(f'get {k}', 'value z')
+        s.line(f'remove {k}', 'old z')
+    s.line('len', 'number 1')
+    finishes(s, 1, *words)
+
+
+@case
+def a_scan_passes_over_an_empty_leaf_that_is_the_first(s):
+    """The first leaf of an index is empty, or the last one, or one between them. A scan goes on behind it."""
+    for empty in range(3):
+        for pid, (lo, hi, behind) in enumerate([('%', 'j', 2), ('j', 'p', 3), ('p', '%', '-')], 1):
+            words = [] if pid == empty + 1 else [f'{"ajp"[pid - 1]}{n}' for n in range(5)]
+            s.line(f'page {pid} leaf {lo} {hi} {behind} open' + ''.join(f' {k} {k}' for k in words), 'noted')
+        s.line('page 4 index % % - open - % 1 j 2 p 3', 'noted')
+        s.line(f'root {DEFAULT} 4', 'noted')
+        s.line('image', 'opened')
+        keys = [f'{letter}{n}' for at, letter in enumerate('ajp') if at != empty for n in range(5)]
+        for line, order in ('scan .. ..', keys), ('scan-back .. ..', keys[::-1]):
+            slot = s.shell.begun + 1
+            s.begin(slot, line)
+            for k in order:
+                s.line(f'finish {slot}', f'pair {k} {k}')
+            s.line(f'finish {slot}', 'end')
 
 
 @case
@@ -507,7 +547,7 @@ def lines_of_scans_that_cannot_be_read(s):
     s.insert('a')
     for line in ('begin scan', 'begin scan ..', 'begin scan a b', 'begin scan [a', 'begin scan .. .. ..', 'begin scan .. b', 'begin scan [%zz ..', 'begin scan .. (%4', 'begin scan - -',
                  'begin scan [- ..', 'begin scan-back', 'begin scan-back ..', 'begin scan-back .. a', 'begin scan-back [ ..', 'begin scans .. ..', 'begin scan-ends .. ..', 'begin range .. ..',
-                 'scan .. ..', 'scan-back .. ..', 'owned scan .. ..', 'begin  scan .. ..', 'begin scan  ..'):
+                 'scan ..', 'scan-back .. ..', 'owned scan .. ..', 'begin  scan .. ..', 'begin scan  ..'):
         s.ask(line)
         expect(s.wanted[-1].startswith('bad line'), line, s.wanted[-1])
     s.begin(1, 'scan [%2d ..')
@@ -550,8 +590,8 @@ def scans_step_by_step_beside_other_calls(s):
             elif number >> 50 & 63 == 2:
                 s.ask(f'batch {k} {kind} {other} -')
             elif (told := s.ask(f'step {slots[at]}')[0]) != 'moved':
-                given += told.startswith('at ')
-                if not told.startswith('at '):
+                given += told.startswith('pair ')
+                if not told.startswith('pair '):
                     slots.pop(at)
         s.ask('dump')
         if life % 3 == 2:
@@ -585,7 +625,7 @@ def scans_come_among_other_lines_at_random(s):
         elif what < .45 and slots:
             slot = dice.choice(slots)
             told = s.ask(f'{dice.choice(["step", "step", "finish"])} {slot}')
-            if told[0] != 'moved' and not told[0].startswith('at '):
+            if told[0] != 'moved' and not told[0].startswith('pair '):
                 slots.remove(slot)
         elif what < .5:
             s.ask(f'tree {dice.choice(["t", DEFAULT])}')
@@ -598,6 +638,6 @@ def scans_come_among_other_lines_at_random(s):
         else:
             s.ask(dice.choice(['pop-min', 'pop-max', 'flush', 'batch 00 9 50 -', f'cas {some()} 1 2', 'drop t', 'tree t', 'clear'][:5 + 3 * (number % 7 == 0)]))
     for slot in slots:
-        while s.ask(f'finish {slot}')[0].startswith('at '):
+        while s.ask(f'finish {slot}')[0].startswith('pair '):
             pass
     s.reaches('a scan goes on at another leaf')

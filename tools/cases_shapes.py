@@ -43,8 +43,8 @@ def a_read_goes_by_the_page_that_received(s):
     s.moves(2)
     s.line('step 2', 'old 1')
     s.line('read v', 'value new')
-    s.line('range [q ..', 'at q 2', 'at v new', 'at y 1', 'end 3')
-    s.line('last', 'found y 1')
+    s.line('range [q ..', 'pair q 2', 'pair v new', 'pair y 1', 'end 3')
+    s.line('last', 'pair y 1')
     drawn = s.ask('draw')
     expect(any('merging-child 4' in line for line in drawn), drawn)
 
@@ -70,8 +70,8 @@ def an_empty_leaf_among_others_is_passed_over(s):
     expect(entries(s, 2).count(0) == 1, 'one leaf is empty', entries(s, 2))
     left = keys[:lo] + keys[lo + 8:]
     s.line('len', 'number 142')
-    s.line(f'lt {keys[lo + 8]}', f'found {keys[lo - 1]} {keys[lo - 1]}')
-    s.line(f'gt {keys[lo - 1]}', f'found {keys[lo + 8]} {keys[lo + 8]}')
+    s.line(f'lt {keys[lo + 8]}', f'pair {keys[lo - 1]} {keys[lo - 1]}')
+    s.line(f'gt {keys[lo - 1]}', f'pair {keys[lo + 8]} {keys[lo + 8]}')
     s.line(f'range [{keys[lo]} ..', *at(*left[lo:]))
     s.line(f'range-back .. [{keys[lo + 8]}', *at(*left[:lo + 1][::-1]))
     s.holds(*left)
@@ -97,16 +97,16 @@ def two_empty_leaves_beside_each_other_are_passed_over(s):
     empty = [place for place, number in enumerate(counts) if number == 0]
     expect(len(empty) == 2 and empty[1] == empty[0] + 1, 'two empty leaves beside each other', counts)
     k, before = keys[hi + 8], keys[lo - 1]
-    s.line(f'lt {k}', f'found {before} {before}')
-    s.line(f'lt {keys[hi]}', f'found {before} {before}')
-    s.line(f'gt {before}', f'found {k} {k}')
+    s.line(f'lt {k}', f'pair {before} {before}')
+    s.line(f'lt {keys[hi]}', f'pair {before} {before}')
+    s.line(f'gt {before}', f'pair {k} {k}')
     s.line(f'range-back [{keys[lo - 2]} ({k}', *at(keys[lo - 1], keys[lo - 2]))
     s.line(f'range-ends [{keys[lo - 2]} [{k}', *at(keys[lo - 2], k, keys[lo - 1]))
     s.line('len', f'number {count - (hi - lo) - 8}')
     s.note('Then all that stands behind them goes too, and the last pair is the one before them.')
     remove(s, *keys[hi + 8:][::-1])
-    s.line('last', f'found {before} {before}')
-    s.line('pop-max', f'found {before} {before}')
+    s.line('last', f'pair {before} {before}')
+    s.line('pop-max', f'pair {before} {before}')
     s.line('len', f'number {lo - 1}')
 
 
@@ -118,9 +118,9 @@ def long_keys_and_bounds_are_read(s):
     s.line(f'read {long}', 'value 1')
     s.line(f'has {long}', 'yes')
     s.line(f'insert {"k" * 57} 2', 'old -')
-    s.line('range .. ..', f'at {"k" * 57} 2', f'at {long} 1', 'end 2')
-    s.line(f'range ({"k" * 23} ..', f'at {"k" * 57} 2', f'at {long} 1', 'end 2')
-    s.line(f'range-back .. ({long}', f'at {"k" * 57} 2', 'end 1')
+    s.line('range .. ..', f'pair {"k" * 57} 2', f'pair {long} 1', 'end 2')
+    s.line(f'range ({"k" * 23} ..', f'pair {"k" * 57} 2', f'pair {long} 1', 'end 2')
+    s.line(f'range-back .. ({long}', f'pair {"k" * 57} 2', 'end 1')
 
 
 # Writes.
@@ -213,7 +213,7 @@ def a_large_index_receives(s):
         if most > 17:
             break
     expect(most == 18, 'an index of eighteen pointers', most)
-    s.line(f'gt {keys[-slot - 2]}', f'found {keys[-slot - 1]} {keys[-slot - 1]}')
+    s.line(f'gt {keys[-slot - 2]}', f'pair {keys[-slot - 1]} {keys[-slot - 1]}')
     s.line('len', f'number {sum(entries(s, -1))}')
     s.ask('draw')
     s.ask('dump')

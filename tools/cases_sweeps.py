@@ -11,16 +11,16 @@ def many(s):
         s.line(f'owned insert {key(number)} {key(number)}', 'old -')
     s.begin(1, f'scan [{key(3)} ({key(20)}')
     for number in range(3, 20):
-        s.line('finish 1', f'at {key(number)} {key(number)}')
+        s.line('finish 1', f'pair {key(number)} {key(number)}')
     s.line('finish 1', 'end')
     s.begin(2, 'scan-back .. ..')
     for number in range(39, 20, -1):
-        s.line('finish 2', f'at {key(number)} {key(number)}')
+        s.line('finish 2', f'pair {key(number)} {key(number)}')
     for number in range(39, 9, -1):
         s.line(f'owned remove {key(number)}', f'old {key(number)}')
     s.line('owned batch' + ''.join(f' {key(number)} {key(number)}' for number in range(100, 120)), 'done')
-    s.line('owned pop-min', f'found {key(0)} {key(0)}')
-    s.line('owned pop-max', f'found {key(119)} {key(119)}')
+    s.line('owned pop-min', f'pair {key(0)} {key(0)}')
+    s.line('owned pop-max', f'pair {key(119)} {key(119)}')
     s.line('tree t', 'tree t')
     for number in range(20):
         s.line(f'owned insert {key(number)} {key(number)}', 'old -')

@@ -153,7 +153,17 @@ class Node:
         return replace(self, child=None, entries=tuple(e for e in self.entries if e[1] != self.child))
 
 
-View = namedtuple('View', 'pid version node')
+# A page, and as what it is kept: how many entries its base has, and how many links are kept over it.
+View = namedtuple('View', 'pid version node base links')
+# So many links are kept over a base at the most.
+LINKS = 8
+
+
+def view_of(pid, version, node, before=None):
+    """A page that a link made of the one before, or that has no links."""
+    if before is not None and before.links < LINKS:
+        return View(pid, version, node, before.base, before.links + 1)
+    return View(pid, version, node, len(node.entries), 0)
 
 
 class Store:
@@ -201,10 +211,14 @@ class Store:
         self.made()
         self.pids += 1
         self.versions += 1
-        self.do(0, self.pids, View(self.pids, self.versions, node))
+        self.do(0, self.pids, view_of(self.pids, self.versions, node))
         return self.pages[self.pids]
 
-    def change(self, view, node):
+    def link(self, view, node):
+        """Changes a page by a link, which makes this node of it, as `change` does."""
+        return self.change(view, node, True)
+
+    def change(self, view, node, is_link=False):
         """Puts the node in the place of a page that is still as it was seen (none: frees it): whether it was so, and the
         page now."""
         self.made()
@@ -212,7 +226,7 @@ class Store:
         if now is None or now.version != view.version:
             return False, now
         self.versions += 1
-        self.do(0, view.pid, node and View(view.pid, self.versions, node))
+        self.do(0, view.pid, node and view_of(view.pid, self.versions, node, now if is_link else None))
         return True, self.pages.get(view.pid)
 
     def swap_root(self, name, old, new):
@@ -475,7 +489,7 @@ def walk(store, tree, target):
             return
         if node.should_merge() and not first and parent.node.can_merge_child():
             yield
-            ok, parent = store.change(parent, replace(parent.node, child=pid))
+            ok, parent = store.link(parent, replace(parent.node, child=pid))
             store.notes['intention is stale'] += not ok
             yield
             if ok:
@@ -498,7 +512,7 @@ def act(store, tree, call, view):
     if call[0] == 'merge':
         value = OPERATORS[tree.operator](node.get(key), call[2])
         answer = f'value {word(value)}'
-    if store.change(view, node.put(key, value))[0]:
+    if store.link(view, node.put(key, value))[0]:
         tree.tell(key, value)
         return answer
     store.notes['change is stale'] += 1
@@ -576,7 +590,7 @@ def merge(store, parent, child):
             return
         if seen.node.merging:
             break
-        ok, now = store.change(seen, replace(seen.node, merging=True))
+        ok, now = store.link(seen, replace(seen.node, merging=True))
         store.notes['cap ' + ('is stale' if now else 'finds no page')] += not ok
         yield
         if now is None:
@@ -612,7 +626,7 @@ def merge(store, parent, child):
             received = True
         else:
             cursor = node.next
-    ok, _ = store.change(parent, parent.node.confirm())
+    ok, _ = store.link(parent, parent.node.confirm())
     store.notes['confirmation is stale'] += not ok
     yield
     if ok:
@@ -730,8 +744,9 @@ class Range:
 # The shell.
 
 FORMS = """insert K V; get K; remove K; cas K OLD NEW; merge K V; begin merge K V; operator OPERATOR; begin insert K V; begin get K; begin remove K; begin cas K OLD NEW; begin scan LO HI; begin scan-back LO HI
-step N; finish N; abandon N; turns N; flush; crash N; dump; new; new refuse N ..; reopen; reopen refuse N ..
-reopen unreadable PID ..; reopen mark N; recover; recover refuse N ..; recovered; verify; root NAME PID; image; image mark N; image group; each-refusal FILE; each-crash FILE; pages; draw; draw dot; handle DATABASE NAME N; why; help; quit; exit
+step N; finish N; abandon N; turns N; flush; crash N; dump; dump lines; run FILE; fill N; stats; remove-range LO HI; owned remove-range LO HI; new; new refuse N ..; reopen; reopen refuse N ..
+reopen unreadable PID ..; reopen mark N; recover; recover refuse N ..; recovered; verify; root NAME PID; image; image mark N; image group; each-refusal FILE; each-crash FILE; pages; draw; draw links; draw dot; parts PID; handle DATABASE NAME N; why; version; help; quit; exit
+set K V; put K V; del K; scan LO HI; iter; ls; trees
 has K; read K; lt K; gt K; first; last; len; empty; range LO HI; range-back LO HI; range-ends LO HI; prefix P; prefix-back P
 keys LO HI; keys-back LO HI; values LO HI; values-back LO HI
 pop-min; pop-max; clear; batch K NEW ..; group TREE K NEW .. ; ..; owned batch K NEW ..
@@ -753,6 +768,13 @@ def forms_of(text):
 
 
 FORMS, CROWD = forms_of(FORMS), forms_of(CROWD)
+# The first words of the lines of the shell, in the order in which its help lists them.
+HEADS = """insert get remove cas merge update fetch operator begin step finish abandon turns has read lt gt first last len empty range range-back
+range-ends prefix prefix-back keys keys-back values values-back pop-min pop-max clear remove-range fill batch group tx tx-all import import-type import-all tree
+old-tree drop names id watch next unwatch flush crash dump run new reopen recover recovered verify pages stats draw parts why version help ? quit exit set put
+del scan iter ls trees owned handle page root image each-refusal each-crash""".split()
+# Other names of lines, with what stands in them.
+OTHER_NAMES = {'set': ['insert'], 'put': ['insert'], 'del': ['remove'], 'scan': ['range'], 'iter': ['range', None, None], 'ls': ['names'], 'trees': ['names']}
 POINT = ('insert', 'get', 'remove', 'cas', 'merge')
 SCANS = ('scan', 'scan-back')
 POPS = ('pop-min', 'pop-max', 'clear')
@@ -774,7 +796,7 @@ def fit(form, words):
     if form[-1] == 'HOW':
         key, *how = words[len(own):] or ['']
         if not how or how[0] in HOWS and len(how) != 1 + (how[0] in ('append', 'set')) or len(how) > 2:
-            return len(own), None, f'`{" ".join(own)}` takes K HOW, two words or three'
+            return len(own), None, f'`{" ".join(own)}` takes K HOW, two words or three{SPACE * (len(how) > 2)}'
         try:
             return len(own), own + [value_of(key), how_of(how)], None
         except BadLine as why:
@@ -783,7 +805,7 @@ def fit(form, words):
     places = [places_of(takes[:takes.index(';')] if ';' in takes else takes, len(words)) for words in lists]
     if None in places:
         told = ' '.join(takes)
-        return len(own), None, f'`{" ".join(own)}` takes {told}{told and ", "}{count_of(takes)}'
+        return len(own), None, f'`{" ".join(own)}` takes {told}{told and ", "}{count_of(takes)}{space_in(takes, words[len(own):])}'
     try:
         values = [[READERS.get(place, number_of)(word) for place, word in zip(*both)] for both in zip(places, lists)]
         return len(own), own + ([values] if ';' in form else values[0]), None
@@ -815,6 +837,37 @@ def count_of(takes):
         return 'one word or more' if '..' in takes else counts[len(takes)]
     once = takes.index('K')
     return (f'{counts[once]} and pairs' if once else 'pairs') + ' in each part' * (';' in takes)
+
+
+SPACE = '; a space inside a word is spelled %20'
+STRINGS = {'K', 'V', 'P', 'DATABASE', 'TYPE', 'NAME', 'FILE', 'OLD', 'NEW', 'TREE'}
+
+
+def space_in(takes, words):
+    """What is said of a space where there are more words than a form takes, and it takes byte strings."""
+    if takes[-3:-2] == ['K'] and takes[-1] == '..':
+        more = len(words) - len(takes[:-3])
+        return SPACE * (more > 2 and more % 2 == 1)
+    return SPACE * ('..' not in takes and len(words) > len(takes) and not STRINGS.isdisjoint(takes))
+
+
+def one_letter(a, b):
+    """Whether two words differ in one letter, that one has more, that is another one, or that changed places with its neighbour."""
+    if len(a) > len(b):
+        a, b = b, a
+    more = any(b[:at] + b[at + 1:] == a for at in range(len(b)))
+    other = len(a) == len(b) and sum(x != y for x, y in zip(a, b)) == 1
+    return more or other or any(a[:at] + a[at + 1:at + 2] + a[at:at + 1] + a[at + 2:] == b for at in range(len(a) - 1))
+
+
+def no_command(text):
+    """What is said of a word that is no command, and which one it may have been meant to be: one that it is but for small and capital
+    letters, else one that differs in a letter, else one that it begins or that begins it."""
+    near = [head for head in HEADS if text.lower() == head.lower()]
+    if len(text) > 2:
+        near += [head for head in HEADS if len(head) > 1 and one_letter(text, head)]
+        near += [head for head in HEADS if len(head) > 1 and head.startswith(text) or len(head) > 2 and text.startswith(head)]
+    return f'`{text}` is no command; ' + (f'did you mean `{near[0]}`? ' if near else '') + '`help` lists them'
 
 
 PAGE = 'PID, leaf, LO HI NEXT, open or merging, and pairs K V; of an index CHILD and pairs K PID'
@@ -866,7 +919,7 @@ def read_help(words):
     if len(words) > 3:
         raise BadLine(f'`{words[0]}` takes [WORD], two words at the most')
     wanted = ' '.join(words[1:])
-    owns = [' '.join(part for part in form if part.islower()) for form in FORMS] + ['tests', '?', 'exit']
+    owns = [' '.join(part for part in form if part.islower()) for form in FORMS] + ['tests', '?', 'exit', 'bytes', 'bounds']
     if not any(own.startswith(wanted) for own in owns):
         raise BadLine(f'`{wanted}` begins no line; `help` lists them')
     return ['help', wanted]
@@ -883,11 +936,11 @@ def read_line(text, forms=FORMS):
         return read_page(words[1:])
     if words[0] == 'run' and len(words) > 1 and forms is CROWD:
         return ['run', [read_step(step.removeprefix(' ')) for step in text[4:].split(',')]]
-    best, reason = 1, f'`{words[0]}` is no command; `help` lists them'
+    best, reason = 1, no_command(words[0])
     for form in forms:
         own, values, why = fit(form, words)
         if values is not None:
-            return values
+            return OTHER_NAMES.get(values[0], values[:1]) + values[1:]
         if own >= best:
             best, reason = own, why
     raise BadLine(reason)
@@ -927,8 +980,9 @@ class Shell:
     def __init__(self, forms=FORMS):
         self.store, self.line, self.forms, self.why = Store(), 0, forms, '-'
         self.noted, self.is_foreign, self.code = ({}, {}), False, None
-        # the pairs of each moment, where somebody asks for them
-        self.dumps = None
+        # the pairs of each moment, where somebody asks for them; and who is told what each line of a file prints
+        self.dumps = self.heard = None
+        self.is_in_file = False
         self.open()
 
     def open(self):
@@ -964,7 +1018,7 @@ class Shell:
         notes, self.store, self.noted = self.store.notes, Store(), ({}, {})
         store = self.store
         store.notes, store.mark, store.recovered = notes, mark, True
-        store.pages = {pid: View(pid, version, node) for version, (pid, node) in enumerate(pages.items(), 1)}
+        store.pages = {pid: view_of(pid, version, node) for version, (pid, node) in enumerate(pages.items(), 1)}
         store.roots, store.versions = dict(roots), len(pages)
         store.base = dict(store.pages), dict(roots), {}
         named = [number for pid, n in pages.items() for number in [pid, n.next, n.child] + [p for _, p in n.entries if not n.leaf]]
@@ -1011,9 +1065,37 @@ class Shell:
         try:
             return self.do(*read_line(text, self.forms))
         except BadLine as why:
-            return [f'bad line {self.line}: {why}' if self.forms is FORMS else f'bad line {self.line}']
+            place = ' of the file' if self.is_in_file else ''
+            return [f'bad line {self.line}{place}: {why}' if self.forms is FORMS else f'bad line {self.line}']
         except Refused as refusal:
             return [self.refused(refusal)]
+
+    def run_file(self, lines):
+        """What the lines of a file print, which are counted anew."""
+        line, self.line, self.is_in_file = self.line, 0, True
+        printed = []
+        for text in lines:
+            if text in ('quit', 'exit'):
+                break
+            told = self.run(text)
+            if self.heard:
+                self.heard(text, told)
+            printed += told
+        self.line, self.is_in_file = line, False
+        return printed
+
+    def crash(self, keep):
+        """A crash. The current tree is so again where the name is there."""
+        name, is_open = self.handle[1], self.opened
+        self.store.crash(keep)
+        self.open()
+        if not is_open or self.forms is not FORMS:
+            return ['recovered']
+        if name not in self.trees:
+            return [f'recovered, tree {word(TREE)}']
+        self.handle = self.value_of(name)
+        self.named[name] = self.handle, self.handle
+        return ['recovered']
 
     def refused(self, refusal):
         """The line of a refusal, whose text is kept."""
@@ -1027,6 +1109,15 @@ class Shell:
         store = self.store
         if name in ('new', 'reopen', 'recover'):
             return self.renew(name, *words)
+        if self.is_in_file and name in ('each-refusal', 'each-crash', 'run'):
+            raise BadLine(f'`{name}` does not stand in a file that a line has run')
+        if name == 'run' and self.forms is FORMS:
+            return self.run_file(lines_of(words[0]))
+        if name == 'version':
+            return ['sledsh 0.1.0']
+        if name == 'parts':
+            view = store.pages.get(words[0])
+            return [f'parts {view.base} {view.links}' if view else 'none']
         if name in ('each-refusal', 'each-crash'):
             return [each_refusal(lines_of(words[0])) if name == 'each-refusal' else each_crash(lines_of(words[0]))]
         if name == 'page':
@@ -1040,9 +1131,7 @@ class Shell:
         if name == 'verify':
             return self.verify()
         if name == 'crash':
-            store.crash(words[0])
-            self.open()
-            return ['recovered']
+            return self.crash(words[0])
         if name == 'why':
             return [f'why {self.why}']
         if name == 'reads':
@@ -1062,8 +1151,9 @@ class Shell:
         if name == 'handle':
             self.handle = words
             return ['done']
-        if name == 'owned':
+        if name in ('owned', 'remove-range'):
             self.slots, self.begun = {}, 0
+        if name == 'owned':
             return self.do(*in_line(words))
         if name == 'recovered':
             return ['yes' if store.recovered else 'no']
@@ -1072,6 +1162,18 @@ class Shell:
             return ['done']
         if self.closed:
             raise Refused(8)
+        if name == 'stats':
+            maps, levels = self.maps().values(), [self.levels(True, name) for name in store.roots]
+            count = len(maps), sum(map(len, sum(levels, []))), max(map(len, levels)), sum(map(len, maps))
+            sizes = [sum(len(pair[at]) for pairs in maps for pair in pairs) for at in (0, 1)]
+            return ['stats' + ''.join(f' {what} {number}' for what, number in zip(('trees', 'pages', 'levels', 'pairs', 'key-bytes', 'value-bytes'), (*count, *sizes)))]
+        if name == 'remove-range':
+            tree, keys = self.there(self.handle), []
+            pairs = Range(store, tree, *words)
+            while (pair := pairs.take()) is not None:
+                keys.append(pair[0])
+            self.write([(self.handle, [(key, None) for key in keys])])
+            return [f'number {len(keys)}']
         if name.partition('-')[0] in POINT + LOOKS + ON_TREES or name in POPS:
             return self.on_tree(self.there(self.handle), name, *words)
         if name == 'tree':
@@ -1094,6 +1196,15 @@ class Shell:
             return [f'name {word(name)}' for name in sorted(store.roots)] + [f'end {len(store.roots)}']
         if name == 'id':
             return [f'number {self.next_id()}']
+        if name == 'fill':
+            if words[0] > 999999:
+                raise BadLine(f'`{words[0]}` is more than 999999')
+            for number in range(1, words[0] + 1):
+                self.advance(self.flight(self.there(self.handle), 'insert', b'k%06d' % number, b'%d' % number), True)
+            return [f'filled {words[0]}']
+        if name == 'dump' and words:
+            maps = self.maps()
+            return [line for name in maps for line in [f'tree {word(name)}'] + [f'insert {word(k)} {word(v)}' for k, v in maps[name]]]
         if name == 'dump':
             maps = self.maps()
             pairs = [f'pair {word(name)} {word(k)} {word(v)}' for name in sorted(maps) for k, v in maps[name]]
@@ -1125,13 +1236,14 @@ class Shell:
             self.slots[self.begun] = self.flight(tree, *words)
             return [f'slot {self.begun}']
         if name == 'draw':
-            return self.drawn(tree.name, words == ('dot',))
+            return self.drawn(tree.name, *words)
         levels = self.levels(True, tree.name)
         return [f'level {len(level)} {max(len(n.entries) for n in level)}' for level in levels] + [f'end {len(levels)}']
 
-    def drawn(self, name, is_dot):
+    def drawn(self, name, kind=None):
         """The pages of a tree level by level, each with the index that points to it; as a graph, with arrows in its place. Where one
         cannot be read the drawing ends."""
+        is_dot = kind == 'dot'
         printed = ['digraph tree {', '  node [shape=box]'] if is_dot else []
         level, parents = 0, {self.store.roots[name]: ''}
         try:
@@ -1139,8 +1251,9 @@ class Shell:
                 pid, below = next(iter(parents)), {}
                 printed += [] if is_dot else [f'level {level}']
                 while pid is not None:
-                    node = self.store.read(pid).node
-                    printed += self.page_drawn(pid, node, parents.get(pid), is_dot)
+                    view = self.store.read(pid)
+                    node, parts = view.node, f' base {view.base} links {view.links}' * (kind == 'links')
+                    printed += self.page_drawn(pid, node, parents.get(pid), is_dot, parts)
                     below.update({p: f' under {pid}' for _, p in node.entries if not node.leaf})
                     pid = node.next
                 level, parents = level + 1, below
@@ -1149,11 +1262,11 @@ class Shell:
         return printed + ['}'] * is_dot
 
     @staticmethod
-    def page_drawn(pid, node, under, is_dot):
+    def page_drawn(pid, node, under, is_dot, parts):
         head = f'{"leaf" if node.leaf else "index"} {pid}{"" if is_dot or under is None else under}'
         head += f' from {word(node.lo)} to {word(node.hi) if node.hi else ".."}'
         head += f' next {node.next}' * (node.next is not None) + ' merging' * node.merging
-        head += f' merging-child {node.child}' * (node.child is not None) + ' no-pointer' * (under is None) + ':'
+        head += f' merging-child {node.child}' * (node.child is not None) + ' no-pointer' * (under is None) + parts + ':'
         head += ''.join(f' {word(k)}={word(v)}' for k, v in node.entries if node.leaf)
         pointers = [] if node.leaf else [(word(k), p) for k, p in node.entries]
         if not is_dot:
@@ -1302,7 +1415,7 @@ class Shell:
                 self.advance(self.flight(tree, 'remove', pair[0]), True)
                 self.passes()
             if name != 'clear':
-                return ['found ' + (f'{word(pair[0])} {word(pair[1])}' if pair else '-')]
+                return ['pair ' + (f'{word(pair[0])} {word(pair[1])}' if pair else '-')]
             if not pair:
                 return ['done']
 
@@ -1318,7 +1431,7 @@ class Shell:
             pair = all.search_back() if name in ('lt', 'last') else all.search()
             if name == 'empty':
                 return ['no' if pair else 'yes']
-            return ['found ' + (f'{word(pair[0])} {word(pair[1])}' if pair else '-')]
+            return ['pair ' + (f'{word(pair[0])} {word(pair[1])}' if pair else '-')]
         if name == 'len':
             leaf = look(store, tree, (True, b''))
             count = len(leaf.entries)
@@ -1331,8 +1444,8 @@ class Shell:
         pairs, printed = Range(store, tree, *bounds), []
         try:
             while (pair := pairs.take(way == 'back' or way == 'ends' and len(printed) % 2 == 1)) is not None:
-                shown = {'keys': pair[:1], 'values': pair[1:]}.get(what, pair)
-                printed.append(' '.join(['at'] + [word(part) for part in shown]))
+                called, shown = {'keys': ('key', pair[:1]), 'values': ('value', pair[1:])}.get(what, ('pair', pair))
+                printed.append(' '.join([called] + [word(part) for part in shown]))
         except Refused as refusal:
             # an iterator that was refused ends: asked once more it gives nothing
             return printed + [self.refused(refusal), f'end {len(printed)}']
@@ -1391,7 +1504,7 @@ class Shell:
         except Refused:
             del self.slots[number]
             raise
-        if answer != 'moved' and not answer.startswith('at '):
+        if answer != 'moved' and not answer.startswith('pair '):
             del self.slots[number]
         return answer
 
@@ -1408,7 +1521,7 @@ class Shell:
                 pair = next(call)
                 if pair is not None:
                     flight[1] = 0
-                    return f'at {word(pair[0])} {word(pair[1])}'
+                    return f'pair {word(pair[0])} {word(pair[1])}'
                 flight[1] += 1
                 if not to_its_end:
                     return 'moved'
@@ -1459,7 +1572,7 @@ def check_lines(lines, makes_no_store):
     """What cannot be run again and again: lines that cannot be read, and for refusals those that make another store."""
     shell = Shell()
     for line in lines:
-        if line.startswith('each-') or any(text.startswith('bad line') for text in shell.run(line)):
+        if re.match('(each-|run |fill )', line) or any(text.startswith('bad line') for text in shell.run(line)):
             raise BadLine('the file has a line that cannot be read')
     if makes_no_store and any(re.match('(new|crash|recover|image)( |$)|reopen refuse ', line) for line in lines):
         raise BadLine('the file has a line that makes another store')

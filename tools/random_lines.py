@@ -37,7 +37,7 @@ class Lines:
     def goes_on(self, slot):
         """A step of a call: whether it is in flight still."""
         printed = self.ask(f"step {slot}")[0]
-        return printed == "moved" or printed.startswith("at ")
+        return printed == "moved" or printed.startswith("pair ")
 
     def crash(self, keep):
         self.ask(f"crash {keep}")
@@ -133,7 +133,7 @@ class Scans(Lines):
         for before in range(0, steps, self.LIFE):
             self.live(min(steps - before, self.LIFE))
             self.crash(ALL)
-        pairs = sum(printed[0].startswith("at ") for printed in self.wanted if printed)
+        pairs = sum(printed[0].startswith("pair ") for printed in self.wanted if printed)
         assert pairs * 8 >= steps, "few pairs are given"
 
     def live(self, steps):

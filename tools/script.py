@@ -11,7 +11,7 @@ from oracle import (CROWD, DATABASE, FORMS, GREATEST, HOWS, LOOKS, ON_TREES, OPE
                     read_line, some_keys, value_of, word)
 
 # What a closed database serves, and the shell by itself, or a line that opens one.
-SERVED = ('next', 'unwatch', 'abandon', 'turns', 'recovered', 'why', 'handle', 'old-tree', 'new', 'recover', 'crash', 'page', 'root', 'image')
+SERVED = ('next', 'unwatch', 'abandon', 'turns', 'recovered', 'why', 'version', 'parts', 'handle', 'old-tree', 'new', 'recover', 'crash', 'page', 'root', 'image')
 CRATES = os.path.join(os.path.dirname(os.path.abspath(__file__)), '..', 'crates')
 CASES = []
 
@@ -97,7 +97,7 @@ class Scan:
         now = self.within(self.map.pairs)
         self.steady = now if self.steady is None else self.steady & now
         if printed != 'moved':
-            pair = tuple(value_of(text) for text in printed.removeprefix('at ').split(' '))
+            pair = tuple(value_of(text) for text in printed.removeprefix('pair ').split(' '))
             keys = [key for key, _ in self.given] + [pair[0]]
             expect(keys == sorted(set(keys), reverse=self.is_back), 'in order', keys)
             expect(self.within(keys) == set(keys) and pair in self.seen, 'within the bounds, and there at some moment', pair)
@@ -115,11 +115,25 @@ class Plain:
 
     def opened(self):
         """Slots, operators, and all names but the default one are gone."""
-        self.calls, self.scans, self.current, self.is_closed = {}, {}, self.maps[TREE], False
-        self.named = {TREE: (self.current, self.current)}
+        self.calls, self.scans, self.is_closed, self.named = {}, {}, False, {}
+        self.take(TREE)
+        self.named[TREE] = self.current, self.current
         for map in self.maps.values():
             map.operator, map.queues = None, []
         self.queues = []
+
+    def take(self, name):
+        """Makes the tree of this name current."""
+        self.current, self.current_name = self.maps[name], name
+
+    def crashed(self, printed):
+        """A crash left these trees, of which the one that was current is so again where its name is there."""
+        name = self.current_name
+        self.opened()
+        expect(printed == ('recovered' if name in self.maps else f'recovered, tree {word(TREE)}'), printed, name)
+        if name in self.maps:
+            self.take(name)
+            self.named[name] = self.current, self.current
 
     @property
     def pairs(self):
@@ -214,8 +228,8 @@ class Plain:
                 pairs = pairs[::-1]
             if way == 'ends':
                 pairs = [pairs[i // 2 if i % 2 == 0 else -1 - i // 2] for i in range(len(pairs))]
-            parts = {'keys': slice(1), 'values': slice(1, 2)}.get(what, slice(2))
-            return [' '.join(['at'] + [word(part) for part in p[parts]]) for p in pairs] + [f'end {len(pairs)}']
+            called, parts = {'keys': ('key', slice(1)), 'values': ('value', slice(1, 2))}.get(what, ('pair', slice(2)))
+            return [' '.join([called] + [word(part) for part in p[parts]]) for p in pairs] + [f'end {len(pairs)}']
         if name == 'len':
             return [f'number {len(pairs)}']
         if name == 'empty':
@@ -226,18 +240,18 @@ class Plain:
         if name in ('lt', 'gt'):
             pairs = [p for p in pairs if (p[0] < words[0] if name == 'lt' else p[0] > words[0])]
         if not pairs:
-            return ['found -']
+            return ['pair -']
         found = pairs[-1 if name in ('lt', 'last') else 0]
-        return [f'found {word(found[0])} {word(found[1])}']
+        return [f'pair {word(found[0])} {word(found[1])}']
 
     def pop(self, key):
         """The key is taken out, if it is one, and what is printed of its pair."""
         if key is None:
-            return 'found -'
+            return 'pair -'
         old = self.pairs[key]
         self.set(self.current, key, None)
         self.current.tell(key, None)
-        return f'found {word(key)} {word(old)}'
+        return f'pair {word(key)} {word(old)}'
 
     def pops(self, name, printed, maps):
         """A call that takes pairs out printed this, and left these trees. A clear that was refused may have begun."""
@@ -250,6 +264,14 @@ class Plain:
         elif not printed.startswith('refused'):
             at = -1 if name == 'pop-max' else 0
             expect(printed == self.pop(keys[at] if keys else None), name, printed)
+
+    def fills(self, count, printed, maps):
+        """A line that inserts so many pairs printed this, and left these trees. One that was refused may have begun."""
+        for number in range(1, count + 1):
+            if printed == 'refused E4' and self.has(maps):
+                return
+            self.answer(('insert', b'k%06d' % number, b'%d' % number), self.current)
+        expect(printed == f'filled {count}', count, printed)
 
     def imports(self, collections, printed, maps):
         """A line that imports printed this, and left these trees. One that was refused may have begun."""
@@ -296,6 +318,21 @@ class Plain:
         if name == 'owned':
             self.calls, self.scans = {}, {}
             return self.meets(in_line(words[1:]), printed, shell)
+        if name == 'stats':
+            maps = [tree.pairs for tree in self.maps.values()]
+            pairs = [pair for pairs in maps for pair in pairs.items()]
+            sizes = len(pairs), sum(len(k) for k, _ in pairs), sum(len(v) for _, v in pairs)
+            form = re.fullmatch(r'stats trees (\d+) pages (\d+) levels (\d+) pairs (\d+) key-bytes (\d+) value-bytes (\d+)', last)
+            expect(last.startswith('refused') or form and [int(form[at]) for at in (1, 4, 5, 6)] == [len(maps), *sizes], last, maps)
+            return
+        if name == 'remove-range':
+            self.calls, self.scans = {}, {}
+            if not last.startswith('refused'):
+                keys = [key for key in sorted(self.pairs) if is_from(words[1], key) and is_up_to(words[2], key)]
+                expect(last == f'number {len(keys)}', words, last)
+                self.write([(None, [(key, None) for key in keys])])
+            self.is_closed = shell.closed
+            return
         if name in ('batch', 'group'):
             return self.groups(batches_of(*words), last, shell)
         if name.partition('-')[0] in POINT + LOOKS + ON_TREES or name in POPS:
@@ -312,7 +349,11 @@ class Plain:
             if last != 'refused E8':
                 self.imports(collections_of(*words), last, shell.contents())
             return
+        if name == 'fill' and last not in ('refused E1', 'refused E2', 'refused E8'):
+            return self.fills(words[1], last, shell.contents())
         if last.startswith('refused'):
+            if name in ('new', 'reopen', 'recover', 'crash'):
+                self.current_name = TREE
             return
         if name == 'watch':
             self.queues.append([])
@@ -335,13 +376,14 @@ class Plain:
             self.current.operator = words[1]
         elif name == 'handle':
             named = words[2] if words[1] == DATABASE and words[3] == shell.trees.get(words[2], Tree(None, None)).number else None
-            self.current = self.maps.get(named) or Map(False)
+            self.current, self.current_name = self.maps.get(named) or Map(False), words[2]
         elif name == 'tree':
             _, before = self.named.get(words[1], (None, None))
-            self.current = self.open(words[1])
+            self.open(words[1])
+            self.take(words[1])
             self.named[words[1]] = before, self.current
         elif name == 'old-tree':
-            self.current = self.named[words[1]][0]
+            self.current, self.current_name = self.named[words[1]][0], words[1]
         elif name == 'drop':
             expect(last == ('yes' if self.drop(words[1]) else 'no'), words, last)
         elif name == 'names':
@@ -359,6 +401,10 @@ class Plain:
             self.scans[words[1]].steps(last)
         elif name in ('step', 'finish') and last not in ('moved', 'no slot'):
             expect(last == self.answer(*self.calls[words[1]]), words, last)
+        elif name == 'dump' and words[1:]:
+            wanted = [line for name in sorted(self.maps) for line in
+                      [f'tree {word(name)}'] + [f'insert {word(k)} {word(v)}' for k, v in sorted(self.maps[name].pairs.items())]]
+            expect(printed == wanted, words, printed)
         elif name == 'dump':
             wanted = [pair(word(k), word(v), word(name)) for name in sorted(self.maps) for k, v in sorted(self.maps[name].pairs.items())]
             expect(printed == wanted + [f'end {len(wanted)}'], 'dump', printed)
@@ -367,7 +413,7 @@ class Plain:
             self.changes = []
         elif name in ('crash', 'recover'):
             self.is_left(shell.contents(), words[1] if name == 'crash' else GREATEST)
-            self.opened()
+            self.opened() if name == 'recover' or shell.forms is CROWD else self.crashed(last)
         elif name == 'run':
             for step, line in zip(words[1], printed):
                 # of a list of steps each value is told as one
@@ -393,6 +439,7 @@ class Script:
     def __init__(self, name, sentence, program='sledsh'):
         self.name, self.program, self.plain = name, program, Plain()
         self.shell = Shell(CROWD if program == 'crowd' else FORMS)
+        self.shell.heard = self.compare
         self.text, self.wanted = [], []
         self.reached = dict(self.shell.store.notes)
         self.note(sentence)
@@ -411,12 +458,17 @@ class Script:
         printed = self.shell.run(line)
         self.text.append(line)
         self.wanted += printed
+        if self.program == 'crowd' or not line.startswith('run '):
+            self.compare(line, printed)
+        return printed
+
+    def compare(self, line, printed):
+        """Compares what a line printed with the dictionary beside it."""
         if line and line[0] != '#' and not (printed and printed[0].startswith('bad line')):
             words = read_line(line, self.shell.forms)
             if words[0] == 'new':
                 self.plain = Plain()
             self.plain.meets(words, printed, self.shell)
-        return printed
 
     def line(self, line, *wanted):
         """A line that prints these lines."""
@@ -435,6 +487,15 @@ class Script:
                 rows.append((line, printed))
         for line, printed in rows:
             self.line(line, *printed)
+
+    def bad(self, line, why):
+        """A line that cannot be read."""
+        self.line(line, f'bad line {self.shell.line + 1}: {why}')
+
+    def same(self, line, other):
+        """A line prints what another one does."""
+        printed = self.ask(other)
+        self.line(line, *printed)
 
     def new(self, *refused):
         """An empty store."""

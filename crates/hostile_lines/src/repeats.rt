@@ -63,7 +63,7 @@ fn answer_of(printed: &[u8]) -> Answer {
         if line == b"refused E8".as_slice() {
             return Answer::Closed;
         }
-        if line == b"found -".as_slice() || line.starts_with(b"refused ") {
+        if line == b"pair -".as_slice() || line.starts_with(b"refused ") {
             return Answer::Ended;
         }
     }
@@ -210,12 +210,13 @@ impl<'a> Repeats<'a> {
     }
 
     // What is kept of what was printed, of what was asked for so. Of a line that is made again it is nothing; of how many actions a flush
-    // made durable too, since a call that is made again may make more.
+    // made durable too, since a call that is made again may make more; and of which tree is current behind a crash.
     fn kept<'b>(&self, asked: Asked, printed: &'b [u8]) -> &'b [u8] {
         match (self.aim, asked) {
             (Aim::Refusing(_), Asked::Line) if self.is_again || self.is_recovered => b"",
             (Aim::Refusing(_), Asked::Line) if printed.starts_with(b"flushed ") => b"flushed\n",
             (Aim::Refusing(_), Asked::Line) | (Aim::Count, Asked::Flush) => printed,
+            (_, Asked::Crash) if printed.starts_with(b"recovered") => b"recovered\n",
             (_, Asked::Dump | Asked::Crash | Asked::Verify) => printed,
             _ => b"",
         }

@@ -72,12 +72,9 @@ number_name_of show = codes "flushed "
 abbrev pub conflict_line : CompareAndSwapError → List ℕ
 conflict_line conflict = codes "conflict " ++ word_of conflict.current ++ codes " " ++ word_of conflict.proposed ++ end
 
-abbrev pub found_line : Key → Key → List ℕ
-found_line key value = codes "found " ++ printed key ++ codes " " ++ printed value ++ end
-
--- a pair that a scan gave
-abbrev pub at_line : Key → Key → List ℕ
-at_line key value = codes "at " ++ printed key ++ codes " " ++ printed value ++ end
+-- a pair that was taken out, or that a scan gave
+abbrev pub entry_line : Key → Key → List ℕ
+entry_line key value = codes "pair " ++ printed key ++ codes " " ++ printed value ++ end
 
 abbrev pub tree_line : Key → List ℕ
 tree_line name = codes "tree " ++ printed name ++ end
@@ -102,8 +99,8 @@ reply_line show (Swapped (Err conflict)) = conflict_line conflict
 reply_line show (Number n) = number_name_of show ++ decimal n ++ end
 reply_line show reply.End = codes "end" ++ end
 reply_line show Done = codes "done" ++ end
-reply_line show (Pair (Some pair)) = found_line pair.0 pair.1
-reply_line show (Pair None) = codes "found -" ++ end
+reply_line show (Pair (Some pair)) = entry_line pair.0 pair.1
+reply_line show (Pair None) = codes "pair -" ++ end
 reply_line show (Tree tree) = tree_line tree.name
 reply_line show (Flag true) = codes "yes" ++ end
 reply_line show (Flag false) = codes "no" ++ end
@@ -129,12 +126,13 @@ slot_line n = codes "slot " ++ decimal n ++ end
 abbrev pub outcome_line : Shown → Outcome → List ℕ
 outcome_line show (Begun slot) = slot_line slot
 outcome_line show Moved = codes "moved" ++ end
-outcome_line show (Yielded key value) = at_line key value
+outcome_line show (Yielded key value) = entry_line key value
 outcome_line show (Decided reply) = reply_line show reply
 outcome_line show (Refused e) = refused_line e
 outcome_line show Abandoned = codes "abandoned" ++ end
 outcome_line show NoSuchSlot = codes "no slot" ++ end
 
+-- a pair of a dump, behind the name of its tree
 abbrev pub pair_line : Key → Key → Key → List ℕ
 pair_line tree key value = codes "pair " ++ printed tree ++ codes " " ++ printed key ++ codes " " ++ printed value ++ end
 

@@ -21,7 +21,7 @@ use transaction_lines::run::tell_owned_transaction;
 fn shown_of(verb: Verb) -> Shown {
     match verb {
         Verb::Insert | Verb::Set | Verb::Remove | Verb::Del => Shown::Old,
-        Verb::Id => Shown::Number,
+        Verb::Id | Verb::RemoveRange => Shown::Number,
         _ => Shown::Value,
     }
 }
@@ -54,6 +54,16 @@ fn swap(db: &mut Db<MemPages, Operator>, tree: &Tree, arguments: &Arguments) -> 
     swapped.map(Reply::Swapped)
 }
 
+// Takes out the keys within the bounds of a line, and answers how many.
+fn remove_range(
+    db: &mut Db<MemPages, Operator>,
+    tree: &Tree,
+    arguments: &Arguments,
+) -> Answer<Reply> {
+    let (lo, hi) = (arguments.bound(0), arguments.bound(1));
+    db.remove_range(tree, lo, hi).map(Reply::Number)
+}
+
 // Makes a call on a tree, or on the database.
 fn whole(
     db: &mut Db<MemPages, Operator>,
@@ -65,6 +75,7 @@ fn whole(
         Verb::PopMin => db.pop_min(tree).map(Reply::Pair),
         Verb::PopMax => db.pop_max(tree).map(Reply::Pair),
         Verb::Clear => db.clear(tree).map(|()| Reply::Done),
+        Verb::RemoveRange => remove_range(db, tree, arguments),
         Verb::Flush => Ok(Reply::Number(db.flush()? as u64)),
         Verb::DropTree => db.drop_tree(arguments.bytes(0)).map(Reply::Flag),
         Verb::Watch => db

@@ -3,5 +3,6 @@
 #![tactic(auto)]
 
 pub mod fetch;
+pub mod fill;
 pub mod known;
 pub mod transactions;

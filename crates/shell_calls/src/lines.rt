@@ -27,6 +27,8 @@ pub struct Lines {
     /// Why the line cannot be read; empty where it can be.
     pub why: Vec<u8>,
     number: u64,
+    // Whether the line stands in a file that a line has run.
+    is_in_file: bool,
     // Whether each line could be read.
     is_good: bool,
 }
@@ -45,14 +47,15 @@ pub fn rest_behind(line: &[u8], own: usize) -> &[u8] {
     words_behind(line, own).unwrap_or(b"")
 }
 
-// Adds the line of one that cannot be read.
-fn push_bad(out: &mut Told, number: u64, why: &[u8]) -> Result<(), Stopped> {
+// Adds the line of one that cannot be read, which stands in a file or not.
+fn push_bad(out: &mut Told, number: u64, is_in_file: bool, why: &[u8]) -> Result<(), Stopped> {
+    let place: &[u8] = if is_in_file { b" of the file: " } else { b": " };
     tell(
         out,
         &[
             Text(b"bad line "),
             Number(number),
-            Text(b": "),
+            Text(place),
             Text(why),
             Text(b"\n"),
         ],
@@ -69,6 +72,7 @@ impl Lines {
             out: Told::new(alloc, explains),
             why: Vec::new(alloc),
             number: 0,
+            is_in_file: false,
             is_good: true,
         }
     }
@@ -84,7 +88,8 @@ impl Lines {
             return Ok(());
         }
         self.is_good = false;
-        push_bad(&mut self.out, self.number, self.why.as_slice())
+        let (number, is_in_file) = (self.number, self.is_in_file);
+        push_bad(&mut self.out, number, is_in_file, self.why.as_slice())
     }
 
     /// Adds why ids cannot be set aside, where the mark is higher.
@@ -99,6 +104,37 @@ impl Lines {
             ],
         ))?;
         self.tell_bad()
+    }
+
+    /// Adds that a number is greater than it may be.
+    pub fn tell_above(&mut self, number: u64, most: u64) -> Result<(), Stopped> {
+        answered(push_pieces(
+            &mut self.why,
+            &[
+                Text(b"`"),
+                Number(number),
+                Text(b"` is more than "),
+                Number(most),
+            ],
+        ))?;
+        self.tell_bad()
+    }
+
+    /// The lines of a file are read next, whose numbers begin anew. Gives the number of the line before.
+    pub fn begin_file(&mut self) -> u64 {
+        self.is_in_file = true;
+        std::mem::replace(&mut self.number, 0)
+    }
+
+    /// Behind the lines of a file the numbers go on.
+    pub fn end_file(&mut self, number: u64) {
+        self.is_in_file = false;
+        self.number = number;
+    }
+
+    /// Whether the line stands in a file that a line has run.
+    pub fn is_in_file(&self) -> bool {
+        self.is_in_file
     }
 
     /// Adds that the name in the line was no tree before.
@@ -116,13 +152,13 @@ impl Lines {
         self.tell_bad()
     }
 
-    /// Adds that the line has others run again and again, and is run so itself.
+    /// Adds that the line does not stand in a file, as it has the lines of one run, or makes many changes one after the other.
     pub fn tell_swept(&mut self) -> Result<(), Stopped> {
         let name = first_word(without_end(self.line.as_slice())).0;
         answered(quote(
             &mut self.why,
             name,
-            "does not stand in a file that is run again and again",
+            "does not stand in a file that a line has run",
         ))?;
         self.tell_bad()
     }

@@ -6,7 +6,7 @@ use sled_model::Tree;
 use std::alloc::Global;
 
 /// What the lines `tree` got since the opening, one after the other. The default tree comes first and second, as if two lines had
-/// named it.
+/// named it, and behind it a tree that is current again after a crash.
 #[derive(Drop)]
 pub struct Names {
     trees: Vec<Tree>,
@@ -30,6 +30,12 @@ impl Names {
         self.trees.clear();
         self.push(default)?;
         self.push(default)
+    }
+
+    /// A tree that is current again after a crash.
+    pub fn begin_with(&mut self, current: &Tree) -> Result<()> {
+        self.push(current)?;
+        self.push(current)
     }
 
     /// What a name was before so many of the last lines `tree` with it.

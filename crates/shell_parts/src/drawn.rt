@@ -6,13 +6,13 @@ use sled::Db;
 use sled_draw::draw::draw;
 use sled_draw::levels::count_levels;
 use sled_model::{MergeOperator, Tree};
-use sled_store::Pages;
+use sled_pages::MemPages;
 use std::alloc::Global;
 
 /// Adds a drawing of a tree, or how many pages it has.
-pub fn tell_drawn<P: Pages, M: MergeOperator>(
+pub fn tell_drawn<M: MergeOperator>(
     alloc: Global,
-    db: &Db<P, M>,
+    db: &Db<MemPages, M>,
     tree: &Tree,
     drawing: Option<Drawing>,
     out: &mut Told,

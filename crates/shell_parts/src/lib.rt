@@ -2,9 +2,11 @@
 //! them and what lines make of them, reads that take no slot, and drawings.
 #![tactic(auto)]
 
+pub mod again;
 pub mod check;
 pub mod drawn;
 pub mod held;
 pub mod look;
 pub mod renewal;
+pub mod stats;
 pub mod store;

@@ -69,9 +69,9 @@ pub fn tell_value(out: &mut Told, value: Answer<Option<IVec>>) -> Result<()> {
     }
 }
 
-// Adds a pair, and ends the line. A list of pieces has words of one owner alone.
+// Adds the line of a pair. A list of pieces has words of one owner alone.
 fn tell_pair(out: &mut Told, pair: (IVec, IVec)) -> Result<()> {
-    let first = tell(out, &[Word(pair.0.as_ref()), Text(b" ")]);
+    let first = tell(out, &[Text(b"pair "), Word(pair.0.as_ref()), Text(b" ")]);
     let second = tell(out, &[Word(pair.1.as_ref()), Text(b"\n")]);
     drop(pair);
     first.and(second)
@@ -80,8 +80,8 @@ fn tell_pair(out: &mut Told, pair: (IVec, IVec)) -> Result<()> {
 /// Adds the pair that was found, if there was one.
 pub fn tell_found(out: &mut Told, found: Answer<Option<(IVec, IVec)>>) -> Result<()> {
     match found {
-        Ok(Some(pair)) => tell(out, &[Text(b"found ")]).and(tell_pair(out, pair)),
-        Ok(None) => tell(out, &[Text(b"found -\n")]),
+        Ok(Some(pair)) => tell_pair(out, pair),
+        Ok(None) => tell(out, &[Text(b"pair -\n")]),
         Err(e) => tell_refused(out, e),
     }
 }
@@ -116,33 +116,53 @@ fn tell_last(out: &mut Told, refused: Option<Error>, count: u64) -> Result<Next>
     }
 }
 
+// What a byte string is called that stands alone in its line.
+#[derive(Clone, Copy)]
+enum Called {
+    Key,
+    Value,
+}
+
 // What is taken of a range.
 trait Item: Drop {
-    // Adds it, and ends the line.
-    fn tell(self, out: &mut Told) -> Result<()>;
+    // Adds its line. A key or a value alone is called so.
+    fn tell(self, called: Called, out: &mut Told) -> Result<()>;
 }
 
 impl Item for (IVec, IVec) {
-    fn tell(self, out: &mut Told) -> Result<()> {
+    fn tell(self, _called: Called, out: &mut Told) -> Result<()> {
         tell_pair(out, self)
     }
 }
 
 impl Item for IVec {
-    fn tell(self, out: &mut Told) -> Result<()> {
-        let told = tell(out, &[Word(self.as_ref()), Text(b"\n")]);
+    fn tell(self, called: Called, out: &mut Told) -> Result<()> {
+        let told = match called {
+            Called::Key => tell(out, &[Text(b"key "), Word(self.as_ref()), Text(b"\n")]),
+            Called::Value => tell(out, &[Text(b"value "), Word(self.as_ref()), Text(b"\n")]),
+        };
         drop(self);
         told
     }
 }
 
+// What is called so of which a read has that alone.
+fn name_of(look: Look) -> Called {
+    match look {
+        Look::Keys(_) => Called::Key,
+        _ => Called::Value,
+    }
+}
+
 // Adds an item, or why none came.
-fn tell_item<T: Item>(out: &mut Told, item: Option<Answer<T>>, count: u64) -> Result<Next> {
+fn tell_item<T: Item>(
+    out: &mut Told,
+    called: Called,
+    item: Option<Answer<T>>,
+    count: u64,
+) -> Result<Next> {
     match item {
-        Some(Ok(item)) => {
-            let told = tell(out, &[Text(b"at ")]).and(item.tell(out));
-            told.map(|()| Next::More)
-        }
+        Some(Ok(item)) => item.tell(called, out).map(|()| Next::More),
         Some(Err(e)) => tell_last(out, Some(e), count),
         None => tell_last(out, None, count),
     }
@@ -152,6 +172,7 @@ fn tell_item<T: Item>(out: &mut Told, item: Option<Answer<T>>, count: u64) -> Re
 fn tell_items<T: Item, I: DoubleEndedIterator<Item = Answer<T>>>(
     out: &mut Told,
     items: I,
+    called: Called,
     from: Side,
 ) -> Result<()>
     requires front { (items : I) → I.can_next items }
@@ -165,7 +186,7 @@ fn tell_items<T: Item, I: DoubleEndedIterator<Item = Answer<T>>>(
         } else {
             items.next()
         };
-        next = tell_item(out, item, turn.saturating_sub(u64::from(is_last)));
+        next = tell_item(out, called, item, turn.saturating_sub(u64::from(is_last)));
         if is_last || matches!(next, Ok(Next::Nothing) | Err(_)) {
             break;
         }
@@ -179,10 +200,10 @@ fn tell_range<P: Pages>(out: &mut Told, pairs: Answer<Iter<'_, P>>, look: Look) 
     match pairs {
         Err(e) => tell_refused(out, e),
         Ok(pairs) => match look {
-            Look::Keys(from) => tell_items(out, pairs.keys(), from),
-            Look::Values(from) => tell_items(out, pairs.values(), from),
-            Look::Pairs(from) => tell_items(out, pairs, from),
-            _ => tell_items(out, pairs, Side::Front),
+            Look::Keys(from) => tell_items(out, pairs.keys(), name_of(look), from),
+            Look::Values(from) => tell_items(out, pairs.values(), name_of(look), from),
+            Look::Pairs(from) => tell_items(out, pairs, name_of(look), from),
+            _ => tell_items(out, pairs, name_of(look), Side::Front),
         },
     }
 }
@@ -242,6 +263,7 @@ pub fn tell_look<P: Pages, M: MergeOperator>(
         Look::Len => tell_count(out, db.len(tree)),
         Look::Empty => tell_is(out, db.is_empty(tree)),
         Look::Names => tell_names(out, db.tree_names()),
+        Look::All => tell_range(out, db.iter(tree), look),
         Look::Has | Look::Read | Look::Below | Look::Above | Look::Prefix(_) => {
             let key = bytes_of(alloc, words.0)?;
             let told = look_at(db, tree, look, key.as_ref(), out);

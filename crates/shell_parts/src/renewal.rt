@@ -43,12 +43,12 @@ impl Renewal {
         self.mark
     }
 
-    /// What is printed of the opening after the last change.
-    pub fn opening(&self) -> &'static [u8] {
+    /// What is printed of the opening after the last change; nothing of the first opening.
+    pub fn opening(&self) -> Option<&'static [u8]> {
         match self.last {
-            Verb::Crash => b"recovered\n",
-            Verb::Quit => b"",
-            _ => b"opened\n",
+            Verb::Crash => Some(b"recovered"),
+            Verb::Quit => None,
+            _ => Some(b"opened"),
         }
     }
 

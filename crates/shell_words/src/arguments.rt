@@ -213,7 +213,7 @@ impl Arguments {
         if all_fit(takes, words.as_slice()) {
             self.read_all(takes, words.as_slice(), why)
         } else {
-            push_count(why, own, taken, takes)
+            push_count(why, own, taken, takes, words.as_slice())
         }
     }
 }
@@ -387,14 +387,47 @@ fn all_fit(takes: Takes<'_>, words: &[&[u8]]) -> bool {
     true
 }
 
-// Adds how many words a command takes.
+const SPACE: &str = "; a space inside a word is spelled %20";
+
+// Whether more words than a command takes may be a byte string with spaces in it.
+fn may_be_spaced(takes: Takes<'_>, count: usize) -> bool {
+    let more = count.saturating_sub(takes.once.len());
+    let is_too_many = match takes.tail {
+        Tail::Nothing => more > 0,
+        Tail::How => more > 2,
+        Tail::Pairs(_) => more > 2 && more % 2 == 1,
+        _ => false,
+    };
+    is_too_many && has_strings(takes)
+}
+
+// Whether a command takes byte strings.
+fn has_strings(takes: Takes<'_>) -> bool {
+    if let Tail::Pairs(_) = takes.tail {
+        return true;
+    }
+    for word in takes.once {
+        if let Kind::Bytes | Kind::Value = kind_of(*word) {
+            return true;
+        }
+    }
+    false
+}
+
+// Adds how many words a command takes, where there are so many others.
 fn push_count(
     why: &mut Vec<u8>,
     own: &'static str,
     taken: &'static str,
     takes: Takes<'_>,
+    words: &[&[u8]],
 ) -> Result<()> {
     let (count, more) = count_of(takes);
+    let space = if may_be_spaced(takes, words.len()) {
+        SPACE
+    } else {
+        ""
+    };
     push_pieces(
         why,
         &[
@@ -404,6 +437,7 @@ fn push_count(
             Text(taken.as_bytes()),
             Text(count.as_bytes()),
             Text(more.as_bytes()),
+            Text(space.as_bytes()),
         ],
     )
 }

@@ -4,6 +4,8 @@
 #[derive(Clone, Copy)]
 pub enum Drawing {
     Text,
+    /// With how many entries the base of each page has, and how many links it has.
+    Links,
     /// For the program `dot`.
     Dot,
 }

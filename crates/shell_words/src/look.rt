@@ -30,6 +30,8 @@ pub enum Look {
     Len,
     Empty,
     Names,
+    /// All pairs.
+    All,
     Pairs(Side),
     Keys(Side),
     Values(Side),
@@ -90,7 +92,7 @@ fn is_bound(alloc: Global, word: &[u8]) -> Answer<bool> {
 /// Whether a read takes these words, which stand behind its own.
 pub fn is_read(alloc: Global, look: Look, words: Option<&[u8]>) -> Answer<bool> {
     match (look, words) {
-        (Look::First | Look::Last | Look::Len | Look::Empty | Look::Names, words) => {
+        (Look::First | Look::Last | Look::Len | Look::Empty | Look::Names | Look::All, words) => {
             Ok(words.is_none())
         }
         (_, None) => Ok(false),

@@ -1,7 +1,7 @@
 //! What a line asks for, or why it asks for nothing.
 
 use crate::arguments::Arguments;
-use crate::table::{Misfit, Verb, find};
+use crate::table::{Misfit, Verb, find, meant_by};
 use crate::words::{push_typed, quote};
 use line_words::print::push_text;
 use line_words::words::first_word;
@@ -24,11 +24,22 @@ fn is_spaced(line: &[u8]) -> bool {
     true
 }
 
+// Adds that a word is no command, and which one it may have been meant to be.
+fn push_no_command(why: &mut Vec<u8>, name: &[u8]) -> Result<()> {
+    quote(why, name, "is no command; ")?;
+    if let Some(near) = meant_by(name) {
+        push_text(why, b"did you mean `")?;
+        push_text(why, near)?;
+        push_text(why, b"`? ")?;
+    }
+    push_text(why, b"`help` lists them")
+}
+
 // Adds why a line has the words of no command.
 fn push_misfit<'a>(why: &mut Vec<u8>, line: &'a [u8], misfit: Misfit<'a>) -> Result<()> {
     let name = first_word(line).0;
     match misfit {
-        Misfit::Name => quote(why, name, "is no command; `help` lists them"),
+        Misfit::Name => push_no_command(why, name),
         Misfit::Short => quote(why, line, "takes a word more; `help` lists which"),
         Misfit::Other(word) => {
             quote(why, word, "does not follow `")?;

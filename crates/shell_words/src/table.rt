@@ -3,7 +3,9 @@
 use crate::choices::{Drawing, Sweep};
 use crate::image::Image;
 use crate::look::{Look, Side};
+use crate::near::{Nearness, how_near};
 use crate::tell::{Result, Told, tell};
+use crate::topics::topic;
 use line_words::print::Piece::Text;
 use line_words::words::first_word;
 
@@ -26,9 +28,14 @@ pub enum Verb {
     Batch,
     Flush,
     Dump,
+    /// All pairs, as lines that make them again.
+    DumpLines,
     PopMin,
     PopMax,
     Clear,
+    RemoveRange,
+    /// Pairs for a first look.
+    Fill,
     OpenTree,
     DropTree,
     Id,
@@ -51,7 +58,11 @@ pub enum Verb {
     Recovered,
     Pages,
     Draw(Drawing),
+    Stats,
+    /// As what a page is kept.
+    Parts,
     Why,
+    Version,
     Help,
     /// A page of an image, which is noted.
     Page,
@@ -59,6 +70,8 @@ pub enum Verb {
     Root,
     /// The lines of a file, run again and again.
     Sweep(Sweep),
+    /// The lines of a file, run once.
+    Run,
     /// A check of the pages.
     Verify,
     Crash,
@@ -150,10 +163,12 @@ fn pair_commands() -> &'static [Command] {
 }
 
 #[rattlefmt::skip]
-static MANY: [Command; 10] = [
+static MANY: [Command; 12] = [
     Command("pop-min", "", Verb::PopMin, "takes the pair with the least key out, and prints it"),
     Command("pop-max", "", Verb::PopMax, "takes the pair with the greatest key out, and prints it"),
     Command("clear", "", Verb::Clear, "takes all keys out, from the least up"),
+    Command("remove-range", "LO HI", Verb::RemoveRange, "takes all keys within two bounds out, all or none, and prints how many; slots end, as at lines of `owned`"),
+    Command("fill", "N", Verb::Fill, "inserts N pairs for a first look, of keys from k000001 on"),
     Command("batch", "K NEW ..", Verb::Batch, "writes several keys, all or none: sets each to NEW, or takes it out where that is -"),
     Command("group", "TREE K NEW .. ; ..", Verb::Group, "writes the batches of all parts, all or none; TREE is a name that a line `tree` had, or - for the current tree"),
     Command("tx", "PART ; .. ; END", Verb::Transaction, "does all parts in a transaction: insert K V, get K, remove K, batch K NEW .., flush, id; END is commit, abort, conflict or conflict-below N"),
@@ -192,10 +207,12 @@ fn subscriber_commands() -> &'static [Command] {
 }
 
 #[rattlefmt::skip]
-static STORE: [Command; 8] = [
+static STORE: [Command; 10] = [
     Command("flush", "", Verb::Flush, "makes all durable"),
-    Command("crash", "N", Verb::Crash, "a crash that keeps N actions since the last flush, and an opening"),
+    Command("crash", "N", Verb::Crash, "a crash that keeps N actions since the last flush, and an opening; the current tree stays so where it is there"),
     Command("dump", "", Verb::Dump, "prints all pairs"),
+    Command("dump lines", "", Verb::DumpLines, "prints all trees and pairs as lines that make them again"),
+    Command("run", "FILE", Verb::Run, "runs the lines of a file"),
     Command("new", "", Verb::New, "an empty store, opened"),
     Command("reopen", "", Verb::Reopen, "opens the store again"),
     Command("recover", "", Verb::Recover, "a crash that keeps all actions, and an opening"),
@@ -208,11 +225,15 @@ fn store_commands() -> &'static [Command] {
 }
 
 #[rattlefmt::skip]
-static HELP: [Command; 8] = [
+static HELP: [Command; 12] = [
     Command("pages", "", Verb::Pages, "prints how many pages each level of the tree has, and the most entries of one"),
+    Command("stats", "", Verb::Stats, "prints how many trees, pages, levels and pairs there are, and the bytes of all keys and values"),
     Command("draw", "", Verb::Draw(Drawing::Text), "draws the tree level by level, with what is half done"),
+    Command("draw links", "", Verb::Draw(Drawing::Links), "draws it with how many entries the base of each page has, and how many links are kept over it"),
     Command("draw dot", "", Verb::Draw(Drawing::Dot), "draws it as a graph for the program dot"),
+    Command("parts", "PID", Verb::Parts, "prints of a page how many entries its base has, and how many links are kept over it"),
     Command("why", "", Verb::Why, "prints the text of the last refusal"),
+    Command("version", "", Verb::Version, "prints the version of the shell"),
     Command("help", "[WORD]", Verb::Help, "lists the lines for use; with a WORD what those take and do that begin with it, with `tests` those that are for tests"),
     Command("?", "[WORD]", Verb::Help, "the same as help"),
     Command("quit", "", Verb::Quit, "ends"),
@@ -221,6 +242,21 @@ static HELP: [Command; 8] = [
 
 fn help_commands() -> &'static [Command] {
     HELP.as_slice()
+}
+
+#[rattlefmt::skip]
+static OTHER_NAMES: [Command; 7] = [
+    Command("set", "K V", Verb::Insert, "the same as insert"),
+    Command("put", "K V", Verb::Insert, "the same as insert"),
+    Command("del", "K", Verb::Remove, "the same as remove"),
+    Command("scan", "LO HI", Verb::Look(Look::Pairs(Side::Front)), "the same as range"),
+    Command("iter", "", Verb::Look(Look::All), "prints all pairs of the tree, as range .. .. does"),
+    Command("ls", "", Verb::Look(Look::Names), "the same as names"),
+    Command("trees", "", Verb::Look(Look::Names), "the same as names"),
+];
+
+fn other_names() -> &'static [Command] {
+    OTHER_NAMES.as_slice()
 }
 
 #[rattlefmt::skip]
@@ -243,7 +279,8 @@ fn owned_key_commands() -> &'static [Command] {
 }
 
 #[rattlefmt::skip]
-static OWNED_OTHER: [Command; 7] = [
+static OWNED_OTHER: [Command; 8] = [
+    Command("owned remove-range", "LO HI", Verb::RemoveRange, "takes all keys within two bounds out, all or none"),
     Command("owned batch", "K NEW ..", Verb::Batch, "writes several keys, all or none"),
     Command("owned tx", "PART ; .. ; END", Verb::Transaction, "does all parts in a transaction"),
     Command("owned flush", "", Verb::Flush, "makes all durable"),
@@ -288,9 +325,9 @@ fn image_commands() -> &'static [Command] {
 }
 
 // So many groups are for people, and the others for tests.
-const PEOPLE: usize = 9;
+const PEOPLE: usize = 10;
 
-const GROUPS: usize = 13;
+const GROUPS: usize = 14;
 
 // Commands, and what those for people are about.
 #[derive(Clone, Copy)]
@@ -311,15 +348,16 @@ fn group_at(place: usize) -> Group {
         6 => Group { title: "Subscribers", commands: subscriber_commands() },
         7 => Group { title: "The store", commands: store_commands() },
         8 => Group { title: "Looking, help and the end", commands: help_commands() },
-        9 => Group { title: "", commands: owned_key_commands() },
-        10 => Group { title: "", commands: owned_other_commands() },
-        11 => Group { title: "", commands: fault_commands() },
+        9 => Group { title: "Other names", commands: other_names() },
+        10 => Group { title: "", commands: owned_key_commands() },
+        11 => Group { title: "", commands: owned_other_commands() },
+        12 => Group { title: "", commands: fault_commands() },
         _ => Group { title: "", commands: image_commands() },
     }
 }
 
 const MORE: &str =
-    "`help WORD` says what the lines do that begin with WORD; `help tests` has those that are for tests\n";
+    "`help WORD` says what the lines do that begin with WORD; `help tests` has those that are for tests\n`help bytes`, `help bounds` and `help crash` say how bytes and bounds are spelled, and what a crash keeps\n";
 
 /// How a call is made.
 #[derive(Clone, Copy)]
@@ -397,6 +435,13 @@ fn is_word(found: Option<&[u8]>, word: &[u8]) -> bool {
         Some(found) => found == word,
         None => false,
     }
+}
+
+// The first word of a command, and how near a word is to it.
+#[derive(Clone, Copy)]
+struct Nearest {
+    head: &'static [u8],
+    is: Nearness,
 }
 
 // Where a command stands: in which group, and where there.
@@ -492,6 +537,34 @@ pub fn find<'a>(line: &'a [u8]) -> std::result::Result<Found<'a>, Misfit<'a>> {
     }
 }
 
+// The first words of the commands of a group, as far as one is nearer to a word than the nearest so far.
+fn nearest_in(group: usize, word: &[u8], before: Nearest) -> Nearest {
+    let mut nearest = before;
+    for command in group_at(group).commands {
+        let (head, _) = first_word(command.0.as_bytes());
+        let is = how_near(word, head);
+        if is.is_nearer(nearest.is) {
+            nearest = Nearest { head, is };
+        }
+    }
+    nearest
+}
+
+/// The first word of a command that a word is near to, if it is near to one: to the first of those that it is nearest to.
+pub fn meant_by(word: &[u8]) -> Option<&'static [u8]> {
+    let mut nearest = Nearest {
+        head: b"",
+        is: Nearness::Far,
+    };
+    for group in 0..GROUPS {
+        nearest = nearest_in(group, word, nearest);
+    }
+    match nearest.is {
+        Nearness::Far => None,
+        _ => Some(nearest.head),
+    }
+}
+
 // Adds texts, one after the other.
 fn push(out: &mut Told, texts: [&'static str; 3]) -> Result<()> {
     let [first, second, third] = texts;
@@ -544,7 +617,7 @@ fn push_does(out: &mut Told, commands: &'static [Command], text: &[u8], all: boo
     Ok(is_any)
 }
 
-/// Adds what the commands do that begin with a text, or those for tests: whether there are any.
+/// Adds what the commands do that begin with a text, or those for tests, and what there is to say of it: whether there is anything.
 pub fn push_help(out: &mut Told, text: &[u8]) -> Result<bool> {
     let mut is_any = false;
     for place in 0..GROUPS {
@@ -553,5 +626,8 @@ pub fn push_help(out: &mut Told, text: &[u8]) -> Result<bool> {
             is_any = true;
         }
     }
-    Ok(is_any)
+    match topic(text) {
+        Some(said) => push(out, [said, "", ""]).map(|()| true),
+        None => Ok(is_any),
+    }
 }

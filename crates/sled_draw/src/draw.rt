@@ -1,9 +1,11 @@
 //! A tree drawn level by level, from its pages: as text, or as DOT.
 
+use crate::parts::{Parts, parts_of};
 use line_words::print::{push_number, push_text};
 use line_words::words::push_word;
 use shell_words::choices::Drawing;
 use sled_nodes::{Data, Error, IVec, Node, Pid, Result};
+use sled_pages::MemPages;
 use sled_store::Pages;
 use std::alloc::Global;
 
@@ -117,6 +119,16 @@ impl Picture {
         }
     }
 
+    // Adds as what a page is kept, where that is asked for.
+    fn parts(&mut self, parts: Option<Parts>) {
+        if let (Drawing::Links, Some(parts)) = (self.drawing, parts) {
+            self.text(" base ");
+            self.number(parts.base as u64);
+            self.text(" links ");
+            self.number(parts.links as u64);
+        }
+    }
+
     // Adds the index that a page is under; in a graph the arrows say it.
     fn parent(&mut self, place: &Place) {
         if self.is_dot() {
@@ -138,7 +150,6 @@ impl Picture {
         self.bounds(node);
         self.link(" next ", node.next);
         self.marks(node, place);
-        self.text(":");
     }
 
     fn pairs(&mut self, pairs: &[(IVec, IVec)]) {
@@ -225,9 +236,12 @@ impl Picture {
         node: &Node,
         pid: Pid,
         place: &Place,
+        parts: Option<Parts>,
     ) -> Result<()> {
         self.start(pid);
         self.head(node, pid, place);
+        self.parts(parts);
+        self.text(":");
         let pointers = self.pointers_of(node)?;
         self.end(node, pid, pointers.as_slice());
         self.take_down(below, pid, pointers.as_slice());
@@ -236,9 +250,9 @@ impl Picture {
     }
 
     // Adds a page by its number: the page to its right.
-    fn view<P: Pages>(
+    fn view(
         &mut self,
-        pages: &P,
+        pages: &MemPages,
         below: &mut Vec<Pointed>,
         pid: Pid,
         place: &Place,
@@ -246,16 +260,16 @@ impl Picture {
         let Some(view) = pages.read(self.alloc, pid)? else {
             return Ok(None);
         };
-        let added = self.node(below, &view.node, pid, place);
+        let added = self.node(below, &view.node, pid, place, parts_of(pages, pid));
         let next = view.node.next;
         drop(view);
         added.map(|()| next)
     }
 
     // Adds a level, from the first of the pages that the level above points to, and takes down the pages that it points to.
-    fn level<P: Pages>(
+    fn level(
         &mut self,
-        pages: &P,
+        pages: &MemPages,
         pointed: &[Pointed],
         below: &mut Vec<Pointed>,
     ) -> Result<()> {
@@ -283,7 +297,7 @@ impl Picture {
     }
 
     // Adds all levels, from the one of these pages down.
-    fn levels<P: Pages>(&mut self, pages: &P, mut pointed: Vec<Pointed>) -> Result<()> {
+    fn levels(&mut self, pages: &MemPages, mut pointed: Vec<Pointed>) -> Result<()> {
         for level in 0..u64::MAX {
             if pointed.is_empty() {
                 break;
@@ -299,7 +313,7 @@ impl Picture {
     }
 
     // Adds the tree of a name, if there is one.
-    fn tree<P: Pages>(&mut self, pages: &P, name: &[u8]) -> Result<()> {
+    fn tree(&mut self, pages: &MemPages, name: &[u8]) -> Result<()> {
         let mut roots = Vec::new(self.alloc);
         if let Some(root) = pages.root(name) {
             let (pid, place) = (root, Place::Top);
@@ -309,7 +323,7 @@ impl Picture {
     }
 
     // Adds the whole drawing: whether it was cut.
-    fn draw<P: Pages>(&mut self, pages: &P, name: &[u8]) -> Result<bool> {
+    fn draw(&mut self, pages: &MemPages, name: &[u8]) -> Result<bool> {
         if !self.is_dot() {
             self.tree(pages, name)?;
             return Ok(self.is_cut);
@@ -332,9 +346,9 @@ fn place_of(pointed: &[Pointed], pid: Pid) -> Place {
 
 /// Adds a drawing of the tree of this name. Refused where a page cannot be read, or with `NoMemory`; then there is what was drawn
 /// so far.
-pub fn draw<P: Pages>(
+pub fn draw(
     alloc: Global,
-    pages: &P,
+    pages: &MemPages,
     name: &[u8],
     drawing: Drawing,
     out: &mut Vec<u8>,

@@ -1,8 +1,9 @@
 //! The levels of a tree, from its pages.
 
+use crate::parts::entries_of;
 use line_words::print::Piece::{Number, Text};
 use line_words::print::push_pieces;
-use sled_nodes::{Data, Pid, Result};
+use sled_nodes::{Pid, Result};
 use sled_store::Pages;
 use std::alloc::Global;
 use std::ops::Bound;
@@ -21,10 +22,7 @@ fn count<P: Pages>(alloc: Global, pages: &P, pid: Pid, level: &mut Level) -> Res
         return Ok(None);
     };
     let next = view.node.next;
-    let entries = match &view.node.content {
-        Data::Leaf(leaf) => leaf.len(),
-        Data::Index(index) => index.len(),
-    };
+    let entries = entries_of(&view.node);
     // The first pointer of a level is at the least key.
     let first = view.node.pointer(Bound::Included(b""));
     drop(view);

@@ -1,5 +1,6 @@
-//! Drawings of a tree, and counts of its pages, over any store that can be read: nothing is changed.
+//! Drawings of a tree, counts of its pages, and as what a store in memory keeps them: nothing is changed.
 #![tactic(auto)]
 
 pub mod draw;
 pub mod levels;
+pub mod parts;

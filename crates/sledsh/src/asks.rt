@@ -8,15 +8,18 @@ use line_words::print::Shown;
 use line_words::words::first_word;
 use owned_lines::owned::make_owned;
 use session_lines::fetch::fetch;
+use session_lines::fill::{MOST, tell_filled};
 use session_lines::known::tell_known;
 use session_lines::transactions::{tell_transaction, tell_transaction_all};
 use shell_calls::calls::{handle_of, hearing, known_of, tell_unasked, whole_of};
 use shell_calls::groups::group_of;
 use shell_calls::lines::{rest_behind, words_behind};
 use shell_calls::subscribers::tell_no_subscriber;
+use shell_parts::again::tell_again;
 use shell_parts::drawn::tell_drawn;
 use shell_parts::held::Held;
 use shell_parts::look::tell_look;
+use shell_parts::stats::tell_stats;
 use shell_parts::store::Kept;
 use shell_words::choices::Drawing;
 use shell_words::look::Look;
@@ -26,6 +29,11 @@ use shell_words::tell::{Result, answered, tell, tell_refused, tell_turns, tell_w
 use sled_lines::session::Session;
 use sled_model::{Outcome, Reply, Tree, Whole};
 use std::io::Write;
+
+// Whether a line is a call of the database itself.
+fn is_owned(way: Way, verb: Verb) -> bool {
+    matches!(way, Way::Owned) || matches!(verb, Verb::RemoveRange)
+}
 
 impl Shell {
     /// Makes a tree current.
@@ -188,6 +196,15 @@ impl Shell {
             .tell_answer(&mut self.lines.out, Shown::Value, answer)
     }
 
+    // Inserts as many pairs as the line says, if those are not too many.
+    fn fill(&mut self, session: &mut Opened) -> Result<()> {
+        let count = self.lines.arguments.number();
+        if count > MOST {
+            return self.lines.tell_above(count, MOST);
+        }
+        tell_filled(self.lines.alloc, session, count, &mut self.lines.out)
+    }
+
     // Answers a line that asks a session.
     fn ask_session<W: Write>(
         &mut self,
@@ -221,6 +238,9 @@ impl Shell {
             Verb::TransactionAll => self.transaction_all(session),
             Verb::Handle => self.take_handle(session),
             Verb::Operator => self.set_operator(session),
+            Verb::DumpLines => tell_again(session.db(), &mut self.lines.out),
+            Verb::Fill => self.fill(session),
+            Verb::Stats => tell_stats(session.db(), &mut self.lines.out),
             Verb::Pages => self.show(session, None),
             Verb::Draw(drawing) => self.show(session, Some(drawing)),
             Verb::Turns => tell_turns(
@@ -234,7 +254,7 @@ impl Shell {
 
     /// Answers a line that asks a database.
     pub fn ask<W: Write>(&mut self, state: &mut State, verb: Verb, output: &mut W) -> Result<()> {
-        if let Way::Owned = self.lines.way() {
+        if is_owned(self.lines.way(), verb) {
             return self.owned(state, verb);
         }
         match state {

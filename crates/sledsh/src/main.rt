@@ -9,13 +9,10 @@ mod state;
 
 use line_files::check;
 use line_words::input::Stopped;
-use shell::{Texts, run};
+use shell::{Texts, VERSION, run};
 use std::io::{BufReader, BufWriter, IsTerminal, Write};
 use std::process::ExitCode;
 use std::{env, fs};
-
-// The version of the whole repository.
-const VERSION: &str = "0.1.0";
 
 // Runs standard input as a session: whether each line could be read.
 fn run_input(rt: &HostRuntime, output: &mut impl Write) -> Result<bool, Stopped> {

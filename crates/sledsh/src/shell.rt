@@ -1,14 +1,14 @@
 //! A session of the shell: lines, from opening to opening.
 
 use crate::input::{Input, read_file};
-use crate::state::State;
+use crate::state::{Opened, State};
 use hostile_lines::repeats::Repeats;
 use hostile_lines::source::Source;
 use hostile_lines::sweeps::{Sessions, tell_sweep};
 use hostile_lines::verdict::tell_verdict;
 use line_files::Program;
 use line_words::input::Stopped;
-use line_words::print::Piece::Text;
+use line_words::print::Piece::{Text, Word};
 use shell_calls::lines::{Lines, rest_behind};
 use shell_calls::names::Names;
 use shell_calls::subscribers::Subscribers;
@@ -19,13 +19,19 @@ use shell_parts::store::Kept;
 use shell_words::choices::Sweep;
 use shell_words::operators::Operator;
 use shell_words::table::Verb;
-use shell_words::tell::{Result, tell, tell_refused, tell_why};
+use shell_words::tell::{Result, Told, answered, tell, tell_refused, tell_why};
 use sled::{Db, GROUP_IS_OPEN};
+use sled_draw::parts::push_parts;
 use sled_lines::session::Session;
-use sled_nodes::Error;
+use sled_model::{Outcome, Reply, Tree, Whole};
+use sled_nodes::{Error, IVec, Pid};
 use sled_pages::MemPages;
+use sled_store::Pages;
 use std::alloc::Global;
 use std::io::{BufRead, Write};
+
+// The version of the whole repository.
+pub const VERSION: &str = "0.1.0";
 
 // The name that databases are opened under.
 const DATABASE: &[u8] = b"sledsh";
@@ -42,6 +48,13 @@ pub struct Shell {
     /// The subscribers that they got.
     pub subscribers: Subscribers,
     renewal: Renewal,
+    // The name of the tree that was current before a crash, up to the opening behind it.
+    before: Option<IVec>,
+}
+
+// Adds which tree is current.
+fn tell_tree(out: &mut Told, tree: &Tree) -> Result<()> {
+    tell(out, &[Text(b", tree "), Word(tree.name.as_ref())])
 }
 
 impl Shell {
@@ -53,6 +66,7 @@ impl Shell {
             names: Names::empty(alloc),
             subscribers: Subscribers::empty(alloc),
             renewal: Renewal::nothing(alloc),
+            before: None,
         }
     }
 
@@ -68,7 +82,7 @@ impl Shell {
         }
     }
 
-    // Answers a line, unless it changes the store, has others run again and again, or ends: whether it did.
+    // Answers a line, unless it changes the store, has others run, or ends: whether it did.
     fn answer<W: Write>(&mut self, state: &mut State, verb: Verb, output: &mut W) -> Result<bool> {
         let number = self.lines.arguments.number();
         let told = match verb {
@@ -78,7 +92,10 @@ impl Shell {
             Verb::Reopen | Verb::Refuse | Verb::Unreadable | Verb::Mark if state.is_closed() => {
                 tell_refused(&mut self.lines.out, Error::Corruption(GROUP_IS_OPEN))
             }
-            Verb::Sweep(_) if self.is_swept => self.lines.tell_swept(),
+            Verb::Sweep(_) | Verb::Run if self.is_swept || self.lines.is_in_file() => {
+                self.lines.tell_swept()
+            }
+            Verb::Fill if self.is_swept => self.lines.tell_swept(),
             Verb::Crash
             | Verb::New
             | Verb::Reopen
@@ -88,12 +105,15 @@ impl Shell {
             | Verb::Recover
             | Verb::Image(_)
             | Verb::Sweep(_)
+            | Verb::Run
             | Verb::Quit => return Ok(false),
             Verb::Verify => self.verify(state),
+            Verb::Parts => self.parts(state),
             Verb::OldTree => self.take_old(state),
             Verb::Page => self.note_page(),
             Verb::Root => self.note_root(),
             Verb::Why => tell_why(&mut self.lines.out),
+            Verb::Version => self.version(),
             Verb::Help => self.lines.help(),
             verb => self.ask(state, verb, output),
         };
@@ -111,6 +131,21 @@ impl Shell {
         )
     }
 
+    // Says as what a page is kept.
+    fn parts(&mut self, state: &State) -> Result<()> {
+        let pid = Pid(self.lines.arguments.number());
+        let pushed = push_parts(state.pages(), pid, &mut self.lines.out.text);
+        answered(pushed)
+    }
+
+    fn version(&mut self) -> Result<()> {
+        let version = Text(VERSION.as_bytes());
+        tell(
+            &mut self.lines.out,
+            &[Text(b"sledsh "), version, Text(b"\n")],
+        )
+    }
+
     // Notes a page of an image.
     fn note_page(&mut self) -> Result<()> {
         let words = rest_behind(self.lines.line.as_slice(), 1);
@@ -125,7 +160,7 @@ impl Shell {
         noted.note_root(self.lines.alloc, words, &mut self.lines.out)
     }
 
-    // Answers lines up to one that changes the store, has others run again and again, or ends.
+    // Answers lines up to one that changes the store, has others run, or ends.
     fn lines<W: Write, S: Source<W>>(
         &mut self,
         state: &mut State,
@@ -152,24 +187,57 @@ impl Shell {
         }
     }
 
+    // Makes the tree current again that was so before a crash, if it is there: whether the current tree is that one.
+    fn take_again(&mut self, session: &mut Opened) -> Result<bool> {
+        let Some(name) = self.before.take() else {
+            return Ok(true);
+        };
+        if session.db().pages().root(name.as_ref()).is_none() {
+            drop(name);
+            return Ok(false);
+        }
+        match session.whole(Whole::OpenTree(name)) {
+            Outcome::Decided(Reply::Tree(tree)) => {
+                let noted = self.names.begin_with(&tree);
+                session.set_tree(tree);
+                noted.map(|()| true)
+            }
+            other => {
+                drop(other);
+                Err(Stopped)
+            }
+        }
+    }
+
+    // Takes down the trees that an opening got, and tells of it; of the current tree where it is another one than before a crash.
+    fn tell_opened(&mut self, session: &mut Opened) -> Result<()> {
+        self.names.begin(session.tree())?;
+        let is_same = self.take_again(session)?;
+        let Some(opening) = self.renewal.opening() else {
+            return Ok(());
+        };
+        tell(&mut self.lines.out, &[Text(opening)])?;
+        if !is_same {
+            tell_tree(&mut self.lines.out, session.tree())?;
+        }
+        tell(&mut self.lines.out, &[Text(b"\n")])
+    }
+
     // A session over a database, whose opening is told.
     fn begin(&mut self, db: Db<MemPages, Operator>) -> Result<State> {
-        if tell(&mut self.lines.out, &[Text(self.renewal.opening())]).is_err() {
-            drop(db.into_pages());
-            return Err(Stopped);
-        }
         self.subscribers.clear();
-        match Session::over(self.lines.alloc, db) {
-            Ok(session) => match self.names.begin(session.tree()) {
-                Ok(()) => Ok(State::Open(session)),
-                Err(stopped) => {
-                    drop(session.into_db().into_pages());
-                    Err(stopped)
-                }
-            },
+        let mut session = match Session::over(self.lines.alloc, db) {
+            Ok(session) => session,
             Err(refused) => {
                 drop(refused);
-                Err(Stopped)
+                return Err(Stopped);
+            }
+        };
+        match self.tell_opened(&mut session) {
+            Ok(()) => Ok(State::Open(session)),
+            Err(stopped) => {
+                drop(session.into_db().into_pages());
+                Err(stopped)
             }
         }
     }
@@ -182,9 +250,21 @@ impl Shell {
         }
     }
 
+    // Takes down what is to be current again behind what a line asks for.
+    fn note_before(&mut self, state: &State, verb: Verb) -> Result<()> {
+        let old = std::mem::replace(&mut self.before, state.name_behind(verb)?);
+        drop(old);
+        Ok(())
+    }
+
     // Does what a line asks for that changes the store, and opens it then.
     fn renew(&mut self, state: State, verb: Verb) -> Result<State> {
+        let noted = self.note_before(&state, verb);
         let held = state.into_held();
+        if let Err(stopped) = noted {
+            drop(held);
+            return Err(stopped);
+        }
         let held = self.renewal.change(held, verb, &self.lines.arguments)?;
         self.open(held)
     }
@@ -194,7 +274,7 @@ impl Shell {
         self.open(Held::Kept(Kept::empty(self.lines.alloc)))
     }
 
-    // Answers lines up to one that has others run again and again, or ends.
+    // Answers lines up to one that has others run, or ends.
     fn live<W: Write, S: Source<W>>(
         &mut self,
         state: State,
@@ -204,7 +284,7 @@ impl Shell {
         let mut state = state;
         for _ in 0..u64::MAX {
             match self.lines(&mut state, source, output) {
-                Ok(verb @ (Verb::Quit | Verb::Sweep(_))) => return Ok((state, verb)),
+                Ok(verb @ (Verb::Quit | Verb::Run | Verb::Sweep(_))) => return Ok((state, verb)),
                 Ok(verb) => state = self.renew(state, verb)?,
                 Err(stopped) => {
                     drop(state.into_held());
@@ -233,6 +313,54 @@ impl Shell {
         self.lines.tell_bad()
     }
 
+    // Answers the lines of a file.
+    fn run_lines<W: Write>(&mut self, state: State, lines: &[u8], output: &mut W) -> Result<State> {
+        let number = self.lines.begin_file();
+        let mut source = Input::new(lines, false);
+        let lived = self.live(state, &mut source, output);
+        self.lines.end_file(number);
+        Ok(lived?.0)
+    }
+
+    // Answers the lines of the file that the line names, over the store as it is.
+    fn run_file<W: Write>(
+        &mut self,
+        rt: &HostRuntime,
+        state: State,
+        output: &mut W,
+    ) -> Result<State> {
+        if let Some(lines) = read_file(rt, self.lines.arguments.bytes(0)) {
+            return self.run_lines(state, lines.as_slice(), output);
+        }
+        match self.lines.tell_no_file() {
+            Ok(()) => Ok(state),
+            Err(stopped) => {
+                drop(state.into_held());
+                Err(stopped)
+            }
+        }
+    }
+
+    // Has the lines of the file that the line names run, once, or again and again over stores of their own.
+    fn run_named<W: Write>(
+        &mut self,
+        rt: &HostRuntime,
+        state: State,
+        verb: Verb,
+        output: &mut W,
+    ) -> Result<State> {
+        let Verb::Sweep(sweep) = verb else {
+            return self.run_file(rt, state, output);
+        };
+        match self.sweep(rt, sweep) {
+            Ok(()) => Ok(state),
+            Err(stopped) => {
+                drop(state.into_held());
+                Err(stopped)
+            }
+        }
+    }
+
     // Answers all lines.
     fn run<W: Write, S: Source<W>>(
         &mut self,
@@ -244,13 +372,10 @@ impl Shell {
         for _ in 0..u64::MAX {
             let (left, verb) = self.live(state, source, output)?;
             state = left;
-            let Verb::Sweep(sweep) = verb else {
+            if let Verb::Quit = verb {
                 break;
-            };
-            if let Err(stopped) = self.sweep(rt, sweep) {
-                drop(state.into_held());
-                return Err(stopped);
             }
+            state = self.run_named(rt, state, verb, output)?;
         }
         drop(state.into_held());
         Ok(output.flush()?)

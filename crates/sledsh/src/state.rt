@@ -3,7 +3,10 @@
 use shell_parts::held::Held;
 use shell_parts::store::Kept;
 use shell_words::operators::Operator;
+use shell_words::table::Verb;
+use shell_words::tell::{Result, answered};
 use sled_lines::session::Session;
+use sled_nodes::IVec;
 use sled_pages::MemPages;
 use sled_store::Pages;
 
@@ -19,6 +22,17 @@ pub enum State {
 }
 
 impl State {
+    /// The name of the tree that is to be current again behind what a line asks for: that of the current tree, behind a crash.
+    pub fn name_behind(&self, verb: Verb) -> Result<Option<IVec>> {
+        match (self, verb) {
+            (State::Open(session), Verb::Crash) => {
+                let name = session.tree().name.clone();
+                Ok(Some(answered(name)?))
+            }
+            _ => Ok(None),
+        }
+    }
+
     /// The pages, between two openings. The calls in flight are given up.
     pub fn into_held(self) -> Held {
         match self {
