@@ -72,6 +72,7 @@ class Kept:
     """Where a program is kept, and how it gets there."""
 
     folders = ()  # The folders of a crate that the program is made of.
+    is_new = False  # Whether it was built just now.
 
     def __init__(self, program):
         self.program = program
@@ -99,8 +100,11 @@ class Kept:
 
     def keep(self, sources, built):
         """Puts a program and its stamp there, each of them whole."""
-        new, stamp = self.folder / "new", self.folder / "stamp.new"
-        new.write_bytes(built)
+        new, part, stamp = self.folder / "new", self.folder / "new.part", self.folder / "stamp.new"
+        part.write_bytes(built)
+        # Copied by a process of its own. What this one writes to may be open in another that it forks meanwhile, and could not be run.
+        subprocess.run(["cp", part, new], check=True)
+        part.unlink()
         new.chmod(0o755)
         stamp.write_text(f"{sources} {sum_of(built)}\n")
         with contextlib.suppress(FileNotFoundError):
@@ -131,6 +135,7 @@ class Kept:
                 # Summed before the build: where a source changes meanwhile, the stamp does not fit, and the next run builds anew.
                 sources = self.sum_of_sources()
                 self.keep(sources, self.build())
+                self.is_new = True
         return self.path
 
 
