@@ -7,6 +7,7 @@ mod calls;
 mod nodes;
 mod replies;
 mod report;
+mod sizes;
 mod step_kept;
 mod streams;
 mod transactions;
@@ -21,6 +22,7 @@ use std::process::ExitCode;
 enum Case {
     Transactions,
     Calls,
+    Sizes,
     Steps,
     Wholes,
 }
@@ -34,6 +36,7 @@ fn tell_on(report: &Report, case: Case, db: Db<MemPages>) {
     let db = match case {
         Case::Transactions => transactions::tell_on(report, db, &tree),
         Case::Calls => calls::tell_on(report, db, &tree),
+        Case::Sizes => sizes::tell_on(report, db, &tree),
         Case::Steps => step_kept::tell_on(report, db, &tree),
         Case::Wholes => whole_kept::tell_on(report, db, &tree),
     };
@@ -41,9 +44,19 @@ fn tell_on(report: &Report, case: Case, db: Db<MemPages>) {
     drop(db.into_pages());
 }
 
+// Which call of the store is refused: of whole calls the one that takes out the second pair of a clear, else none.
+fn refused_of(case: Case) -> u64 {
+    match case {
+        Case::Wholes => 14,
+        _ => 0,
+    }
+}
+
 // Tells of a new database over pages in memory.
 fn tell_case(report: &Report, case: Case) {
-    match Db::open(report.alloc(), empty_pages(report.alloc()), b"weather") {
+    let mut pages = empty_pages(report.alloc());
+    report.keep(pages.refuse_at(&[refused_of(case)]));
+    match Db::open(report.alloc(), pages, b"weather") {
         Ok(db) => tell_on(report, case, db),
         Err((pages, e)) => {
             drop(pages);
@@ -63,6 +76,7 @@ fn main(rt: HostRuntime) -> ExitCode {
     calls::tell(&report);
     replies::tell(&report);
     tell_case(&report, Case::Calls);
+    tell_case(&report, Case::Sizes);
     tell_case(&report, Case::Steps);
     tell_case(&report, Case::Wholes);
     if report.has_failed() {

@@ -1,7 +1,6 @@
-//! Copies of what lies in a page, the greatest page number that it names, and changes that are taken back.
+//! Copies of what lies in a page, the greatest page number that it names, and changes of a node that several hold.
 use crate::report::Report;
 use sled::{Data, Error, IVec, Index, Leaf, Link, Node, Pid, Shared};
-use sled_nodes::Back;
 use std::fmt::Debug;
 use std::slice::from_ref;
 
@@ -75,13 +74,8 @@ fn greatest(report: &Report) -> Option<[u64; 2]> {
 }
 
 // Makes a change.
-fn change(report: &Report, shared: &mut Shared, link: Option<Link>) -> Option<Back> {
-    report.keep(shared.change(report.alloc(), link?))
-}
-
-// Takes a change back.
-fn take_back(report: &Report, shared: &mut Shared, back: Option<Back>) -> Option<()> {
-    report.keep(shared.change_back(report.alloc(), back?))
+fn change(report: &Report, shared: &mut Shared, link: &Link) {
+    report.keep(shared.apply(report.alloc(), link));
 }
 
 // Adds what stands at `b`.
@@ -89,16 +83,22 @@ fn look(report: &Report, shared: &Shared, values: &mut Vec<Option<IVec>>) {
     report.add(values, shared.get(b"b"));
 }
 
-// What stands at `b` after a change, after that was taken back, and after a copy of its link.
-fn changes(report: &Report, shared: &mut Shared, link: Link) -> Vec<Option<IVec>> {
+// What stands at `b` after it is set, where one of two holders removes it, for the other of them, and where it is set again.
+fn changes(report: &Report, shared: &mut Shared, set: &Link, removal: &Link) -> Vec<Option<IVec>> {
     let mut values = Vec::new(report.alloc());
-    let again = report.keep(link.clone());
-    let back = change(report, shared, Some(link));
+    change(report, shared, set);
     look(report, shared, &mut values);
-    take_back(report, shared, back);
-    look(report, shared, &mut values);
-    drop(change(report, shared, again));
-    look(report, shared, &mut values);
+    if let Some(other) = report.keep(shared.share()) {
+        change(report, shared, removal);
+        look(report, shared, &mut values);
+        look(report, &other, &mut values);
+        drop(other);
+    }
+    if let Some(again) = report.keep(set.clone()) {
+        change(report, shared, &again);
+        look(report, shared, &mut values);
+        drop(again);
+    }
     values
 }
 
@@ -108,10 +108,14 @@ fn one_pair(report: &Report) -> Option<Shared> {
     report.keep(Shared::new(report.alloc(), node))
 }
 
-// What comes of a change of it.
+// What comes of changes of it.
 fn all_changes(report: &Report) -> Option<Vec<Option<IVec>>> {
     let (mut shared, (key, value)) = one_pair(report).zip(report.pair(b"b", b"2"))?;
-    let changes = changes(report, &mut shared, Link::Set(key, value));
+    let removal = report.bytes(b"b").map(Link::Del)?;
+    let set = Link::Set(key, value);
+    let changes = changes(report, &mut shared, &set, &removal);
+    drop(set);
+    drop(removal);
     drop(shared);
     Some(changes)
 }
@@ -127,7 +131,7 @@ pub fn tell(report: &Report) {
     show(report, "greatest pages:", greatest(report));
     show(
         report,
-        "a change, taken back, made again:",
+        "a change, one beside another holder, what that one has, made again:",
         all_changes(report),
     );
 }

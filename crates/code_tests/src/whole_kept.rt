@@ -11,22 +11,22 @@ fn label(report: &Report, bytes: &[u8]) -> Vec<u8> {
     label.unwrap_or(Vec::new(report.alloc()))
 }
 
-// A collection of a type and a name, with these keys, each with itself as its value.
+// A collection of a type and a name, with these keys, each with `1` as its value.
 fn collection(report: &Report, kind: &[u8], name: &[u8], keys: &[&[u8]]) -> Collection {
     let mut pairs = Vec::new(report.alloc());
     for key in keys {
-        if let Some(pair) = report.pair(key, key) {
+        if let Some(pair) = report.pair(key, b"1") {
             report.keep(pairs.push(pair));
         }
     }
     (label(report, kind), label(report, name), pairs)
 }
 
-// An import of a collection of one pair, and of another of three pairs that is of a type and a name.
+// An import of a collection of one pair, and of another of four pairs that is of a type and a name.
 fn import(report: &Report, kind: &[u8], name: &[u8]) -> Option<Whole> {
     let mut collections = Vec::new(report.alloc());
     report.keep(collections.push(collection(report, b"tree", b"spare", &[b"m"])));
-    report.keep(collections.push(collection(report, kind, name, &[b"a", b"b", b"c"])));
+    report.keep(collections.push(collection(report, kind, name, &[b"a", b"b", b"c", b"d"])));
     Some(Whole::Import(collections))
 }
 
@@ -59,19 +59,21 @@ fn tell_call(report: &Report, machine: &mut Machine<MemPages>, call: Option<Whol
 // Those on one tree that take pairs out and put them in.
 fn tell_pairs(report: &Report, machine: &mut Machine<MemPages>, tree: &Tree) {
     let name = tree.name().as_ref();
-    let watch = watch(report, machine);
-    tell_call(report, machine, watch);
+    let first = watch(report, machine);
+    tell_call(report, machine, first);
+    let second = watch(report, machine);
+    tell_call(report, machine, second);
     tell_call(report, machine, copy(report, tree).map(Whole::PopMin));
     tell_call(report, machine, import(report, b"leaf", name));
     tell_call(report, machine, import(report, b"tree", name));
     tell_call(report, machine, import(report, b"tree", name));
 }
 
-// Those that take out what was put in.
+// Those that take out what was put in. The first clear is refused at its second pair.
 fn tell_pops(report: &Report, machine: &mut Machine<MemPages>, tree: &Tree) {
     tell_call(report, machine, copy(report, tree).map(Whole::PopMin));
     tell_call(report, machine, copy(report, tree).map(Whole::PopMax));
-    tell_call(report, machine, Some(Whole::Next(Subscriber(1))));
+    tell_call(report, machine, Some(Whole::Next(Subscriber(2))));
     tell_call(report, machine, copy(report, tree).map(Whole::Clear));
     tell_call(report, machine, copy(report, tree).map(Whole::Clear));
 }
@@ -81,6 +83,7 @@ fn tell_names(report: &Report, machine: &mut Machine<MemPages>) {
     tell_call(report, machine, report.bytes(b"other").map(Whole::OpenTree));
     tell_call(report, machine, report.bytes(b"spare").map(Whole::OpenTree));
     tell_call(report, machine, report.bytes(b"spare").map(Whole::DropTree));
+    tell_call(report, machine, report.bytes(b"spare").map(Whole::DropTree));
     tell_call(report, machine, Some(Whole::GenerateId));
 }
 
@@ -88,8 +91,8 @@ fn tell_names(report: &Report, machine: &mut Machine<MemPages>) {
 fn tell_others(report: &Report, machine: &mut Machine<MemPages>) {
     let group = Whole::Group(Vec::new(report.alloc()));
     tell_call(report, machine, Some(group));
-    tell_call(report, machine, Some(Whole::Unsubscribe(Subscriber(1))));
-    tell_call(report, machine, Some(Whole::Next(Subscriber(1))));
+    tell_call(report, machine, Some(Whole::Unsubscribe(Subscriber(2))));
+    tell_call(report, machine, Some(Whole::Next(Subscriber(2))));
     tell_call(report, machine, Some(Whole::Flush));
 }
 

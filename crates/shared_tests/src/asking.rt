@@ -3,7 +3,7 @@ use crate::beside::{Scene, Way, is_done, require};
 use shared_examples::{Raised, add_one, push, raise, take};
 use sled_batch::Batch;
 use sled_machine::shared::Made;
-use sled_model::{Call, Next, Outcome, Reply, Slot, Subscriber, Tree, Whole};
+use sled_machine::{Call, Next, Outcome, Reply, Slot, Subscriber, Tree, Whole};
 use sled_nodes::{Error, IVec};
 use std::ops::Bound;
 use std::process::Abort;

@@ -19,7 +19,7 @@ const SECOND: [Turn<'static>; 13] = [
     Turn::Wait(Signal::Ready),
     Turn::Ask(Ask::Clear, Told::Done),
     Turn::Ask(Ask::GenerateId, Told::Number),
-    Turn::Ask(Ask::Group(b"c", b"3"), Told::Done),
+    Turn::Ask(Ask::Group(b"", b"3"), Told::Done),
     Turn::Ask(Ask::PopMax, Told::Popped),
     Turn::Ask(Ask::Import(&[4], 1), Told::Done),
     Turn::Ask(Ask::Import(&[5], 2), Told::Unsupported),
