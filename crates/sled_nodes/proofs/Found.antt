@@ -11,7 +11,10 @@ use Rattle.std.proofs.Math.Seq.{take-suc, take-length, get_or-append_seam}
 use Rattle.std.proofs.lemmas.List.{take-append-drop}
 use Rattle.sled_nodes.proofs.Basics.{first_false, or_false}
 use Rattle.sled_nodes.specs.Order.{Key}
-use Rattle.sled_nodes.specs.Among.{is_up_to, IsPointer, IsBefore}
+use Rattle.std.proofs.lemmas.List.{get_or_default}
+use Rattle.std.proofs.lemmas.Option.{slice_get-get_or}
+use Rattle.std.specs.List.{slice_get}
+use Rattle.sled_nodes.specs.Among.{is_up_to, IsFirst, IsLast, IsPointer, IsBefore}
 use Rattle.sled_nodes.specs.theory.Places.{IsFirstAt, IsLastAt}
 
 module _ {X : Type 0} (p : X → Bool) where
@@ -88,14 +91,23 @@ module _ {X : Type 0} (p : X → Bool) where
   walked_all xs i None e w = none_all xs (ap (λ n. list_any p (take n xs)) (sym e) ∙ w)
   walked_all xs i (Some j) e w = last_all xs j (subst (λ (n : ℕ). IsLastAt p (take n xs) j) e w)
 
--- the pointer that was found
-pub pointer_is : (bound : Bound Key) (es all slice : List (Key × ℕ)) (i : ℕ) (e : Key × ℕ) → slice ≡ all → all ≡ es → e ≡ get_or all i e → IsLastAt (λ x. is_up_to bound x.0) slice i → IsPointer bound es e.1 (nat_eq i 0)
-pointer_is bound es all slice i e s a g l =
-    let x : get_or slice i e ≡ l.x = last_is (λ x. is_up_to bound x.0) slice i e l in
-    let same : l.x ≡ e = sym x ∙ (ap (λ ys. get_or ys i e) s ∙ sym g) in
-    subst (λ (c : Key × ℕ). IsPointer bound es c.1 (nat_eq i 0)) same (record {
+-- the entry that was found
+pub first_entry : {X : Type 0} (p : X → Bool) (es : List X) (i : ℕ) (e : X) → IsFirstAt p es i → ((d : X) → get_or es i d ≡ e) → IsFirst p es e
+first_entry p es i e l h = subst (λ x. IsFirst p es x) (sym (first_is p es i e l) ∙ h e) l.first
+
+pub last_entry : {X : Type 0} (p : X → Bool) (es : List X) (i : ℕ) (e : X) → IsLastAt p es i → ((d : X) → get_or es i d ≡ e) → IsLast p es e
+last_entry p es i e l h = subst (λ x. IsLast p es x) (sym (last_is p es i e l) ∙ h e) l.last
+
+-- it stands at its place
+pub placed : {X : Type 0} (es : List X) (i : ℕ) (e : X) → i < length es → ((d : X) → get_or es i d ≡ e) → slice_get es i ≡ Some e
+placed es i e l h = slice_get-get_or es i e l ∙ ap Some (h e)
+
+pub pointer_is : (bound : Bound Key) (es all : List (Key × ℕ)) (i c : ℕ) → all ≡ es → ((d : Key × ℕ) → (get_or all i d).1 ≡ c) → IsLastAt (λ x. is_up_to bound x.0) all i → IsPointer bound es c (nat_eq i 0)
+pointer_is bound es all i c a h l =
+    let same : l.x.1 ≡ c = ap (λ (e : Key × ℕ). e.1) (sym (last_is (λ x. is_up_to bound x.0) all i l.x l)) ∙ h l.x in
+    subst (λ (b : ℕ). IsPointer bound es b (nat_eq i 0)) same (record {
       key = l.x.0;
-      last = record { before = l.last.before; after = l.last.after; is = sym a ∙ (sym s ∙ l.last.is); passed = l.last.passed; none = l.last.none };
+      last = record { before = l.last.before; after = l.last.after; is = sym a ∙ l.last.is; passed = l.last.passed; none = l.last.none };
       is_first = ap (λ n. nat_eq n 0) (sym l.place);
     })
 
@@ -119,11 +131,14 @@ before_at c es slice i j e s k g l =
       none = ap (list_any (λ x. nat_eq x.1 c)) (sym split) ∙ l.first.none;
     }
 
-pub before_is : (c : ℕ) (es all slice : List (Key × ℕ)) (i : ℕ) (e : Key × ℕ) → slice ≡ all → all ≡ es → (i ≡ 0 → ⊥) → e ≡ get_or all (i - 1) e → IsFirstAt (λ x. nat_eq x.1 c) slice i → IsBefore c es e.1
-before_is c es all slice zero e s a k g l = absurd (k refl)
-before_is c es all slice (suc j) e s a k g l =
+pub before_is : (c b : ℕ) (es all : List (Key × ℕ)) (i : ℕ) → all ≡ es → (i ≡ 0 → ⊥) → ((d : Key × ℕ) → (get_or all (i - 1) d).1 ≡ b) → IsFirstAt (λ x. nat_eq x.1 c) all i → IsBefore c es b
+before_is c b es all zero a k h l = absurd (k refl)
+before_is c b es all (suc j) a k h l =
     let m : suc j - 1 ≡ j = omega arith in
-    before_at c es slice (suc j) j e (s ∙ a) refl (g ∙ (ap (λ n. get_or all n e) m ∙ ap (λ ys. get_or ys j e) a)) l
+    let e : Key × ℕ = get_or all j l.x in
+    let within : suc j < length all = first_in (λ x. nat_eq x.1 c) all (suc j) l in
+    let same : e.1 ≡ b = ap (λ (n : ℕ). (get_or all n l.x).1) (sym m) ∙ h l.x in
+    subst (λ (n : ℕ). IsBefore c es n) same (before_at c es all (suc j) j e a refl (get_or_default all j l.x e (omega (arith, within)) ∙ ap (λ ys. get_or ys j e) a) l)
 
 -- none stands before the first
 head_or : Key × ℕ → List (Key × ℕ) → Key × ℕ

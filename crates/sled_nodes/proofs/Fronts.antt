@@ -119,7 +119,7 @@ padded_less (suc k) (suc x ∷ a) [] e =
     cc
 padded_less (suc k) (x ∷ a) (y ∷ b) e = less_on (nat_cmp x y) (bytes_cmp (padded k a) (padded k b)) (bytes_cmp a b) (padded_less k a b) e
 
-length-padded : (k : ℕ) (a : Key) → length (padded k a) ≡ k
+pub length-padded : (k : ℕ) (a : Key) → length (padded k a) ≡ k
 unfolding padded
 length-padded zero a = refl
 length-padded (suc k) [] = ap suc (length-padded k [])
@@ -289,6 +289,16 @@ last_eight a b rest other w same long short =
     let end : drop k a ≡ drop k w.before ++ rest = ap (drop k) w.is ∙ drop-append-le k w.before rest fits in
     let other_end : drop (length b - 8) b ≡ drop k w.before ++ other = ap (λ n. drop (n - 8) b) (sym same) ∙ (ap (drop k) w.other_is ∙ drop-append-le k w.before other fits) in
     ap (λ (z : Key). bytes_cmp z (drop (length b - 8) b)) end ∙ (ap (bytes_cmp (drop k w.before ++ rest)) other_end ∙ (cmp_behind (drop k w.before) rest other ∙ behind_cmp a b rest other w))
+
+-- of two of one length whose fronts are the same, and which have eight bytes more at most
+pub last_of_two : (a b : Key) → ((i : ℕ) → get_or a i 0 < 256) → ((i : ℕ) → get_or b i 0 < 256) → front a ≡ front b → length a ≡ length b → 8 ≤ length a → length a ≤ 16 → bytes_cmp (drop (length a - 8) a) (drop (length b - 8) b) ≡ bytes_cmp a b
+unfolding front
+last_of_two a b low-a low-b e same long short =
+    let long-b : 8 ≤ length b = omega arith in
+    let start : AreBehind a b a b = record { before = []; is = refl; other_is = refl } in
+    let w = behind_eight a b a b (front a) (front b) start long long-b low-a low-b (ap (from_be_bytes w64) (padded-long 8 a long)) (ap (from_be_bytes w64) (padded-long 8 b long-b)) e in
+    let few : length (behind a) ≤ 8 = omega (arith, length-take (length a - 8) (drop 8 a), length-drop 8 a) in
+    last_eight a b (behind a) (behind b) w same long few
 
 -- the last eight bytes
 module _ (a : Key) (h : 8 ≤ length a) where

@@ -5,3 +5,9 @@ pub mod Rising
 pub mod Fronts
 pub mod All
 pub mod Within
+pub mod Prefixes
+pub mod Behind
+pub mod Changed
+pub mod Inside
+pub mod Strings
+pub mod Shifted

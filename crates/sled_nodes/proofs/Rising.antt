@@ -1,11 +1,11 @@
 -- Lists whose keys rise, and what a search by halves finds in them.
-use Rattle.std.proofs.Common.{◌≡◌, ℕ, zero, suc, ◌+◌, ◌<◌, ◌≤◌, Bool, true, false, not, T, List, [], ◌∷◌, length, get_or, take, Some, None, Result, Ok, Err, refl, sym, ap, subst, ◌∙◌, arith, Ordering, Less, Equal, Greater, is_lt, is_eq, is_gt, IfOk, IfErr, OnOk, OnErr, cond, ◌-◌, ◌==◌, nat_lt, eqb→eq, remove}
+use Rattle.std.proofs.Common.{◌≡◌, ℕ, zero, suc, ◌+◌, ◌<◌, ◌≤◌, Bool, true, false, not, T, List, [], ◌∷◌, length, filter, get_or, take, Some, None, Result, Ok, Err, refl, sym, ap, subst, ◌∙◌, arith, Ordering, Less, Equal, Greater, is_lt, is_eq, is_gt, IfOk, IfErr, OnOk, OnErr, cond, ◌-◌, ◌==◌, nat_lt, eqb→eq, remove}
 use Rattle.std.proofs.lemmas.Bool.Decides.{nat_tests}
 use Rattle.std.specs.Ordering.{ordering_index, ordering_reverse, eq_by_cmp}
 use Rattle.std.specs.Cmp.{IsTotalOrder}
 use Rattle.std.specs.List.{AllWithin, list_any}
 use Rattle.std.specs.List.Sorted.{IsBinarySearchResult, IsSearchInRange, IsNonDecreasingBy, IsPartitionedBy, IsPartitionPoint}
-use Rattle.std.specs.FinMap.Entries.{put, find, is_sorted, below_all, where_key, is_sorted-put, is_sorted-where_key}
+use Rattle.std.specs.FinMap.Entries.{put, find, is_sorted, below_all, is_sorted-put}
 use Rattle.std.specs.Cmp.Lexicographic.{slice_cmp, nat_list_cmp_total}
 use Rattle.std.specs.Ordering.{nat_cmp}
 use Rattle.std.specs.declared.ops.Bound.{Bound}
@@ -15,7 +15,7 @@ use Rattle.sled_nodes.specs.Order.{Key, key_cmp}
 use Rattle.sled_nodes.specs.Among.{is_up_to, is_from}
 use Rattle.sled_nodes.specs.theory.Pairs.{Stands, Goes}
 use Rattle.sled_nodes.specs.theory.Places.{IsFirstAt, IsLastAt}
-use Rattle.sled_nodes.specs.theory.Rising.{IsHit, IsGap}
+use Rattle.sled_nodes.specs.theory.Rising.{IsHit, IsGap, IsOut}
 use Rattle.sled_nodes.proofs.Found.{none_more, none_all, first_found, last_here, last_stays, last_all}
 use Rattle.sled_nodes.proofs.Put.{IsPast, stands_at, past_more, goes_before, goes_last}
 
@@ -62,6 +62,23 @@ module _ {X : Type 0} (p : X → Bool) where
       failed : (b : Bool) → not b ≡ true → b ≡ false
       failed true e = cc
       failed false e = refl
+
+-- what passes not goes
+module _ {X : Type 0} (keeps : X → Bool) where
+  kept_all : (xs : List X) → AllWithin (λ x. keeps x ≡ true) xs 0 (length xs) → filter keeps xs ≡ xs
+  kept_all [] a = refl
+  kept_all (x ∷ xs) a =
+      ap (λ b. cond b (x ∷ filter keeps xs) (filter keeps xs)) (a 0 x (omega arith) (omega arith))
+      ∙ ap (λ l. x ∷ l) (kept_all xs (λ j d l m. a (suc j) d (omega (arith, l)) (omega (arith, m))))
+
+  one_goes : (xs : List X) (i : ℕ) → i < length xs → AllWithin (λ x. keeps x ≡ true) xs 0 i → ((d : X) → keeps (get_or xs i d) ≡ false) → AllWithin (λ x. keeps x ≡ true) xs (i + 1) (length xs) → filter keeps xs ≡ remove xs i
+  one_goes [] i h a e b = absurd (omega (arith, h))
+  one_goes (x ∷ xs) zero h a e b =
+      ap (λ t. cond t (x ∷ filter keeps xs) (filter keeps xs)) (e x)
+      ∙ kept_all xs (λ j d l m. b (suc j) d (omega (arith, l)) (omega (arith, m)))
+  one_goes (x ∷ xs) (suc i) h a e b =
+      ap (λ t. cond t (x ∷ filter keeps xs) (filter keeps xs)) (a 0 x (omega arith) (omega arith))
+      ∙ ap (λ l. x ∷ l) (one_goes xs i (omega (arith, h)) (λ j d l m. a (suc j) d (omega arith) (omega (arith, m))) e (λ j d l m. b (suc j) d (omega (arith, l)) (omega (arith, m))))
 
 module _ {K : Type 0} (R : K → K → Ordering) (k : K) where
   unequal : (r : Ordering) → (x : K) → R k x ≡ r → is_eq r ≡ false → eq_by_cmp R k x ≡ false
@@ -133,9 +150,6 @@ module _ {K X : Type 0} (R : K → K → Ordering) where
 
   pub rises_less : (es : List (K × X)) (i : ℕ) → is_sorted R es ≡ true → is_sorted R (remove es i) ≡ true
   rises_less es i s = true_of (is_sorted R (remove es i)) (sorted_less es i (of_true (is_sorted R es) s))
-
-  pub rises_where : (p : K → Bool) (es : List (K × X)) → is_sorted R es ≡ true → is_sorted R (where_key R p es) ≡ true
-  rises_where p es s = true_of (is_sorted R (where_key R p es)) (is_sorted-where_key R p es (of_true (is_sorted R es) s))
 
   -- the keys so far ascend
   abbrev pub RisesTo : List (K × X) → ℕ → Type 0
@@ -321,6 +335,12 @@ module _ {K X : Type 0} (R : K → K → Ordering) where
 
     pub gap_found : (es : List (K × X)) (i : ℕ) → IsGap R k es i → find R k es ≡ None
     gap_found es i g = none_at es (gap_apart es i g)
+
+    pub hit_out : (es : List (K × X)) (i : ℕ) → IsHit R k es i → IsOut (λ e. not (eq_by_cmp R k e.0)) es (Some i)
+    hit_out es i h = (h.in_range, one_goes (λ e. not (eq_by_cmp R k e.0)) es i h.in_range (λ j d l m. ap not (unequal R k Greater (get_or es j d).0 (h.before j d l m) refl)) (λ d. ap (λ o. not (is_eq o)) (h.here d)) (λ j d l m. ap not (unequal R k Less (get_or es j d).0 (h.after j d l m) refl)))
+
+    pub gap_out : (es : List (K × X)) (i : ℕ) → IsGap R k es i → IsOut (λ e. not (eq_by_cmp R k e.0)) es None
+    gap_out es i g = kept_all (λ e. not (eq_by_cmp R k e.0)) es (λ j d l m. ap not (gap_apart es i g j d l m))
 
 -- within a bound
 up_to_lower : (b : Bound Key) (x y : Key) → slice_cmp nat_cmp x y ≡ Less → is_up_to b y ≡ true → is_up_to b x ≡ true

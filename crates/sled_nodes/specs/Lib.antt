@@ -1,6 +1,7 @@
 pub mod Order
 pub mod Bytes
 pub mod Node
+pub mod Prefix
 pub mod Halves
 pub mod Posting
 pub mod Among

@@ -9,10 +9,11 @@ ghost use Rattle.sled_nodes.specs.Among.{bound_of, is_up_to as within_upper, is_
 ghost use Rattle.sled_nodes.specs.Ranges.{pairs_in};
 ghost use Rattle.sled_nodes.specs.theory.Places.{IsFirstAt, IsLastAt, IsPlaceOf};
 ghost use Rattle.sled_nodes.specs.theory.Rising.{IsHit, IsGap};
+ghost use Rattle.sled_nodes.specs.theory.Fronts.{front as front_is, IsFrontOf};
 
 use crate::IVec;
 use crate::among::{is_from, is_up_to};
-use crate::order::{compare, compare_to, front_of};
+use crate::order::{compare, compare_to, front_of_bound};
 use std::cmp::Ordering;
 use std::ops::Bound;
 
@@ -31,14 +32,14 @@ pub fn ascends<V>(pairs: &[(IVec, V)]) -> bool
 // No place in a list.
 pub const NOWHERE: usize = usize::MAX;
 
-/// Where a key stands, or would go.
+/// Where a key, whose front this is, stands or would go.
 #[inline(always)]
-pub fn search<V>(pairs: &[(IVec, V)], key: &[u8]) -> std::result::Result<usize, usize>
-    requires { is_sorted (slice_cmp nat_cmp) pairs.now ≡ true }
+pub fn search<V>(pairs: &[(IVec, V)], key: &[u8], front: u64) -> std::result::Result<usize, usize>
+    requires sorted { is_sorted (slice_cmp nat_cmp) pairs.now ≡ true }
+    requires front { front ≡ front_is key.now }
     ensures ok { IfOk result (IsHit (slice_cmp nat_cmp) key.now pairs.now) }
     ensures err { IfErr result (IsGap (slice_cmp nat_cmp) key.now pairs.now) }
 {
-    let front = front_of(key);
     let mut low = 0;
     let mut high = pairs.len();
     'halves: while low < high {
@@ -54,28 +55,35 @@ pub fn search<V>(pairs: &[(IVec, V)], key: &[u8]) -> std::result::Result<usize, 
 
 // The same. The place where the key is likely to stand is looked at first.
 #[inline(always)]
-fn search_near<V>(pairs: &[(IVec, V)], key: &[u8], near: usize) -> std::result::Result<usize, usize>
-    requires { is_sorted (slice_cmp nat_cmp) pairs.now ≡ true }
+fn search_near<V>(
+    pairs: &[(IVec, V)],
+    key: &[u8],
+    front: u64,
+    near: usize,
+) -> std::result::Result<usize, usize>
+    requires sorted { is_sorted (slice_cmp nat_cmp) pairs.now ≡ true }
+    requires front { front ≡ front_is key.now }
     ensures ok { IfOk result (IsHit (slice_cmp nat_cmp) key.now pairs.now) }
     ensures err { IfErr result (IsGap (slice_cmp nat_cmp) key.now pairs.now) }
 {
     if near < pairs.len() {
-        match compare_to(&pairs[near].0, key, front_of(key)) {
+        match compare_to(&pairs[near].0, key, front) {
             Ordering::Equal => return Ok(near),
             _ => {}
         }
     }
-    search(pairs, key)
+    search(pairs, key, front)
 }
 
 // How many keys are below a key.
 #[inline(always)]
-fn count_below<V>(pairs: &[(IVec, V)], key: &[u8], near: usize) -> usize
-    requires { is_sorted (slice_cmp nat_cmp) pairs.now ≡ true }
+fn count_below<V>(pairs: &[(IVec, V)], key: &[u8], front: u64, near: usize) -> usize
+    requires sorted { is_sorted (slice_cmp nat_cmp) pairs.now ≡ true }
+    requires front { front ≡ front_is key.now }
     ensures bound { result ≤ length pairs.now }
     ensures parted { IsPartitionPoint (λ e. is_lt (slice_cmp nat_cmp e.0 key.now) ≡ true) (λ e. is_lt (slice_cmp nat_cmp e.0 key.now) ≡ false) pairs.now result }
 {
-    match search_near(pairs, key, near) {
+    match search_near(pairs, key, front, near) {
         Ok(i) => i,
         Err(i) => i,
     }
@@ -83,12 +91,13 @@ fn count_below<V>(pairs: &[(IVec, V)], key: &[u8], near: usize) -> usize
 
 // How many keys are below a key, or are that key.
 #[inline(always)]
-fn count_to<V>(pairs: &[(IVec, V)], key: &[u8], near: usize) -> usize
-    requires { is_sorted (slice_cmp nat_cmp) pairs.now ≡ true }
+fn count_to<V>(pairs: &[(IVec, V)], key: &[u8], front: u64, near: usize) -> usize
+    requires sorted { is_sorted (slice_cmp nat_cmp) pairs.now ≡ true }
+    requires front { front ≡ front_is key.now }
     ensures bound { result ≤ length pairs.now }
     ensures parted { IsPartitionPoint (λ e. is_gt (slice_cmp nat_cmp e.0 key.now) ≡ false) (λ e. is_gt (slice_cmp nat_cmp e.0 key.now) ≡ true) pairs.now result }
 {
-    match search_near(pairs, key, near) {
+    match search_near(pairs, key, front, near) {
         Ok(i) => i + 1,
         Err(i) => i,
     }
@@ -96,49 +105,63 @@ fn count_to<V>(pairs: &[(IVec, V)], key: &[u8], near: usize) -> usize
 
 // How many keys are within an upper bound. All others come behind them.
 #[inline(always)]
-fn count_up_to<V>(pairs: &[(IVec, V)], bound: Bound<&[u8]>, near: usize) -> usize
-    requires { is_sorted (slice_cmp nat_cmp) pairs.now ≡ true }
+fn count_up_to<V>(pairs: &[(IVec, V)], bound: Bound<&[u8]>, front: u64, near: usize) -> usize
+    requires sorted { is_sorted (slice_cmp nat_cmp) pairs.now ≡ true }
+    requires front { IsFrontOf front (bound_of bound) }
     ensures bound { result ≤ length pairs.now }
     ensures parted { IsPartitionPoint (λ e. within_upper (bound_of bound.entry) e.0 ≡ true) (λ e. within_upper (bound_of bound.entry) e.0 ≡ false) pairs.now result }
 {
     match bound {
-        Bound::Included(end) => count_to(pairs, end, near),
-        Bound::Excluded(end) => count_below(pairs, end, near),
+        Bound::Included(end) => count_to(pairs, end, front, near),
+        Bound::Excluded(end) => count_below(pairs, end, front, near),
         Bound::Unbounded => pairs.len(),
     }
 }
 
 // How many keys are not within a lower bound. All others come behind them.
 #[inline(always)]
-fn count_before<V>(pairs: &[(IVec, V)], bound: Bound<&[u8]>, near: usize) -> usize
-    requires { is_sorted (slice_cmp nat_cmp) pairs.now ≡ true }
+fn count_before<V>(pairs: &[(IVec, V)], bound: Bound<&[u8]>, front: u64, near: usize) -> usize
+    requires sorted { is_sorted (slice_cmp nat_cmp) pairs.now ≡ true }
+    requires front { IsFrontOf front (bound_of bound) }
     ensures bound { result ≤ length pairs.now }
     ensures parted { IsPartitionPoint (λ e. not (within_lower (bound_of bound.entry) e.0) ≡ true) (λ e. not (within_lower (bound_of bound.entry) e.0) ≡ false) pairs.now result }
 {
     match bound {
-        Bound::Included(start) => count_below(pairs, start, near),
-        Bound::Excluded(start) => count_to(pairs, start, near),
+        Bound::Included(start) => count_below(pairs, start, front, near),
+        Bound::Excluded(start) => count_to(pairs, start, front, near),
         Bound::Unbounded => 0,
     }
 }
 
 /// The place of the last pair whose key is within an upper bound. The bound's key is looked for at the place `near` first.
 #[inline(always)]
-pub fn last_place<V>(pairs: &[(IVec, V)], bound: Bound<&[u8]>, near: usize) -> Option<usize>
-    requires { is_sorted (slice_cmp nat_cmp) pairs.now ≡ true }
+pub fn last_place<V>(
+    pairs: &[(IVec, V)],
+    bound: Bound<&[u8]>,
+    front: u64,
+    near: usize,
+) -> Option<usize>
+    requires sorted { is_sorted (slice_cmp nat_cmp) pairs.now ≡ true }
+    requires front { IsFrontOf front (bound_of bound) }
     ensures { MatchOption result (list_any (λ e. within_upper (bound_of bound.entry) e.0) pairs.now ≡ false) (IsLastAt (λ e. within_upper (bound_of bound.entry) e.0) pairs.now) }
 {
-    let count = count_up_to(pairs, bound, near);
+    let count = count_up_to(pairs, bound, front, near);
     if count > 0 { Some(count - 1) } else { None }
 }
 
 /// The place of the first pair whose key is within a lower bound. The bound's key is looked for at the place `near` first.
 #[inline(always)]
-pub fn first_place<V>(pairs: &[(IVec, V)], bound: Bound<&[u8]>, near: usize) -> Option<usize>
-    requires { is_sorted (slice_cmp nat_cmp) pairs.now ≡ true }
+pub fn first_place<V>(
+    pairs: &[(IVec, V)],
+    bound: Bound<&[u8]>,
+    front: u64,
+    near: usize,
+) -> Option<usize>
+    requires sorted { is_sorted (slice_cmp nat_cmp) pairs.now ≡ true }
+    requires front { IsFrontOf front (bound_of bound) }
     ensures { MatchOption result (list_any (λ e. within_lower (bound_of bound.entry) e.0) pairs.now ≡ false) (IsFirstAt (λ e. within_lower (bound_of bound.entry) e.0) pairs.now) }
 {
-    let count = count_before(pairs, bound, near);
+    let count = count_before(pairs, bound, front, near);
     if count < pairs.len() {
         Some(count)
     } else {
@@ -156,7 +179,7 @@ fn place_up(
     requires { is_sorted (slice_cmp nat_cmp) pairs.now ≡ true }
     ensures { IsPlaceOf (slice_get (pairs_in (record { lo = bound_of lo.entry; hi = bound_of hi.entry; back = false }) pairs.now) place) pairs.now result }
 {
-    let start = count_before(pairs, lo, NOWHERE);
+    let start = count_before(pairs, lo, front_of_bound(lo), NOWHERE);
     if place < pairs.len() - start && is_up_to(pairs[start + place].0.as_ref(), hi) {
         Some(start + place)
     } else {
@@ -174,7 +197,7 @@ fn place_down(
     requires { is_sorted (slice_cmp nat_cmp) pairs.now ≡ true }
     ensures { IsPlaceOf (slice_get (pairs_in (record { lo = bound_of lo.entry; hi = bound_of hi.entry; back = true }) pairs.now) place) pairs.now result }
 {
-    let end = count_up_to(pairs, hi, NOWHERE);
+    let end = count_up_to(pairs, hi, front_of_bound(hi), NOWHERE);
     if place < end && is_from(pairs[end - 1 - place].0.as_ref(), lo) {
         Some(end - 1 - place)
     } else {

@@ -1,5 +1,5 @@
 //! The entries of a node. Those of a foreign node may be out of order; all others are searched by halves.
-ghost use Rattle.std.specs.Prelude.{◌≡◌, ◌<◌, true, false, not, length, IfOk, IfErr, OnOk, OnErr, IfSome, MatchOption};
+ghost use Rattle.std.specs.Prelude.{◌≡◌, ◌<◌, [], true, false, not, length, IfOk, IfErr, OnOk, OnErr, IfSome, MatchOption, MatchBool};
 ghost use Rattle.sled_nodes.specs.declared.error.Error.TheVariants.{NoMemory};
 ghost use Rattle.std.specs.FinMap.Entries.{put, find, where_key};
 ghost use Rattle.std.specs.Option.{option_copied};
@@ -7,12 +7,15 @@ ghost use Rattle.std.specs.List.{list_any, remove, slice_get};
 ghost use Rattle.std.specs.Cmp.Lexicographic.{slice_cmp};
 ghost use Rattle.std.specs.Ordering.{nat_cmp, eq_by_cmp};
 ghost use Rattle.sled_nodes.specs.Among.{bound_of, is_up_to as within_upper, is_from as within_lower};
-ghost use Rattle.sled_nodes.specs.Node.{unpointed};
 ghost use Rattle.sled_nodes.specs.Ranges.{pairs_in};
 ghost use Rattle.sled_nodes.specs.theory.Places.{IsFirstAt, IsLastAt, IsPlaceOf};
+ghost use Rattle.sled_nodes.specs.theory.Rising.{IsOut};
+ghost use Rattle.sled_nodes.specs.theory.Fronts.{front as front_is, IsFrontOf};
 
 use crate::error::Result;
-use crate::{IVec, Pid, among, ascending, pairs};
+use crate::order::front_of;
+use crate::{IVec, among, ascending, pairs};
+use std::alloc::Global;
 use std::marker::Model;
 use std::ops::Bound;
 
@@ -71,6 +74,20 @@ impl<V> Entries<V> {
         self.list.as_slice()
     }
 
+    /// The allocator of the list.
+    #[inline(always)]
+    pub fn alloc(&self) -> Global {
+        *self.list.allocator()
+    }
+
+    /// Whether there is none.
+    #[inline(always)]
+    pub fn is_empty(&self) -> bool
+        ensures { MatchBool result (self.now ≡ []) (self.now ≡ [] → ⊥) }
+    {
+        self.list.is_empty()
+    }
+
     /// How many there are.
     pub fn len(&self) -> usize
         ensures { result ≡ length self.now }
@@ -78,33 +95,53 @@ impl<V> Entries<V> {
         self.list.len()
     }
 
-    /// What stands at a key.
+    /// What stands at a key, whose front this is.
     #[inline(always)]
-    pub fn get(&self, key: &[u8]) -> Option<&V>
+    pub fn get(&self, key: &[u8], front: u64) -> Option<&V>
+        requires { front ≡ front_is key.now }
         ensures { option_copied result ≡ find (slice_cmp nat_cmp) key.now self.now }
     {
-        pairs::value_at(self.list.as_slice(), key, self.ascends)
+        if self.ascends {
+            pairs::value_in(self.list.as_slice(), key, front)
+        } else {
+            pairs::value_at(self.list.as_slice(), key, false)
+        }
     }
 
-    /// The place of the last entry whose key is within an upper bound. The bound's key is looked for at the place `near` first.
+    /// The place of a key, `Some(None)` where it has none, and `None` where that takes a look at all entries.
+    pub fn place_alone(&self, key: &[u8]) -> Option<Option<usize>>
+        ensures { IfSome result (IsOut (λ e. not (eq_by_cmp (slice_cmp nat_cmp) key.now e.0)) self.now) }
+    {
+        if !self.ascends {
+            return None;
+        }
+        match ascending::search(self.list.as_slice(), key, front_of(key)) {
+            Ok(i) => Some(Some(i)),
+            Err(_) => Some(None),
+        }
+    }
+
+    /// The place of the last entry whose key is within an upper bound, whose key has this front. The bound's key is looked for at the place `near` first.
     #[inline(always)]
-    pub fn last_place(&self, bound: Bound<&[u8]>, near: usize) -> Option<usize>
+    pub fn last_place(&self, bound: Bound<&[u8]>, front: u64, near: usize) -> Option<usize>
+        requires { IsFrontOf front (bound_of bound) }
         ensures { MatchOption result (list_any (λ e. within_upper (bound_of bound.entry) e.0) self.now ≡ false) (IsLastAt (λ e. within_upper (bound_of bound.entry) e.0) self.now) }
     {
         if self.ascends {
-            ascending::last_place(self.list.as_slice(), bound, near)
+            ascending::last_place(self.list.as_slice(), bound, front, near)
         } else {
             among::last_place(self.list.as_slice(), bound)
         }
     }
 
-    /// The place of the first entry whose key is within a lower bound. The bound's key is looked for at the place `near` first.
+    /// The place of the first entry whose key is within a lower bound, whose key has this front. The bound's key is looked for at the place `near` first.
     #[inline(always)]
-    pub fn first_place(&self, bound: Bound<&[u8]>, near: usize) -> Option<usize>
+    pub fn first_place(&self, bound: Bound<&[u8]>, front: u64, near: usize) -> Option<usize>
+        requires { IsFrontOf front (bound_of bound) }
         ensures { MatchOption result (list_any (λ e. within_lower (bound_of bound.entry) e.0) self.now ≡ false) (IsFirstAt (λ e. within_lower (bound_of bound.entry) e.0) self.now) }
     {
         if self.ascends {
-            ascending::first_place(self.list.as_slice(), bound, near)
+            ascending::first_place(self.list.as_slice(), bound, front, near)
         } else {
             among::first_place(self.list.as_slice(), bound)
         }
@@ -121,11 +158,13 @@ impl<V: Drop> Entries<V> {
         pairs::put_pair(&mut self.list, key, value, self.ascends)
     }
 
-    /// Takes the entries of a key out.
-    pub fn remove_key(&mut self, key: &IVec)
-        ensures { self.new ≡ where_key (slice_cmp nat_cmp) (λ x. not (eq_by_cmp (slice_cmp nat_cmp) key.now x)) self.old }
+    /// Takes the entry at a place out.
+    pub fn remove(&mut self, i: usize)
+        requires { i < length self.old }
+        ensures { self.new ≡ remove self.old i }
     {
-        pairs::remove_key(&mut self.list, key);
+        let entry = self.list.remove(i);
+        drop(entry);
     }
 }
 
@@ -145,15 +184,5 @@ impl Entries<IVec> {
         } else {
             among::place_within(self.list.as_slice(), lo, hi, back, place)
         }
-    }
-}
-
-impl Entries<Pid> {
-    /// Takes the pointers to a page out.
-    pub fn take_pointers(&mut self, to: Pid)
-        ensures { self.new ≡ unpointed to self.old }
-    {
-        pairs::take_pointers(&mut self.list, to);
-        self.ascends = ascending::ascends(self.list.as_slice());
     }
 }

@@ -1,5 +1,5 @@
 //! Byte strings: keys, values and names. Contracts see one as the list of its bytes.
-ghost use Rattle.std.specs.Prelude.{◌≡◌, ◌<◌, ℕ, length, slice_index, refl, Some, IfOk, IfErr};
+ghost use Rattle.std.specs.Prelude.{◌≡◌, ◌+◌, ◌<◌, ◌≤◌, ◌++◌, [], ℕ, length, drop, take, slice_index, refl, Some, true, IfOk, IfErr};
 ghost use Rattle.std.specs.Cmp.Lexicographic.{slice_cmp, nat_list_cmp_total, nat_list_eq_equiv, texts_ties, texts_po};
 ghost use Rattle.std.specs.Cmp;
 ghost use Rattle.std.specs.Ordering.{nat_cmp};
@@ -8,6 +8,7 @@ ghost use Rattle.std.specs.Cmp.Rules.{hashing};
 ghost use Rattle.std.specs.Str.{bytes_eq};
 ghost use Rattle.std.proofs.Common.{rules};
 ghost use Rattle.sled_nodes.specs.theory.Fronts.{front};
+ghost use Rattle.sled_nodes.specs.Bytes.{padded};
 ghost use Rattle.sled_nodes.specs.declared.error.Error.TheVariants.{NoMemory};
 
 use crate::error::Result;
@@ -86,6 +87,93 @@ impl IVec {
         Ok(IVec {
             bytes: Bytes::Long(Arc::new(alloc, Vec::from_slice(alloc, bytes)?)?),
         })
+    }
+
+    // The empty byte string. It takes no memory.
+    pub(crate) fn empty() -> IVec
+        ensures { result ≡ [] }
+    {
+        IVec {
+            bytes: Bytes::Short(0, [0; 22]),
+        }
+    }
+
+    // Whether it is the empty byte string, as a look at its head alone tells.
+    #[inline(always)]
+    pub(crate) fn is_nothing(&self) -> bool
+        ensures { result ≡ true → self.now ≡ [] }
+    {
+        match &self.bytes {
+            Bytes::Short(0, _) => true,
+            _ => false,
+        }
+    }
+
+    // A short byte string with more bytes behind it, for which there is room.
+    #[inline(always)]
+    fn extended(count: usize, bytes: &[u8; 22], more: &[u8]) -> IVec
+        requires room { count + length more.now ≤ 22 }
+        requires zeros { padded 22 (take count bytes.now) ≡ bytes.now }
+        ensures { result ≡ take count bytes.now ++ more.now }
+    {
+        let mut short = *bytes;
+        short[count..count + more.len()].copy_from_slice(more);
+        IVec {
+            bytes: Bytes::Short((count + more.len()) as u8, short),
+        }
+    }
+
+    // Two byte strings, one after the other. Refused with `NoMemory` alone.
+    #[inline(always)]
+    pub(crate) fn concat(alloc: Global, front: &IVec, back: &IVec) -> Result<IVec>
+        ensures ok { IfOk result (λ made. made ≡ front.now ++ back.now) }
+        ensures err { IfErr result (λ e. e ≡ NoMemory) }
+    {
+        let rest = back.as_ref();
+        if let Bytes::Short(count, bytes) = &front.bytes {
+            let count = *count as usize;
+            if rest.len() <= SHORT - count {
+                return Ok(IVec::extended(count, bytes, rest));
+            }
+        }
+        IVec::joined(alloc, front.as_ref(), rest)
+    }
+
+    // The same, called where they are not short.
+    #[inline(never)]
+    pub(crate) fn joined(alloc: Global, front: &[u8], back: &[u8]) -> Result<IVec>
+        ensures ok { IfOk result (λ made. made ≡ front.now ++ back.now) }
+        ensures err { IfErr result (λ e. e ≡ NoMemory) }
+    {
+        let len = front.len() + back.len();
+        if len <= MIDDLE {
+            let mut room = [0; 56];
+            room[..front.len()].copy_from_slice(front);
+            room[front.len()..len].copy_from_slice(back);
+            return IVec::from_slice(alloc, &room[..len]);
+        }
+        let mut bytes = Vec::with_capacity(alloc, len)?;
+        bytes.extend_from_slice(front)?;
+        bytes.extend_from_slice(back)?;
+        Ok(IVec {
+            bytes: Bytes::Long(Arc::new(alloc, bytes)?),
+        })
+    }
+
+    // The bytes behind the first few. Refused with `NoMemory` alone.
+    pub(crate) fn behind(&self, alloc: Global, count: usize) -> Result<IVec>
+        ensures ok { IfOk result (λ rest. rest ≡ drop count self.now) }
+        ensures err { IfErr result (λ e. e ≡ NoMemory) }
+    {
+        if count == 0 {
+            return self.clone();
+        }
+        let bytes = self.as_ref();
+        if count < bytes.len() {
+            IVec::from_slice(alloc, &bytes[count..])
+        } else {
+            Ok(IVec::empty())
+        }
     }
 
     /// The bytes.

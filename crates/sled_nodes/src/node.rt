@@ -13,14 +13,12 @@ ghost use Rattle.sled_nodes.specs.Image.{all_of, all_named};
 ghost use Rattle.sled_nodes.specs.declared.link.Link.TheVariants.{Set, Del, ParentMergeConfirm};
 ghost use Rattle.sled_nodes.specs.Posting.{IsOpen, IsIndex, Posts};
 
-use crate::among::place_of;
 use crate::ascending::NOWHERE;
-use crate::entries::Entries;
 use crate::error::Result;
 use crate::pairs::{clone_pair, growth};
-use crate::{IVec, Link, Pid, Shared};
+use crate::stripped::Stripped;
+use crate::{IVec, Link, Pid};
 use std::alloc::Global;
-use std::marker::Model;
 use std::ops::Bound;
 
 // A node of more entries is split, and one of as few or fewer is merged.
@@ -29,46 +27,10 @@ const MOST: usize = 16;
 const FEW: usize = 3;
 
 /// A leaf's pairs of a key and a value. Contracts see it as the list of them.
-pub struct Leaf {
-    pairs: Entries<IVec>,
-}
-
-// By hand, so that whoever lets go of a leaf cites this, and need not prove again how each of its parts goes.
-impl Drop for Leaf {
-    fn drop(self) {
-        let Leaf { pairs } = self;
-        drop(pairs);
-    }
-}
-
-impl Model for Leaf {
-    ghost use Rattle.std.specs.Prelude.{List, ℕ};
-
-    ghost Value = { List (List ℕ × List ℕ) };
-
-    ghost view = { λ a. a.pairs };
-}
+pub type Leaf = Stripped<IVec>;
 
 /// An index's pairs of a key and a page number. Contracts see it as the list of them.
-pub struct Index {
-    pointers: Entries<Pid>,
-}
-
-// By hand, as that of a leaf.
-impl Drop for Index {
-    fn drop(self) {
-        let Index { pointers } = self;
-        drop(pointers);
-    }
-}
-
-impl Model for Index {
-    ghost use Rattle.std.specs.Prelude.{List, ℕ};
-
-    ghost Value = { List (List ℕ × ℕ) };
-
-    ghost view = { λ a. a.pointers };
-}
+pub type Index = Stripped<Pid>;
 
 /// What a node holds.
 #[derive(Drop)]
@@ -96,44 +58,6 @@ pub struct Node {
     pub content: Data,
 }
 
-// The same pairs, with room for so many more.
-fn copy_with_room(alloc: Global, pairs: &[(IVec, IVec)], more: usize) -> Result<Vec<(IVec, IVec)>>
-    ensures ok { IfOk result (λ copy. copy.items ≡ pairs.now) }
-    ensures err { IfErr result (λ e. e ≡ NoMemory) }
-{
-    let mut copy = Vec::with_capacity(alloc, pairs.len().saturating_add(more))?;
-    add_pairs(&mut copy, pairs)?;
-    Ok(copy)
-}
-
-fn copy_pairs(alloc: Global, pairs: &[(IVec, IVec)]) -> Result<Vec<(IVec, IVec)>>
-    ensures ok { IfOk result (λ copy. copy.items ≡ pairs.now) }
-    ensures err { IfErr result (λ e. e ≡ NoMemory) }
-{
-    copy_with_room(alloc, pairs, 0)
-}
-
-fn add_pairs(pairs: &mut Vec<(IVec, IVec)>, more: &[(IVec, IVec)]) -> Result<()>
-    ensures ok { OnOk result (pairs.new.items ≡ pairs.old.items ++ more.now) }
-    ensures err { IfErr result (λ e. e ≡ NoMemory) }
-{
-    for pair in more {
-        pairs.push(clone_pair(&pair.0, &pair.1)?)?;
-    }
-    Ok(())
-}
-
-fn add_pointers(pointers: &mut Vec<(IVec, Pid)>, more: &[(IVec, Pid)]) -> Result<()>
-    ensures ok { OnOk result (pointers.new.items ≡ pointers.old.items ++ more.now) }
-    ensures err { IfErr result (λ e. e ≡ NoMemory) }
-{
-    for pointer in more {
-        let key = pointer.0.clone()?;
-        pointers.push((key, pointer.1))?;
-    }
-    Ok(())
-}
-
 // The greater one of a number and a page number, if there is one.
 fn greater_of(least: u64, pid: Option<Pid>) -> u64
     ensures least { least ≤ result }
@@ -143,371 +67,6 @@ fn greater_of(least: u64, pid: Option<Pid>) -> u64
     match pid {
         Some(pid) => pid.0.max(least),
         None => least,
-    }
-}
-
-fn key_of_first<V>(alloc: Global, pairs: &[(IVec, V)]) -> Result<IVec>
-    ensures ok { IfOk result (λ key. key ≡ first_key pairs.now) }
-    ensures err { IfErr result (λ e. e ≡ NoMemory) }
-{
-    match pairs.first() {
-        Some(pair) => pair.0.clone(),
-        None => IVec::from_slice(alloc, &[]),
-    }
-}
-
-/// A copy of a list of keys, each with a page number. Refused with `NoMemory` alone.
-///
-/// ```
-/// let copy = copy_pointers(alloc, &[(key, pid)])?; // The same keys in the same order, each with its page number.
-/// ```
-pub fn copy_pointers(alloc: Global, pointers: &[(IVec, Pid)]) -> Result<Vec<(IVec, Pid)>>
-    ensures ok { IfOk result (λ copy. copy.items ≡ pointers.now) }
-    ensures err { IfErr result (λ e. e ≡ NoMemory) }
-{
-    let mut copy = Vec::with_capacity(alloc, pointers.len())?;
-    for pointer in pointers {
-        let key = pointer.0.clone()?;
-        copy.push((key, pointer.1))?;
-    }
-    Ok(copy)
-}
-
-impl Leaf {
-    /// A leaf of these pairs, as they are given. Refused with `NoMemory` alone.
-    ///
-    /// ```
-    /// let leaf = Leaf::from_pairs(alloc, &[(key, value)])?; // Pairs that ascend by key.
-    /// ```
-    pub fn from_pairs(alloc: Global, pairs: &[(IVec, IVec)]) -> Result<Leaf>
-        ensures ok { IfOk result (λ leaf. leaf ≡ pairs.now) }
-        ensures err { IfErr result (λ e. e ≡ NoMemory) }
-    {
-        Ok(Leaf {
-            pairs: Entries::new(copy_pairs(alloc, pairs)?),
-        })
-    }
-
-    /// The pairs. Refused with `NoMemory` alone.
-    ///
-    /// ```
-    /// let pairs = leaf.pairs(alloc)?;
-    /// let first = pairs.first(); // The pair with the least key, where the keys ascend.
-    /// ```
-    pub fn pairs(&self, alloc: Global) -> Result<Vec<(IVec, IVec)>>
-        ensures ok { IfOk result (λ list. list.items ≡ self.now) }
-        ensures err { IfErr result (λ e. e ≡ NoMemory) }
-    {
-        copy_pairs(alloc, self.pairs.as_slice())
-    }
-
-    /// How many pairs there are.
-    ///
-    /// ```
-    /// let count = leaf.len();
-    /// ```
-    pub fn len(&self) -> usize
-        ensures { result ≡ length self.now }
-    {
-        self.pairs.len()
-    }
-
-    /// The same value. Refused with `NoMemory` alone.
-    ///
-    /// ```
-    /// let copy = leaf.clone(alloc)?;
-    /// ```
-    pub fn clone(&self, alloc: Global) -> Result<Leaf>
-        ensures ok { IfOk result (λ copy. copy ≡ self.now) }
-        ensures err { IfErr result (λ e. e ≡ NoMemory) }
-    {
-        self.copy_with_room(alloc, 0)
-    }
-
-    // The same value, with room for so many pairs more.
-    fn copy_with_room(&self, alloc: Global, more: usize) -> Result<Leaf>
-        ensures ok { IfOk result (λ copy. copy ≡ self.now) }
-        ensures err { IfErr result (λ e. e ≡ NoMemory) }
-    {
-        let list = copy_with_room(alloc, self.pairs.as_slice(), more)?;
-        Ok(Leaf {
-            pairs: self.pairs.copied(list),
-        })
-    }
-
-    // The two halves, the first of them rounded down.
-    fn halves(&self, alloc: Global) -> Result<(Leaf, Leaf)>
-        ensures ok { IfOk result (λ halves. (halves.0 ≡ first_half self.now) × (halves.1 ≡ second_half self.now)) }
-        ensures err { IfErr result (λ e. e ≡ NoMemory) }
-    {
-        let middle = self.pairs.len() / 2;
-        let left = copy_pairs(alloc, &self.pairs.as_slice()[..middle])?;
-        let right = copy_pairs(alloc, &self.pairs.as_slice()[middle..])?;
-        Ok((
-            Leaf {
-                pairs: Entries::new(left),
-            },
-            Leaf {
-                pairs: Entries::new(right),
-            },
-        ))
-    }
-
-    // These pairs and then those of another leaf.
-    fn followed_by(&self, alloc: Global, other: &Leaf) -> Result<Leaf>
-        ensures ok { IfOk result (λ both. both ≡ self.now ++ other.now) }
-        ensures err { IfErr result (λ e. e ≡ NoMemory) }
-    {
-        let count = self.len().saturating_add(other.len());
-        let mut list = Vec::with_capacity(alloc, count)?;
-        add_pairs(&mut list, self.pairs.as_slice())?;
-        add_pairs(&mut list, other.pairs.as_slice())?;
-        Ok(Leaf {
-            pairs: Entries::new(list),
-        })
-    }
-
-    // The key of the first pair, or the empty one.
-    fn first_key(&self, alloc: Global) -> Result<IVec>
-        ensures ok { IfOk result (λ key. key ≡ first_key self.now) }
-        ensures err { IfErr result (λ e. e ≡ NoMemory) }
-    {
-        key_of_first(alloc, self.pairs.as_slice())
-    }
-
-    // The first pair within a lower bound, and its place. The bound's key is looked for at the place `near` first.
-    #[inline(always)]
-    fn first_from(&self, bound: Bound<&[u8]>, near: &mut usize) -> Result<Option<(IVec, IVec)>>
-        ensures ok { IfOk result (IsSuccessor (bound_of bound.entry) self.now) }
-        ensures place { IfOk result (λ found. IfSome found (λ pair. slice_get self.now near.new ≡ Some pair)) }
-        ensures none { IfOk result (λ found. IfNone found (near.new ≡ near.old)) }
-        ensures kept { OnErr result (near.new ≡ near.old) }
-        ensures err { IfErr result (λ e. e ≡ NoMemory) }
-    {
-        match self.pairs.first_place(bound, *near) {
-            Some(i) => {
-                let pair = &self.pairs.as_slice()[i];
-                let copy = clone_pair(&pair.0, &pair.1)?;
-                *near = i;
-                Ok(Some(copy))
-            },
-            None => Ok(None),
-        }
-    }
-
-    // The last pair within an upper bound, and its place. The bound's key is looked for at the place `near` first.
-    #[inline(always)]
-    fn last_up_to(&self, bound: Bound<&[u8]>, near: &mut usize) -> Result<Option<(IVec, IVec)>>
-        ensures ok { IfOk result (IsPredecessor (bound_of bound.entry) self.now) }
-        ensures place { IfOk result (λ found. IfSome found (λ pair. slice_get self.now near.new ≡ Some pair)) }
-        ensures none { IfOk result (λ found. IfNone found (near.new ≡ near.old)) }
-        ensures kept { OnErr result (near.new ≡ near.old) }
-        ensures err { IfErr result (λ e. e ≡ NoMemory) }
-    {
-        match self.pairs.last_place(bound, *near) {
-            Some(i) => {
-                let pair = &self.pairs.as_slice()[i];
-                let copy = clone_pair(&pair.0, &pair.1)?;
-                *near = i;
-                Ok(Some(copy))
-            },
-            None => Ok(None),
-        }
-    }
-
-    // The pair at a place of those within two bounds, from the least key up or from the greatest down.
-    fn pair_within(
-        &self,
-        lo: Bound<&[u8]>,
-        hi: Bound<&[u8]>,
-        back: bool,
-        place: usize,
-    ) -> Result<Option<(IVec, IVec)>>
-        ensures ok { IfOk result (λ found. found ≡ slice_get (pairs_in (record { lo = bound_of lo.entry; hi = bound_of hi.entry; back = back }) self.now) place) }
-        ensures err { IfErr result (λ e. e ≡ NoMemory) }
-    {
-        match self.pairs.place_within(lo, hi, back, place) {
-            Some(i) => {
-                let pair = &self.pairs.as_slice()[i];
-                Ok(Some(clone_pair(&pair.0, &pair.1)?))
-            },
-            None => Ok(None),
-        }
-    }
-
-    #[inline(always)]
-    #[tactic(auto, unfolding(crate::specs::Order::key_cmp))]
-    fn get(&self, key: &[u8]) -> Option<&IVec>
-        ensures { option_copied result ≡ find key_cmp key.now self.now }
-    {
-        self.pairs.get(key)
-    }
-
-    #[tactic(auto, unfolding(crate::specs::Order::key_cmp))]
-    fn set(&mut self, key: IVec, value: IVec) -> Result<()>
-        ensures ok { OnOk result (self.new ≡ put key_cmp key value self.old) }
-        ensures err { OnErr result (self.new ≡ self.old) }
-        ensures cause { IfErr result (λ e. e ≡ NoMemory) }
-    {
-        self.pairs.put(key, value)
-    }
-
-    #[tactic(auto, unfolding(crate::specs::Order::key_cmp))]
-    fn del(&mut self, key: &IVec)
-        ensures { self.new ≡ without key.now self.old }
-    {
-        self.pairs.remove_key(key);
-    }
-}
-
-impl Index {
-    /// An index of these pointers, as they are given. Refused with `NoMemory` alone.
-    ///
-    /// ```
-    /// let index = Index::from_pairs(alloc, &[(key, pid)])?; // Each page under the least key that it covers.
-    /// ```
-    pub fn from_pairs(alloc: Global, pointers: &[(IVec, Pid)]) -> Result<Index>
-        ensures ok { IfOk result (λ index. index ≡ pointers.now) }
-        ensures err { IfErr result (λ e. e ≡ NoMemory) }
-    {
-        Ok(Index {
-            pointers: Entries::new(copy_pointers(alloc, pointers)?),
-        })
-    }
-
-    /// The pointers. Refused with `NoMemory` alone.
-    ///
-    /// ```
-    /// let pointers = index.pairs(alloc)?;
-    /// let first = pointers.first(); // The leftmost page of the level below, where the keys ascend.
-    /// ```
-    pub fn pairs(&self, alloc: Global) -> Result<Vec<(IVec, Pid)>>
-        ensures ok { IfOk result (λ list. list.items ≡ self.now) }
-        ensures err { IfErr result (λ e. e ≡ NoMemory) }
-    {
-        copy_pointers(alloc, self.pointers.as_slice())
-    }
-
-    /// How many pointers there are.
-    ///
-    /// ```
-    /// let count = index.len();
-    /// ```
-    pub fn len(&self) -> usize
-        ensures { result ≡ length self.now }
-    {
-        self.pointers.len()
-    }
-
-    /// The same value. Refused with `NoMemory` alone.
-    ///
-    /// ```
-    /// let copy = index.clone(alloc)?;
-    /// ```
-    pub fn clone(&self, alloc: Global) -> Result<Index>
-        ensures ok { IfOk result (λ copy. copy ≡ self.now) }
-        ensures err { IfErr result (λ e. e ≡ NoMemory) }
-    {
-        let list = copy_pointers(alloc, self.pointers.as_slice())?;
-        Ok(Index {
-            pointers: self.pointers.copied(list),
-        })
-    }
-
-    // The two halves, the first of them rounded down.
-    fn halves(&self, alloc: Global) -> Result<(Index, Index)>
-        ensures ok { IfOk result (λ halves. (halves.0 ≡ first_half self.now) × (halves.1 ≡ second_half self.now)) }
-        ensures err { IfErr result (λ e. e ≡ NoMemory) }
-    {
-        let middle = self.pointers.len() / 2;
-        let left = copy_pointers(alloc, &self.pointers.as_slice()[..middle])?;
-        let right = copy_pointers(alloc, &self.pointers.as_slice()[middle..])?;
-        Ok((
-            Index {
-                pointers: Entries::new(left),
-            },
-            Index {
-                pointers: Entries::new(right),
-            },
-        ))
-    }
-
-    // These pointers and then those of another index.
-    fn followed_by(&self, alloc: Global, other: &Index) -> Result<Index>
-        ensures ok { IfOk result (λ both. both ≡ self.now ++ other.now) }
-        ensures err { IfErr result (λ e. e ≡ NoMemory) }
-    {
-        let count = self.len().saturating_add(other.len());
-        let mut list = Vec::with_capacity(alloc, count)?;
-        add_pointers(&mut list, self.pointers.as_slice())?;
-        add_pointers(&mut list, other.pointers.as_slice())?;
-        Ok(Index {
-            pointers: Entries::new(list),
-        })
-    }
-
-    // The key of the first pointer, or the empty one.
-    fn first_key(&self, alloc: Global) -> Result<IVec>
-        ensures ok { IfOk result (λ key. key ≡ first_key self.now) }
-        ensures err { IfErr result (λ e. e ≡ NoMemory) }
-    {
-        key_of_first(alloc, self.pointers.as_slice())
-    }
-
-    // Puts a pointer in its place where the key has none.
-    #[tactic(auto, unfolding(crate::specs::Order::key_cmp))]
-    fn post(&mut self, at: IVec, pid: Pid) -> Result<bool>
-        ensures ok { IfOk result (λ posted. posted ≡ is_none (find key_cmp at self.old)) }
-        ensures is { IfOk result (λ posted. self.new ≡ (if posted then put key_cmp at pid self.old else self.old)) }
-        ensures err { OnErr result (self.new ≡ self.old) }
-        ensures cause { IfErr result (λ e. e ≡ NoMemory) }
-    {
-        if self.pointers.get(at.as_ref()).is_some() {
-            return Ok(false);
-        }
-        self.pointers.put(at, pid)?;
-        Ok(true)
-    }
-
-    // The last pointer within an upper bound, and whether it is the first of all.
-    #[inline(always)]
-    fn last_up_to(&self, bound: Bound<&[u8]>) -> Option<(Pid, bool)>
-        ensures { IsPointerFor (bound_of bound.entry) self.now result }
-    {
-        match self.pointers.last_place(bound, NOWHERE) {
-            Some(i) => Some((self.pointers.as_slice()[i].1, i == 0)),
-            None => None,
-        }
-    }
-
-    // The greatest of this number and the page numbers of the pointers.
-    fn greatest(&self, least: u64) -> u64
-        ensures least { least ≤ result }
-        ensures all { list_all (λ e. nat_le e.1 result) self.now ≡ true }
-        ensures least_such { (n : ℕ) → least ≤ n → list_all (λ e. nat_le e.1 n) self.now ≡ true → result ≤ n }
-    {
-        let mut greatest = least;
-        for pointer in self.pointers.as_slice() {
-            greatest = pointer.1.0.max(greatest);
-        }
-        greatest
-    }
-
-    // The pointer before the one to a page.
-    fn before(&self, to: Pid) -> Option<Pid>
-        ensures { IsPointerBefore to self.now result }
-    {
-        match place_of(self.pointers.as_slice(), to) {
-            Some(0) => None,
-            Some(i) => Some(self.pointers.as_slice()[i - 1].1),
-            None => None,
-        }
-    }
-
-    fn del_to(&mut self, to: Pid)
-        ensures { self.new ≡ unpointed to self.old }
-    {
-        self.pointers.take_pointers(to);
     }
 }
 
@@ -656,6 +215,7 @@ impl Node {
     /// }
     /// ```
     #[inline(always)]
+    #[tactic(auto, unfolding(crate::specs::Order::key_cmp))]
     pub fn get(&self, key: &[u8]) -> Result<Option<IVec>>
         ensures ok { IfOk result (λ value. value ≡ value_in self.now.content key.now) }
         ensures err { IfErr result (λ e. e ≡ NoMemory) }
@@ -695,13 +255,12 @@ impl Node {
         match link {
             Link::Set(key, value) => {
                 if let Data::Leaf(leaf) = &mut self.content {
-                    let (key, value) = clone_pair(key, value)?;
-                    leaf.set(key, value)?;
+                    leaf.set(key, value.clone()?)?;
                 }
             }
             Link::Del(key) => {
                 if let Data::Leaf(leaf) = &mut self.content {
-                    leaf.del(key);
+                    leaf.del(key)?;
                 }
             }
             Link::ParentMergeIntention(child) => {
@@ -712,7 +271,7 @@ impl Node {
             Link::ParentMergeConfirm => {
                 if let Some(child) = self.merging_child {
                     if let Data::Index(index) = &mut self.content {
-                        index.del_to(child);
+                        index.take_pointers(child)?;
                         self.merging_child = None;
                     }
                 }
@@ -804,7 +363,11 @@ impl Node {
     {
         match &mut self.content {
             Data::Leaf(_) => Ok(false),
-            Data::Index(index) => index.post(at, pid),
+            Data::Index(index) => {
+                let posted = index.post(&at, pid);
+                drop(at);
+                posted
+            }
         }
     }
 
@@ -871,7 +434,7 @@ impl Node {
     {
         match &self.content {
             Data::Leaf(_) => None,
-            Data::Index(index) => index.last_up_to(bound),
+            Data::Index(index) => index.last_pointer(bound),
         }
     }
 

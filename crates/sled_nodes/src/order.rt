@@ -6,10 +6,12 @@ ghost use Rattle.std.specs.Prelude.{◌≡◌, ◌<◌, ◌≤◌, ◌-◌, ℕ,
 ghost use Rattle.std.specs.Int.{from_be_bytes, w64};
 ghost use Rattle.std.specs.Cmp.Lexicographic.{slice_cmp};
 ghost use Rattle.std.specs.Ordering.{nat_cmp};
-ghost use Rattle.sled_nodes.specs.theory.Fronts.{front as front_is};
+ghost use Rattle.sled_nodes.specs.theory.Fronts.{front as front_is, IsFrontOf};
+ghost use Rattle.sled_nodes.specs.Among.{bound_of};
 
 use crate::IVec;
 use std::cmp::Ordering;
+use std::ops::Bound;
 
 // The first eight of at least so many bytes, as a number, the first the highest.
 #[inline(always)]
@@ -46,6 +48,34 @@ pub fn front_of(bytes: &[u8]) -> u64
         short_front(bytes)
     } else {
         first_eight(bytes)
+    }
+}
+
+/// The front of what a byte string of eight bytes or more has from a place on.
+#[inline(always)]
+pub fn front_from(bytes: &[u8], start: usize) -> u64
+    requires long { 8 ≤ length bytes.now }
+    requires within { start ≤ length bytes.now }
+    ensures { result ≡ front_is (drop start bytes.now) }
+{
+    let left = bytes.len() - start;
+    if left >= 8 {
+        return first_eight(&bytes[start..]);
+    }
+    // The last eight bytes, without those before the place.
+    let last = first_eight(&bytes[bytes.len() - 8..]);
+    last << (8 * (7 - left)) << 8
+}
+
+/// The front of a bound's key.
+#[inline(always)]
+pub fn front_of_bound(bound: Bound<&[u8]>) -> u64
+    ensures { IsFrontOf result (bound_of bound.entry) }
+{
+    match bound {
+        Bound::Included(key) => front_of(key),
+        Bound::Excluded(key) => front_of(key),
+        Bound::Unbounded => 0,
     }
 }
 
@@ -91,8 +121,8 @@ fn compare_bytes(a: &[u8], b: &[u8]) -> Ordering
     rest.cmp(other)
 }
 
-/// How a key compares with another one whose front this is. Two of the same length that have no more bytes than their fronts are the same
-/// where these are.
+/// How a key compares with another one whose front this is. Of two of the same length that have no more bytes than their fronts these tell
+/// all, and of two that have eight more at most the last eight bytes tell the rest.
 #[inline(always)]
 pub fn compare_to(key: &IVec, other: &[u8], front: u64) -> Ordering
     requires { front ≡ front_is other.now }
@@ -105,8 +135,13 @@ pub fn compare_to(key: &IVec, other: &[u8], front: u64) -> Ordering
     if front < own {
         return Ordering::Greater;
     }
-    if other.len() <= 8 && key.len() == other.len() {
-        return Ordering::Equal;
+    if key.len() == other.len() {
+        if other.len() <= 8 {
+            return Ordering::Equal;
+        }
+        if other.len() <= 16 {
+            return compare_last(key.as_ref(), other);
+        }
     }
     compare_bytes(key.as_ref(), other)
 }

@@ -5,6 +5,7 @@ ghost use Rattle.sled_nodes.specs.declared.error.Error.TheVariants.{NoMemory};
 ghost use Rattle.std.specs.FinMap.Entries.{put, find};
 ghost use Rattle.std.specs.Option.{option_copied};
 ghost use Rattle.sled_nodes.specs.theory.Pairs.{Stands, Goes};
+ghost use Rattle.sled_nodes.specs.theory.Fronts.{front as front_is};
 ghost use Rattle.sled_nodes.specs.Node.{unpointed};
 ghost use Rattle.std.specs.FinMap.{is_sorted};
 ghost use Rattle.std.specs.List.{insert as insert_at};
@@ -15,6 +16,7 @@ ghost use Rattle.std.specs.Ordering.{nat_cmp, eq_by_cmp};
 
 use crate::ascending::search;
 use crate::error::Result;
+use crate::order::front_of;
 use crate::{IVec, Pid};
 use std::cmp::Ordering;
 
@@ -28,7 +30,7 @@ fn place<V>(pairs: &[(IVec, V)], key: &IVec, ascends: bool) -> std::result::Resu
     ensures goes { IfErr result (λ i. Goes (slice_cmp nat_cmp) key.now pairs.now i) }
 {
     if ascends {
-        return search(pairs, key.as_ref());
+        return search(pairs, key.as_ref(), key.front());
     }
     for i in 0..pairs.len() {
         match key.cmp(&pairs[i].0) {
@@ -121,6 +123,19 @@ pub fn remove_key<V: Drop>(pairs: &mut Vec<(IVec, V)>, key: &IVec)
     pairs.retain(|pair| !key.cmp(&pair.0).is_eq());
 }
 
+/// The value of a key, whose front this is, in a list that ascends by key.
+#[inline(always)]
+pub fn value_in<'a, V>(pairs: &'a [(IVec, V)], key: &[u8], front: u64) -> Option<&'a V>
+    requires sorted { is_sorted (slice_cmp nat_cmp) pairs.now ≡ true }
+    requires front { front ≡ front_is key.now }
+    ensures { option_copied result ≡ find (slice_cmp nat_cmp) key.now pairs.now }
+{
+    match search(pairs, key, front) {
+        Ok(i) => Some(&pairs[i].1),
+        Err(_) => None,
+    }
+}
+
 /// The value of a key. A list that ascends by key, as `ascends` says, is searched by halves.
 ///
 /// ```
@@ -133,10 +148,7 @@ pub fn value_at<'a, V>(pairs: &'a [(IVec, V)], key: &[u8], ascends: bool) -> Opt
     ensures { option_copied result ≡ find (slice_cmp nat_cmp) key.now pairs.now }
 {
     if ascends {
-        return match search(pairs, key) {
-            Ok(i) => Some(&pairs[i].1),
-            Err(_) => None,
-        };
+        return value_in(pairs, key, front_of(key));
     }
     for pair in pairs {
         if key.cmp(pair.0.as_ref()).is_eq() {

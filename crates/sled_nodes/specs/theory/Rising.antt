@@ -1,6 +1,6 @@
 -- What a search finds where the keys rise.
-use Rattle.std.specs.Prelude.{◌≡◌, ℕ, ◌+◌, ◌<◌, ◌≤◌, List, length, slice_index_or}
-use Rattle.std.specs.List.{AllWithin}
+use Rattle.std.specs.Prelude.{◌≡◌, ℕ, ◌+◌, ◌<◌, ◌≤◌, Bool, List, length, filter, slice_index_or, Option, Some, None}
+use Rattle.std.specs.List.{AllWithin, remove}
 use Rattle.std.specs.declared.cmp.Ordering.{Ordering}
 use Rattle.std.specs.declared.cmp.Ordering.TheVariants.{Less, Equal, Greater}
 
@@ -16,3 +16,8 @@ pub record IsGap {K X : Type 0} (R : K → K → Ordering) (k : K) (es : List (K
   pub in_range : i ≤ length es
   pub before : AllWithin (λ e. R k e.0 ≡ Greater) es 0 i
   pub after : AllWithin (λ e. R k e.0 ≡ Less) es i (length es)
+
+-- what passes not is nowhere, or at this place alone
+abbrev pub IsOut : {X : Type 0} → (X → Bool) → List X → Option ℕ → Type 0
+IsOut keeps xs None = filter keeps xs ≡ xs
+IsOut keeps xs (Some i) = (i < length xs) × (filter keeps xs ≡ remove xs i)

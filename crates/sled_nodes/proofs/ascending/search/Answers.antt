@@ -13,7 +13,7 @@ halves-preserved-in-Less g c =
     record {
       order = omega arith;
       bound = omega arith;
-      before = lower_to (slice_cmp nat_cmp) nat_list_cmp_total c.args.key.now c.args.pairs.now middle c.requires h (λ d.
+      before = lower_to (slice_cmp nat_cmp) nat_list_cmp_total c.args.key.now c.args.pairs.now middle c.requires.sorted h (λ d.
           ap (λ e. slice_cmp nat_cmp e.0 c.args.key.now) (get_or_default c.args.pairs.now middle d c.index-pairs-middle.result h) ∙ (sym c.compare_to.ensures ∙ c.in-Less.is));
       after = c.halves.invariant.after;
     }
@@ -26,7 +26,7 @@ halves-preserved g c =
       order = omega arith;
       bound = omega arith;
       before = c.halves.invariant.before;
-      after = higher_from (slice_cmp nat_cmp) nat_list_cmp_total c.args.key.now c.args.pairs.now middle c.requires h (λ d.
+      after = higher_from (slice_cmp nat_cmp) nat_list_cmp_total c.args.key.now c.args.pairs.now middle c.requires.sorted h (λ d.
           ap (λ e. slice_cmp nat_cmp e.0 c.args.key.now) (get_or_default c.args.pairs.now middle d c.index-pairs-middle.result h) ∙ (sym c.compare_to.ensures ∙ c.in-Greater.is));
     }
 
@@ -34,7 +34,7 @@ pub returns-in-Equal-clause-ok : goal.returns-in-Equal-clause-ok
 returns-in-Equal-clause-ok g c =
     let middle = c.halves.low + (c.halves.high - c.halves.low) / 2 in
     let h : c.halves.low + (c.halves.high - c.halves.low) / 2 < length c.args.pairs.now = omega arith in
-    hit (slice_cmp nat_cmp) nat_list_cmp_total c.args.key.now c.args.pairs.now middle c.requires h (λ d.
+    hit (slice_cmp nat_cmp) nat_list_cmp_total c.args.key.now c.args.pairs.now middle c.requires.sorted h (λ d.
     ap (λ e. slice_cmp nat_cmp e.0 c.args.key.now) (get_or_default c.args.pairs.now middle d c.index-pairs-middle.result h) ∙ (sym c.compare_to.ensures ∙ c.in-Equal.is))
 
 pub returns-clause-err : goal.returns-clause-err
