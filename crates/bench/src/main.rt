@@ -7,8 +7,9 @@
 //! calls; `batches`, so many inserts of the keys of `inserts`, a hundred in a batch; `ranges`, so many ranges of a hundred pairs at
 //! most, `scan`, which reads all pairs, and `steps`, which reads them by a scan in a slot; `watches`, which adds so many subscribers,
 //! each to a prefix of 4 to 7 bytes that begins no key of another workload; and `follows`, which adds one subscriber to all keys. A
-//! machine makes the calls, and after the word `direct` the database itself, which has no `slots` and no `steps`. Keys are 8 bytes, and
-//! values SHORTEST to LONGEST bytes. After each FLUSH changes there is a flush, and none where that is 0. Each workload prints its name,
+//! machine makes the calls, and after the word `direct` the database itself, which has no `slots` and no `steps`. Keys are 8 bytes that look
+//! random; where the first word is `ascending` they are the numbers from 0 on, and where it is `rows` they have 30 bytes, as
+//! `tenant/0042/user/00001234/name`. Values have SHORTEST to LONGEST bytes. After each FLUSH changes there is a flush, and none where that is 0. Each workload prints its name,
 //! how many calls it made and a checksum of their answers; and on standard error its name and the processor time that it took, in
 //! microseconds. The status is 1 for other words, and where anything failed.
 #![tactic(auto)]
@@ -18,7 +19,7 @@ mod pairs;
 
 use bench::{Bench, named};
 use line_words::input::Stopped;
-use pairs::Pairs;
+use pairs::{Keys, Pairs};
 use sled::{Db, empty_pages};
 use std::env;
 use std::process::ExitCode;
@@ -58,6 +59,11 @@ fn parts(names: &[String]) -> (&[String], &[String]) {
     (names, &[])
 }
 
+// What the first of the names says of keys, if it does.
+fn keys_of(names: &[String]) -> Option<Keys> {
+    Keys::named(names.first()?.as_str())
+}
+
 fn numbers(words: &[String; 6]) -> Result<[u64; 6], Stopped> {
     let mut numbers = [0; 6];
     for (number, word) in numbers.iter_mut().zip(words) {
@@ -71,7 +77,11 @@ fn run_words(rt: &HostRuntime, words: &[String]) -> Result<(), Stopped> {
         return Err(Stopped);
     };
     let [pairs, calls, seed, shortest, longest, flush] = numbers(first)?;
-    let pairs = Pairs::new(rt.alloc(), seed, pairs, shortest, longest)?;
+    let (keys, names) = match keys_of(names) {
+        Some(keys) => (keys, names.get(1..).unwrap_or(&[])),
+        None => (Keys::Scattered, names),
+    };
+    let pairs = Pairs::new(rt.alloc(), keys, seed, pairs, shortest, longest)?;
     let db = match Db::open(rt.alloc(), empty_pages(rt.alloc()), b"bench") {
         Ok(db) => db,
         Err(refused) => {

@@ -17,9 +17,43 @@ fn scattered(place: u64) -> u64 {
     number ^ (number >> 31)
 }
 
+/// What keys look like.
+#[derive(Clone, Copy)]
+pub enum Keys {
+    /// Eight bytes that look random.
+    Scattered,
+    /// Eight bytes: the numbers from 0 on.
+    Ascending,
+    /// Thirty bytes, as `tenant/0042/user/00001234/name`, whose last eight digits look random.
+    Rows,
+}
+
+impl Keys {
+    /// The keys that a word names.
+    pub fn named(name: &str) -> Option<Keys> {
+        match name {
+            "ascending" => Some(Keys::Ascending),
+            "rows" => Some(Keys::Rows),
+            _ => None,
+        }
+    }
+}
+
+// A key of thirty bytes, by a number.
+fn row(number: u64) -> [u8; 30] {
+    let mut key = *b"tenant/0042/user/00000000/name";
+    let mut left = number;
+    for place in 0..8 {
+        key[24 - place] = b'0' + (left % 10) as u8;
+        left /= 10;
+    }
+    key
+}
+
 #[derive(Drop)]
 pub struct Pairs {
     alloc: Global,
+    keys: Keys,
     seed: u64,
     count: u64,
     shortest: u16,
@@ -31,6 +65,7 @@ impl Pairs {
     /// The values have so many bytes at least and at most.
     pub fn new(
         alloc: Global,
+        keys: Keys,
         seed: u64,
         count: u64,
         shortest: u64,
@@ -45,6 +80,7 @@ impl Pairs {
         }
         Ok(Pairs {
             alloc,
+            keys,
             seed,
             count,
             shortest,
@@ -65,7 +101,11 @@ impl Pairs {
     /// The key at a place.
     pub fn key(&self, place: u64) -> Result<IVec> {
         let number = scattered(self.seed.wrapping_add(place));
-        IVec::from_slice(self.alloc, &number.to_be_bytes())
+        match self.keys {
+            Keys::Scattered => IVec::from_slice(self.alloc, &number.to_be_bytes()),
+            Keys::Ascending => IVec::from_slice(self.alloc, &place.to_be_bytes()),
+            Keys::Rows => IVec::from_slice(self.alloc, &row(number)),
+        }
     }
 
     /// The first bytes of the key at a place, or all of it.
