@@ -66,7 +66,7 @@ digit_then a b r s unit p q =
     ]
 
 -- byte k and the bytes below it
-byte_on : (k n : ℕ) → byte_at k n * 256 ^ k + n % 256 ^ k ≡ n % 256 ^ suc k
+pub byte_on : (k n : ℕ) → byte_at k n * 256 ^ k + n % 256 ^ k ≡ n % 256 ^ suc k
 byte_on zero n = omega arith
 byte_on (suc k) n =
     let unit = 256 ^ suc k in
@@ -125,7 +125,7 @@ length-padded zero a = refl
 length-padded (suc k) [] = ap suc (length-padded k [])
 length-padded (suc k) (x ∷ a) = ap suc (length-padded k a)
 
-padded_low : (k : ℕ) (a : Key) → ((i : ℕ) → get_or a i 0 < 256) → (i : ℕ) → get_or (padded k a) i 0 < 256
+pub padded_low : (k : ℕ) (a : Key) → ((i : ℕ) → get_or a i 0 < 256) → (i : ℕ) → get_or (padded k a) i 0 < 256
 unfolding padded
 padded_low zero a low i = omega arith
 padded_low (suc k) [] low zero = omega arith

@@ -1,5 +1,5 @@
 //! What keys begin with.
-ghost use Rattle.std.specs.Prelude.{◌≡◌, ◌≤◌, ◌++◌, [], length, drop, ℕ, List, MatchOption, MatchBool, true, false, Some, None, IfOk, IfErr, IfSome};
+ghost use Rattle.std.specs.Prelude.{◌≡◌, ◌≤◌, ◌++◌, [], length, take, drop, ℕ, List, MatchOption, MatchBool, true, false, Some, None, IfOk, IfErr, IfSome};
 ghost use Rattle.sled_nodes.specs.declared.error.Error.TheVariants.{NoMemory};
 ghost use Rattle.sled_nodes.specs.Order.{Key};
 ghost use Rattle.sled_nodes.specs.Prefix.{shared, prefix_of, cut};
@@ -11,7 +11,7 @@ ghost use Rattle.sled_nodes.specs.Among.{bound_of, is_up_to as within_upper, is_
 use crate::IVec;
 use crate::error::Result;
 use crate::held::Held;
-use crate::order::{compare, front_from, front_of};
+use crate::order::{compare, first_eight, front_from, front_of};
 use std::alloc::Global;
 use std::ops::Bound;
 
@@ -77,20 +77,34 @@ fn is_same(a: &[u8], b: &[u8]) -> bool
     true
 }
 
+// Whether a byte string of eight bytes or more begins with one of eight bytes at most, by their fronts.
+#[inline(always)]
+fn begins_with(key: &[u8], prefix: &IVec) -> bool
+    requires long { 8 ≤ length key.now }
+    requires some { 1 ≤ length prefix.now }
+    requires short { length prefix.now ≤ 8 }
+    ensures { MatchBool result (take (length prefix.now) key.now ≡ prefix.now) (take (length prefix.now) key.now ≡ prefix.now → ⊥) }
+{
+    // The bits behind the bytes of the shorter one.
+    let behind = 8 * (8 - prefix.len());
+    first_eight(key) >> behind == prefix.front() >> behind
+}
+
 /// The key behind a beginning, if it has it.
 #[inline(always)]
-pub fn rest_of<'a>(prefix: &[u8], key: &'a [u8]) -> Option<&'a [u8]>
+pub fn rest_of<'a>(prefix: &IVec, key: &'a [u8]) -> Option<&'a [u8]>
     ensures { MatchOption result ((rest : Key) → key.now ≡ prefix.now ++ rest → ⊥) (λ rest. key.now ≡ prefix.now ++ rest.now) }
 {
     let count = prefix.len();
     if key.len() < count {
         return None;
     }
-    if is_same(&key[..count], prefix) {
-        Some(&key[count..])
+    let same = if key.len() >= 8 && 1 <= count && count <= 8 {
+        begins_with(key, prefix)
     } else {
-        None
-    }
+        is_same(&key[..count], prefix.as_ref())
+    };
+    if same { Some(&key[count..]) } else { None }
 }
 
 // Where no key behind a beginning is told apart from another by this one: none, or no bound.
@@ -127,18 +141,18 @@ pub fn front_of_rest(bound: Bound<&[u8]>, count: usize) -> u64
 
 /// An upper bound of keys as one of their rests behind a beginning; `None` where no such key is within it.
 #[inline(always)]
-pub fn upper_behind<'a>(prefix: &[u8], bound: Bound<&'a [u8]>) -> Option<Bound<&'a [u8]>>
+pub fn upper_behind<'a>(prefix: &IVec, bound: Bound<&'a [u8]>) -> Option<Bound<&'a [u8]>>
     ensures within { (rest : Key) → within_upper (bound_of bound.entry) (prefix.now ++ rest) ≡ is_up_to_in result rest }
     ensures rest { IfSome result (λ rest. IsRestBound prefix.now (bound_of bound.entry) (bound_of rest)) }
 {
     match bound {
         Bound::Included(end) => match rest_of(prefix, end) {
             Some(rest) => Some(Bound::Included(rest)),
-            None => all_or_none(compare(prefix, end).is_lt()),
+            None => all_or_none(compare(prefix.as_ref(), end).is_lt()),
         },
         Bound::Excluded(end) => match rest_of(prefix, end) {
             Some(rest) => Some(Bound::Excluded(rest)),
-            None => all_or_none(compare(prefix, end).is_lt()),
+            None => all_or_none(compare(prefix.as_ref(), end).is_lt()),
         },
         Bound::Unbounded => Some(Bound::Unbounded),
     }
@@ -146,18 +160,18 @@ pub fn upper_behind<'a>(prefix: &[u8], bound: Bound<&'a [u8]>) -> Option<Bound<&
 
 /// A lower bound of keys as one of their rests behind a beginning; `None` where no such key is within it.
 #[inline(always)]
-pub fn lower_behind<'a>(prefix: &[u8], bound: Bound<&'a [u8]>) -> Option<Bound<&'a [u8]>>
+pub fn lower_behind<'a>(prefix: &IVec, bound: Bound<&'a [u8]>) -> Option<Bound<&'a [u8]>>
     ensures within { (rest : Key) → within_lower (bound_of bound.entry) (prefix.now ++ rest) ≡ is_from_in result rest }
     ensures rest { IfSome result (λ rest. IsRestBound prefix.now (bound_of bound.entry) (bound_of rest)) }
 {
     match bound {
         Bound::Included(start) => match rest_of(prefix, start) {
             Some(rest) => Some(Bound::Included(rest)),
-            None => all_or_none(compare(prefix, start).is_gt()),
+            None => all_or_none(compare(prefix.as_ref(), start).is_gt()),
         },
         Bound::Excluded(start) => match rest_of(prefix, start) {
             Some(rest) => Some(Bound::Excluded(rest)),
-            None => all_or_none(compare(prefix, start).is_gt()),
+            None => all_or_none(compare(prefix.as_ref(), start).is_gt()),
         },
         Bound::Unbounded => Some(Bound::Unbounded),
     }

@@ -108,7 +108,7 @@ impl<V> Stripped<V> {
     fn get_behind(&self, key: &[u8]) -> Option<&V>
         ensures { option_copied result ≡ find (slice_cmp nat_cmp) key.now self.now }
     {
-        match rest_of(self.prefix.as_ref(), key) {
+        match rest_of(&self.prefix, key) {
             Some(rest) => self.rests.get(rest, front_behind(key, self.prefix.len())),
             None => None,
         }
@@ -118,7 +118,7 @@ impl<V> Stripped<V> {
     fn place_alone(&self, key: &[u8]) -> Option<Option<usize>>
         ensures { IfSome result (IsOut (λ e. not (eq_by_cmp (slice_cmp nat_cmp) key.now e.0)) self.now) }
     {
-        match rest_of(self.prefix.as_ref(), key) {
+        match rest_of(&self.prefix, key) {
             Some(rest) => self.rests.place_alone(rest),
             None => Some(None),
         }
@@ -140,7 +140,7 @@ impl<V> Stripped<V> {
     fn last_behind(&self, bound: Bound<&[u8]>, near: usize) -> Option<usize>
         ensures { MatchOption result (list_any (λ e. within_upper (bound_of bound.entry) e.0) self.now ≡ false) (IsLastAt (λ e. within_upper (bound_of bound.entry) e.0) self.now) }
     {
-        match upper_behind(self.prefix.as_ref(), bound) {
+        match upper_behind(&self.prefix, bound) {
             Some(rest) => {
                 let front = front_of_rest(bound, self.prefix.len());
                 self.rests.last_place(rest, front, near)
@@ -165,7 +165,7 @@ impl<V> Stripped<V> {
     fn first_behind(&self, bound: Bound<&[u8]>, near: usize) -> Option<usize>
         ensures { MatchOption result (list_any (λ e. within_lower (bound_of bound.entry) e.0) self.now ≡ false) (IsFirstAt (λ e. within_lower (bound_of bound.entry) e.0) self.now) }
     {
-        match lower_behind(self.prefix.as_ref(), bound) {
+        match lower_behind(&self.prefix, bound) {
             Some(rest) => {
                 let front = front_of_rest(bound, self.prefix.len());
                 self.rests.first_place(rest, front, near)
@@ -356,7 +356,7 @@ impl<V: Held> Stripped<V> {
         if self.prefix.is_nothing() {
             return Ok(Some(key.clone()?));
         }
-        match rest_of(self.prefix.as_ref(), key.as_ref()) {
+        match rest_of(&self.prefix, key.as_ref()) {
             Some(rest) => Ok(Some(IVec::from_slice(alloc, rest)?)),
             None => Ok(None),
         }
@@ -506,8 +506,8 @@ impl Stripped<IVec> {
     ) -> Option<usize>
         ensures { IsPlaceOf (slice_get (pairs_in (record { lo = bound_of lo.entry; hi = bound_of hi.entry; back = back }) self.now) place) self.now result }
     {
-        match lower_behind(self.prefix.as_ref(), lo) {
-            Some(from) => match upper_behind(self.prefix.as_ref(), hi) {
+        match lower_behind(&self.prefix, lo) {
+            Some(from) => match upper_behind(&self.prefix, hi) {
                 Some(to) => self.rests.place_within(from, to, back, place),
                 None => None,
             },

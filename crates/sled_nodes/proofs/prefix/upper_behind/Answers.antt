@@ -1,4 +1,5 @@
 use Rattle.std.proofs.Common.{ap, sym, not, ◌∙◌, is_lt, is_gt}
+use Rattle.sled_nodes.proofs.Fronts.{bytes_cmp}
 use Rattle.sled_nodes.proofs.Prefixes.{cmp_rest, up_to_apart, below_apart, told_up_to}
 use Rattle.sled_nodes.proofs.prefix.upper_behind.Goals as goal
 
@@ -6,10 +7,10 @@ pub returns-in-Some-clause-within : goal.returns-in-Some-clause-within
 returns-in-Some-clause-within c = λ rest. rw c.in-Included.is (ap (λ o. not (is_gt o)) (cmp_rest c.args.prefix.now rest c.in-Included.end.now c.in-Some.rest.now c.in-Some.ensures))
 
 pub returns-in-None-clause-within : goal.returns-in-None-clause-within
-returns-in-None-clause-within c = λ rest. rw c.in-Included.is (up_to_apart c.args.prefix.now rest c.in-Included.end.now c.in-None.ensures ∙ (ap is_lt (sym c.compare.ensures) ∙ (sym c.is_lt.ensures ∙ sym (told_up_to c.is_lt.result c.all_or_none.result rest c.all_or_none.ensures))))
+returns-in-None-clause-within c = λ rest. rw c.in-Included.is (up_to_apart c.args.prefix.now rest c.in-Included.end.now c.in-None.ensures ∙ (ap is_lt (sym (c.compare.ensures ∙ ap (λ p. bytes_cmp p c.in-Included.end.now) c.as_ref.ensures)) ∙ (sym c.is_lt.ensures ∙ sym (told_up_to c.is_lt.result c.all_or_none.result rest c.all_or_none.ensures))))
 
 pub returns-in-Some-rest_of-clause-within : goal.returns-in-Some-rest_of-clause-within
 returns-in-Some-rest_of-clause-within c = λ rest. rw c.in-Excluded.is (ap is_lt (cmp_rest c.args.prefix.now rest c.in-Excluded.end.now c.in-Some-rest_of.rest.now c.in-Some-rest_of.ensures))
 
 pub returns-in-None-rest_of-clause-within : goal.returns-in-None-rest_of-clause-within
-returns-in-None-rest_of-clause-within c = λ rest. rw c.in-Excluded.is (below_apart c.args.prefix.now rest c.in-Excluded.end.now c.in-None-rest_of.ensures ∙ (ap is_lt (sym c.compare-in-None-rest_of.ensures) ∙ (sym c.is_lt-in-None-rest_of.ensures ∙ sym (told_up_to c.is_lt-in-None-rest_of.result c.all_or_none-in-None-rest_of.result rest c.all_or_none-in-None-rest_of.ensures))))
+returns-in-None-rest_of-clause-within c = λ rest. rw c.in-Excluded.is (below_apart c.args.prefix.now rest c.in-Excluded.end.now c.in-None-rest_of.ensures ∙ (ap is_lt (sym (c.compare-in-None-rest_of.ensures ∙ ap (λ p. bytes_cmp p c.in-Excluded.end.now) c.as_ref-in-None-rest_of.ensures)) ∙ (sym c.is_lt-in-None-rest_of.ensures ∙ sym (told_up_to c.is_lt-in-None-rest_of.result c.all_or_none-in-None-rest_of.result rest c.all_or_none-in-None-rest_of.ensures))))

@@ -1,11 +1,11 @@
-use Rattle.std.proofs.Common.{ap, sym, refl, ◌∙◌, ◌++◌, false}
+use Rattle.std.proofs.Common.{ap, refl, ◌∙◌, false}
 use Rattle.sled_nodes.specs.Among.{bound_of, is_up_to}
 use Rattle.sled_nodes.specs.theory.Stripped.{is_up_to_in}
 use Rattle.sled_nodes.proofs.Behind.{last_behind, none_behind}
 use Rattle.sled_nodes.proofs.stripped.Stripped.last_behind.Goals as goal
 
 pub returns-in-Some : goal.returns-in-Some
-returns-in-Some g c = rw (← c.self.view_is) (last_behind c.self.inside.prefix (λ k. is_up_to (bound_of c.args.bound) k) (λ k. is_up_to (bound_of c.in-Some.rest) k) (λ r. ap (λ p. is_up_to (bound_of c.args.bound) (p ++ r)) (sym c.as_ref.ensures) ∙ (c.upper_behind.ensures.within r ∙ ap (λ b. is_up_to_in b r) c.in-Some.is)) c.self.inside.rests c.last_place.result c.last_place.ensures)
+returns-in-Some g c = rw (← c.self.view_is) (last_behind c.self.inside.prefix (λ k. is_up_to (bound_of c.args.bound) k) (λ k. is_up_to (bound_of c.in-Some.rest) k) (λ r. c.upper_behind.ensures.within r ∙ ap (λ b. is_up_to_in b r) c.in-Some.is) c.self.inside.rests c.last_place.result c.last_place.ensures)
 
 pub returns-in-None : goal.returns-in-None
-returns-in-None g c = rw (← c.self.view_is) (none_behind c.self.inside.prefix (λ k. is_up_to (bound_of c.args.bound) k) (λ k. false) (λ r. ap (λ p. is_up_to (bound_of c.args.bound) (p ++ r)) (sym c.as_ref.ensures) ∙ (c.upper_behind.ensures.within r ∙ ap (λ b. is_up_to_in b r) c.in-None.is)) (λ r. refl) c.self.inside.rests)
+returns-in-None g c = rw (← c.self.view_is) (none_behind c.self.inside.prefix (λ k. is_up_to (bound_of c.args.bound) k) (λ k. false) (λ r. c.upper_behind.ensures.within r ∙ ap (λ b. is_up_to_in b r) c.in-None.is) (λ r. refl) c.self.inside.rests)

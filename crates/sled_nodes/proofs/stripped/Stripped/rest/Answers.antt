@@ -6,7 +6,7 @@ use Rattle.sled_nodes.proofs.stripped.Stripped.rest.Goals as goal
 pub returns-in_ok-from_slice-in-Some-clause-ok : goal.returns-in_ok-from_slice-in-Some-clause-ok
 returns-in_ok-from_slice-in-Some-clause-ok g c = record {
   some = some_now c.self.inside.prefix c.self.inside.rests c.args.self.now c.self.invariant c.self.view_is (search rules);
-  is = sym c.as_ref-2.ensures ∙ (c.in-Some.ensures ∙ (ap (λ q. q ++ c.in-Some.rest.now) (c.as_ref.ensures ∙ sym (prefix_here c.self.inside.prefix c.self.inside.rests c.args.self.now c.self.invariant c.self.view_is)) ∙ ap (λ r. prefix_of c.args.self.now ++ r) (sym c.in_ok-from_slice-in-Some.ensures.ok)));
+  is = sym c.as_ref.ensures ∙ (c.in-Some.ensures ∙ (ap (λ q. q ++ c.in-Some.rest.now) (sym (prefix_here c.self.inside.prefix c.self.inside.rests c.args.self.now c.self.invariant c.self.view_is)) ∙ ap (λ r. prefix_of c.args.self.now ++ r) (sym c.in_ok-from_slice-in-Some.ensures.ok)));
 }
 
 pub returns-then-is_nothing-clause-ok : goal.returns-then-is_nothing-clause-ok
