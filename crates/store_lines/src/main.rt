@@ -66,6 +66,8 @@ receive LEFT RIGHT NODE               done
 post NODE K P                         yes or no
 should-split NODE, should-merge NODE, can-merge-child NODE    yes or no
 len NODE                              number N
+prefix NODE                           prefix K, the longest beginning that all keys have
+rests NODE                            rests K V .., or K P ..: what each key has behind it
 get NODE K                            value V, or value -
 pointer NODE BOUND                    first P, or later P, or none
 pointer-before NODE P                 pointer P, or none

@@ -2,7 +2,7 @@
 ghost use Rattle.std.specs.Prelude.{◌≡◌};
 ghost use Rattle.sled_nodes.specs.Node.{count};
 
-use crate::line::{Line, Print, Word, push_kept};
+use crate::line::{Line, Print, Word, push_all, push_kept};
 use crate::text::Text;
 use shell_words::look::lend;
 use sled_nodes::{Data, IVec, Index, Leaf, Link, Node, Pid};
@@ -14,6 +14,8 @@ use std::ops::Bound;
 pub enum Question {
     Show,
     Len,
+    Prefix,
+    Rests,
     ShouldSplit,
     ShouldMerge,
     CanMergeChild,
@@ -232,6 +234,8 @@ fn answer(question: Question, node: &Node, line: &mut Line) {
     match question {
         Question::Show => push_node(out, node),
         Question::Len => out.push_numbered("number", len(node) as u64),
+        Question::Prefix => push_prefix(out, node),
+        Question::Rests => push_rests(out, node),
         Question::ShouldSplit => out.push_whether(node.should_split()),
         Question::ShouldMerge => out.push_whether(node.should_merge()),
         Question::CanMergeChild => out.push_whether(node.can_merge_child()),
@@ -445,6 +449,24 @@ pub fn push_node(out: &mut Text, node: &Node) {
             let pointers = index.pairs(out.alloc);
             push_kept(out, pointers);
         }
+    }
+}
+
+// Adds what all keys of a node begin with.
+fn push_prefix(out: &mut Text, node: &Node) {
+    out.push("prefix ");
+    out.push_word(match &node.content {
+        Data::Leaf(leaf) => leaf.prefix(),
+        Data::Index(index) => index.prefix(),
+    });
+}
+
+// Adds what each key has behind that, with what stands at it.
+fn push_rests(out: &mut Text, node: &Node) {
+    out.push("rests");
+    match &node.content {
+        Data::Leaf(leaf) => push_all(out, leaf.rests()),
+        Data::Index(index) => push_all(out, index.rests()),
     }
 }
 

@@ -58,7 +58,7 @@ enum Call {
     Parts,
 }
 
-const CALLS: [(&str, Call); 47] = [
+const CALLS: [(&str, Call); 49] = [
     ("roots", Call::Alone(Alone::Roots)),
     ("begin", Call::Alone(Alone::Begin)),
     ("seal", Call::Alone(Alone::Seal)),
@@ -97,6 +97,14 @@ const CALLS: [(&str, Call); 47] = [
         Call::Node(Act::Find(Search::Answer(Question::Show))),
     ),
     ("len", Call::Node(Act::Find(Search::Answer(Question::Len)))),
+    (
+        "prefix",
+        Call::Node(Act::Find(Search::Answer(Question::Prefix))),
+    ),
+    (
+        "rests",
+        Call::Node(Act::Find(Search::Answer(Question::Rests))),
+    ),
     (
         "should-split",
         Call::Node(Act::Find(Search::Answer(Question::ShouldSplit))),
