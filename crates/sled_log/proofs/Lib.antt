@@ -1,0 +1,3 @@
+mod LogLemmas
+mod Moments
+mod Appending

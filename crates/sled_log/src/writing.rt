@@ -1,0 +1,53 @@
+//! A block more at the end of a log.
+ghost use Rattle.std.specs.Prelude.{◌≡◌, ◌<◌, ◌≤◌, ◌+◌, ◌^◌, ◌++◌, [], ◌∷◌, length, OnOk, Ok};
+ghost use Rattle.sled_disk.specs.Disk.{written, Torn, Only, LeavesOnly, HasCause};
+ghost use Rattle.sled_log.specs.Log.{opened, log_of};
+ghost use Rattle.sled_log.specs.Append.{IsBlockFor, IsBeforeOrAfter};
+
+use sled_disk::{Disk, Result};
+
+const OPENED: u8 = 255;
+
+/// Writes bytes, and brings them to the disk. What is refused is refused by the disk, which may have them then, a part of them or none.
+///
+/// ```
+/// write_through(&mut disk, 0, &[1, 2])?; // No crash takes them back.
+/// ```
+pub fn write_through<D: Disk>(disk: &mut D, at: usize, bytes: &[u8]) -> Result<()>
+    requires place { at ≤ length (D.seen disk.old) }
+    requires on_disk { Only (D.seen disk.old) (D.may_leave disk.old) }
+    ensures written { OnOk result (D.seen disk.new ≡ written at bytes.now (D.seen disk.old)) }
+    ensures durable { OnOk result (Only (written at bytes.now (D.seen disk.old)) (D.may_leave disk.new)) }
+    // A crash at any moment of the call leaves the file with a part of the write, or with none of it.
+    ensures any_moment { LeavesOnly D.moment D.left_since disk.old disk.new (Torn at bytes.now (D.seen disk.old)) }
+    ensures cause { HasCause (D.faults disk.old) (D.faults disk.new) result }
+{
+    disk.write_at(at, bytes)?;
+    disk.sync()?;
+    Ok(())
+}
+
+/// Adds a block behind the closed gate of a log, brings it to the disk, and then opens the gate, and brings that to the disk. The bytes
+/// are those of the block behind its gate, and the closed gate that ends the log. What is refused is refused by the disk: then the
+/// block is in the log or it is not, and which is for the next opening to see.
+///
+/// ```
+/// // A log of nothing is a closed gate. The payload is 5 and 6, its digest is left out here.
+/// let block = vec![in alloc; 2, 0, 0, 0, 0, 0, 0, 0, 0, 0, 0, 0, 0, 0, 0, 0, 5, 6, 0]?;
+/// append(&mut disk, 0, &block)?;
+/// ```
+pub fn append<D: Disk>(disk: &mut D, gate: usize, block: &[u8]) -> Result<()>
+    requires place { gate < length (D.seen disk.old) }
+    requires small { gate < 2 ^ 62 }
+    requires on_disk { Only (D.seen disk.old) (D.may_leave disk.old) }
+    ensures written { OnOk result (D.seen disk.new ≡ written gate (opened ∷ []) (written (gate + 1) block.now (D.seen disk.old))) }
+    ensures durable { OnOk result (Only (D.seen disk.new) (D.may_leave disk.new)) }
+    // Then the log has the new payload.
+    ensures acknowledged { OnOk result ((b : IsBlockFor (D.seen disk.old) gate block.now) → log_of b.digest (D.seen disk.new) ≡ Ok (b.payloads ++ b.payload ∷ [])) }
+    // A crash at any moment of the call leaves a log of the payloads from before it, with the new one or without.
+    ensures any_moment { (b : IsBlockFor (D.seen disk.old) gate block.now) → LeavesOnly D.moment D.left_since disk.old disk.new (IsBeforeOrAfter b) }
+    ensures cause { HasCause (D.faults disk.old) (D.faults disk.new) result }
+{
+    write_through(disk, gate + 1, block)?;
+    write_through(disk, gate, &[OPENED])
+}
