@@ -1,3 +1,4 @@
 mod LogLemmas
 mod Moments
 mod Appending
+mod ReadingLemmas

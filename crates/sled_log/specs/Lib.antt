@@ -1,3 +1,6 @@
+pub mod Digest
 pub mod Log
 pub mod Append
+pub mod Reading
+pub mod theory
 pub use Rattle.sled_disk.specs as sled_disk

@@ -1,12 +1,36 @@
 //! A block more at the end of a log.
-ghost use Rattle.std.specs.Prelude.{◌≡◌, ◌<◌, ◌≤◌, ◌+◌, ◌^◌, ◌++◌, [], ◌∷◌, length, OnOk, Ok};
+ghost use Rattle.std.specs.Prelude.{◌≡◌, ◌<◌, ◌≤◌, ◌+◌, ◌^◌, ◌++◌, [], ◌∷◌, length, IfOk, IfErr, OnOk, Ok};
 ghost use Rattle.sled_disk.specs.Disk.{written, Torn, Only, LeavesOnly, HasCause};
 ghost use Rattle.sled_log.specs.Log.{opened, log_of};
-ghost use Rattle.sled_log.specs.Append.{IsBlockFor, IsBeforeOrAfter};
+ghost use Rattle.sled_log.specs.Append.{behind_gate, IsBlockFor, IsBeforeOrAfter};
+ghost use Rattle.sled_log.specs.Digest.{digest};
+ghost use Rattle.sled_disk.specs.declared.disk.DiskError.TheVariants.{NoMemory};
 
+use crate::digest::digest_of;
 use sled_disk::{Disk, Result};
+use std::alloc::Global;
+
+const CLOSED: u8 = 0;
 
 const OPENED: u8 = 255;
+
+/// The bytes of a block behind its gate, and the closed gate that ends the log, of this payload. Refused with `NoMemory` alone.
+///
+/// ```
+/// let block = block_of(alloc, b"rain")?;
+/// append(&mut disk, 0, &block)?; // Where the file's first byte is the closed gate that ends its log.
+/// ```
+pub fn block_of(alloc: Global, payload: &[u8]) -> Result<Vec<u8>>
+    ensures ok { IfOk result (λ bytes. bytes.items ≡ behind_gate digest payload.now) }
+    ensures err { IfErr result (λ e. e ≡ NoMemory) }
+{
+    let mut bytes = Vec::new(alloc);
+    bytes.extend_from_slice(&(payload.len() as u64).to_le_bytes())?;
+    bytes.extend_from_slice(&digest_of(payload).to_le_bytes())?;
+    bytes.extend_from_slice(payload)?;
+    bytes.push(CLOSED)?;
+    Ok(bytes)
+}
 
 /// Writes bytes, and brings them to the disk. What is refused is refused by the disk, which may have them then, a part of them or none.
 ///
@@ -32,9 +56,9 @@ pub fn write_through<D: Disk>(disk: &mut D, at: usize, bytes: &[u8]) -> Result<(
 /// block is in the log or it is not, and which is for the next opening to see.
 ///
 /// ```
-/// // A log of nothing is a closed gate. The payload is 5 and 6, its digest is left out here.
-/// let block = vec![in alloc; 2, 0, 0, 0, 0, 0, 0, 0, 0, 0, 0, 0, 0, 0, 0, 0, 5, 6, 0]?;
-/// append(&mut disk, 0, &block)?;
+/// // A log of nothing is a closed gate.
+/// let mut file = MemoryDisk::new(alloc, vec![in alloc; 0]?)?;
+/// append(&mut file, 0, &block_of(alloc, b"rain")?)?;
 /// ```
 pub fn append<D: Disk>(disk: &mut D, gate: usize, block: &[u8]) -> Result<()>
     requires place { gate < length (D.seen disk.old) }
