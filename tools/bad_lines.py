@@ -63,7 +63,9 @@ def reason(line):
         read_line(text)
         return "is a line of the shell", f"reads it, and {passed_over}"
     except BadLine as why:
-        return f"cannot be read: {why}", f"goes on after it, and {passed_over}"
+        # The program itself has no `help`.
+        said = str(why).replace("`help` lists", "the shell's `help` lists")
+        return f"cannot be read: {said}", f"goes on after it, and {passed_over}"
 
 
 def told(bad, files):

@@ -45,6 +45,38 @@ def a_list_of_steps_comes_out_as_listed_and_survives(s):
         s.line('get a', f'value {value}')
 
 
+BATCHES = '''
+    begin get %         slot 1
+    batch % e a 1 z 9   done
+    step 1              value e
+    begin remove %      slot 2
+    step 2              moved
+    batch % f           done
+    step 2              moved
+    step 2              moved
+    step 2              value f
+    batch               done
+    batch z -           done
+    batch % % b -       done
+    flush               flushed 15
+    batch a 2 % - a 3   done
+'''
+
+
+@crowd_case
+def a_list_of_steps_has_batches_with_the_empty_key(s):
+    """A list of steps has batches with the empty key, which calls in flight find; one that changes nothing is none for the store."""
+    steps = [re.split('  +', row.strip()) for row in BATCHES.strip().split('\n')]
+    s.line('run ' + ', '.join(step for step, _ in steps), *(printed for _, printed in steps))
+    s.line('dump', pair('a', 3), 'end 1')
+    s.note('A crash keeps all of the last one or nothing: its begin, two writes and its end are four actions.')
+    s.line('crash 3', 'recovered')
+    s.line('dump', pair('%'), pair('a', 1), 'end 2')
+    s.line('run batch % -, batch a - % 2', 'done', 'done')
+    s.line('crash 3', 'recovered')
+    s.line('dump', pair('a', 1), 'end 1')
+
+
 @case
 def slots_are_counted_by_the_lines_that_began_one(s):
     """A slot is given once; calls without `begin` count none; after each opening slots are counted from 1 again."""

@@ -316,6 +316,9 @@ def the_keys_within_bounds_are_taken_out(s):
         remove-range .. ..          number 3
         empty                       yes
         remove-range (a (a          number 0
+        batch a 1 b 2               done
+        remove-range [b [a          number 0
+        len                         number 2
     ''')
     s.note('A crash keeps all of it or nothing: its begin, three writes and its end are five actions.')
     for keep in range(6):
@@ -365,4 +368,27 @@ def how_large_all_trees_are(s):
         stats                   refused E4
         recover refuse 1        refused E4
         stats                   refused E8
+    ''')
+
+
+@case
+def a_range_is_taken_out_and_all_is_counted(s):
+    """The keys within bounds are taken out of two leaves, and the pages of two trees are counted before and after: lines for
+    `tests/refusals`, which refuses each request for memory of them."""
+    letters = 'bcdefghijklmnopqr'
+    s.line('batch ' + ' '.join(f'{k} {k}' for k in letters), 'done')
+    s.line('get b', 'value b')
+    s.rows('''
+        tree t                      tree t
+        batch % 12345 ulm %         done
+        stats                       stats trees 2 pages 4 levels 2 pairs 19 key-bytes 20 value-bytes 22
+        tree __sled__default        tree __sled__default
+        owned watch %               subscriber 1
+        owned remove-range (h [l    number 4
+        owned next 1                event remove i
+        owned next 1                event remove j
+        owned next 1                event remove k
+        owned next 1                event remove l
+        owned next 1                event -
+        stats                       stats trees 2 pages 4 levels 2 pairs 15 key-bytes 16 value-bytes 18
     ''')

@@ -519,7 +519,7 @@ def words_of_many_calls_that_cannot_be_read(s):
     s.line('insert a 1', 'old -')
     s.begin(1, 'get a')
     for line in ('crowd 1 2', 'begin scan .. ..', 'load', 'load 1 2', 'load 1 2 3 4', 'find 1', 'find 1 -', 'overtake 1', 'overtake 1 2 3',
-                 'reads 1', 'pages 1', 'why 1', 'turns', 'turns 01', 'new refuse 1', 'batch a', 'batch - 1', 'batch a 1 ', 'run', 'run step', 'run step 1,', 'run step 1, tree t', 'run drop t', 'drop',
+                 'reads 1', 'pages 1', 'why 1', 'turns', 'turns 01', 'new refuse 1', 'batch a', 'batch - 1', 'batch a 1 ', 'run', 'run step', 'run step 1,', 'run step 1, tree t', 'run step 1, batch a', 'run batch - 1', 'run drop t', 'drop',
                  'drop -', 'len 1', 'read', 'read -', 'read a b', 'range ..', 'range a z', 'range [a (', 'range .. .. ..', 'prefix', 'merge a 1', 'draw', 'quit', 'get', ' get a'):
         s.line(line, f'bad line {len(s.text) + 1}')
         s.line('turns 1', 'number 0')

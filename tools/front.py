@@ -18,6 +18,8 @@ from feed import write
 
 PROMPT = b"> "
 MOST_LINES = 2000
+# The bytes that stand for themselves in a word whose bytes are all spelled.
+PLAIN = set(range(33, 127)) - {ord("%")}
 PIECE = re.compile(r'"((?:[^"\\]|\\.)*)"|([^" ]+)|( +)')
 HELP = {"draw svg": "draw svg [FILE]: adds a picture of the tree to those of this session in FILE, which is tree.svg if none is named"}
 
@@ -68,6 +70,24 @@ def spelled(text, plain):
     return "".join(chr(byte) if byte in plain else f"%{byte:02x}" for byte in text.encode(errors="surrogateescape"))
 
 
+def meant_by(word):
+    """The text that a word of the shell spells."""
+    if word == "%":
+        return ""
+    return re.sub(b"%([0-9a-f]{2})", lambda it: bytes([int(it[1], 16)]), word.encode(errors="surrogateescape")).decode(errors="surrogateescape")
+
+
+def paths_of(word):
+    """The words of the files and folders whose paths begin as the word spells it. A byte may be spelled in part."""
+    whole = re.sub("%[0-9a-f]?$", "", word)
+    begun, rest = meant_by(whole), word[len(whole):]
+    found = (path + "/" * os.path.isdir(path) for path in glob.glob(glob.escape(begun) + "*"))
+    # A quote would begin a text with spaces here.
+    plain = PLAIN - {ord('"')}
+    words = ("%2d" if path == "-" else spelled(path, plain) for path in found)
+    return [it for it in words if it.startswith(spelled(begun, plain) + rest)]
+
+
 def words_of(line):
     """The words of a line, each as it was meant and as the shell spells it."""
     words, meant, spells, is_quoted, at = [], "", "", False, 0
@@ -86,7 +106,7 @@ def words_of(line):
             meant, spells = meant + piece[2], spells + spelled(piece[2], range(33, 127))
         else:
             text = re.sub(r'\\(["\\])', r"\1", piece[1])
-            plain = set(range(33, 127)) - {ord("%")} - ({ord(text)} if text in ("-", ";") else set())
+            plain = PLAIN - ({ord(text)} if text in ("-", ";") else set())
             meant, spells, is_quoted = meant + text, spells + spelled(text, plain), True
     return words
 
@@ -107,18 +127,18 @@ class Completion:
         self.lines, self.found = lines, []
 
     def choices(self, before, text):
-        if before[:2] == ["draw", "svg"] or before[:1] in (["run"], ["each-crash"], ["each-refusal"]):
-            return [path + "/" * os.path.isdir(path) for path in glob.glob(glob.escape(text) + "*")]
+        if before in (["draw", "svg"], ["run"], ["each-crash"], ["each-refusal"]):
+            return paths_of(text)
         found = set()
         for words in [before, *[before[1:]] * (before[:1] in (["help"], ["?"]))]:
             places = [line.split() for line in self.lines]
             found |= {place[len(words)] for place in places if place[: len(words)] == words and len(place) > len(words)}
-        return found
+        return [it for it in found if it.startswith(text)]
 
     def __call__(self, text, number):
         if not number:
             before = readline.get_line_buffer()[: readline.get_begidx()].split()
-            self.found = sorted(it for it in self.choices(before, text) if it.startswith(text))
+            self.found = sorted(self.choices(before, text))
             if len(self.found) == 1 and not self.found[0].endswith("/"):
                 self.found[0] += " "
         return self.found[number] if number < len(self.found) else None
@@ -179,6 +199,8 @@ class Pictures:
             path.write_text(picture(frames), encoding="utf-8")
         except OSError as fault:
             return f"{file} cannot be written: {fault.strerror}\n"
+        except ValueError:
+            return "a path has no zero byte\n"
         self.drawn[path], self.lines = frames, []
         return f"drawn {len(frames)} in {file}\n"
 
@@ -199,7 +221,7 @@ def answer(shell, pictures, line):
     words = [(line, line)] if line.startswith("#") else words_of(line)
     meant, spells = [it for it, _ in words], " ".join(it for _, it in words)
     if meant[:2] == ["draw", "svg"] and len(meant) < 4:
-        say(pictures.add(shell, (meant[2:] or ["tree.svg"])[0]))
+        say(pictures.add(shell, meant_by(words[2][1]) if meant[2:] else "tree.svg"))
         return
     asked = " ".join(meant[1:]) if meant[0] in ("help", "?") else None
     if asked is None:

@@ -909,8 +909,8 @@ def read_step(text):
         words = read_line(text)
     except BadLine:
         words = ['']
-    if words[0] not in ('begin', 'step', 'abandon', 'flush'):
-        raise BadLine(f'`{text}` is no step of a call in flight')
+    if words[0] not in ('begin', 'step', 'abandon', 'batch', 'flush'):
+        raise BadLine(f'`{text}` is no step of a call in flight, and no batch or flush')
     return words
 
 

@@ -416,9 +416,15 @@ class Plain:
             self.opened() if name == 'recover' or shell.forms is CROWD else self.crashed(last)
         elif name == 'run':
             for step, line in zip(words[1], printed):
+                if step[0] == 'batch':
+                    # the trees are those behind the whole list
+                    expect(line == 'done', step, line)
+                    self.write(batches_of(*step))
+                    continue
                 # of a list of steps each value is told as one
                 old = line.startswith('value') and step[0] == 'step' and self.calls[step[1]][0][0] in ('insert', 'remove')
                 self.meets(step, [line.replace('value', 'old') if old else line], shell)
+            expect(self.has(shell.contents()), words, printed)
         elif name == 'load':
             for key in some_keys(words[1]):
                 self.answer(('insert', key, key), self.current)

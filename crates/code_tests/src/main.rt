@@ -7,7 +7,6 @@ mod calls;
 mod nodes;
 mod replies;
 mod report;
-mod sizes;
 mod step_kept;
 mod streams;
 mod transactions;
@@ -22,7 +21,6 @@ use std::process::ExitCode;
 enum Case {
     Transactions,
     Calls,
-    Sizes,
     Steps,
     Wholes,
 }
@@ -36,7 +34,6 @@ fn tell_on(report: &Report, case: Case, db: Db<MemPages>) {
     let db = match case {
         Case::Transactions => transactions::tell_on(report, db, &tree),
         Case::Calls => calls::tell_on(report, db, &tree),
-        Case::Sizes => sizes::tell_on(report, db, &tree),
         Case::Steps => step_kept::tell_on(report, db, &tree),
         Case::Wholes => whole_kept::tell_on(report, db, &tree),
     };
@@ -76,7 +73,6 @@ fn main(rt: HostRuntime) -> ExitCode {
     calls::tell(&report);
     replies::tell(&report);
     tell_case(&report, Case::Calls);
-    tell_case(&report, Case::Sizes);
     tell_case(&report, Case::Steps);
     tell_case(&report, Case::Wholes);
     if report.has_failed() {

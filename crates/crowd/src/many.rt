@@ -8,6 +8,7 @@ use line_words::input::Stopped;
 use line_words::print::Piece::{Number, Text, Word};
 use line_words::print::{Piece, push_pieces};
 use shell_words::tell::{Result, Told, answered, tell, tell_outcome, tell_turns, tell_whether};
+use sled_batch::Batch;
 use sled_model::{Call, Outcome, Reply, Slot, Step, Tree, Whole};
 use std::alloc::Global;
 use std::sync::atomic::Ordering;
@@ -137,7 +138,22 @@ pub fn overtake(
     tell_turns(out, session.turns(number))
 }
 
-// The step of a text; where a call begins, it is on this tree.
+// The step that makes the writes of a batch in a tree.
+fn batch_step(alloc: Global, tree: &Tree, batch: Batch) -> Result<Step> {
+    let tree = match tree.clone() {
+        Ok(tree) => tree,
+        Err(error) => {
+            drop(error);
+            drop(batch);
+            return Err(Stopped);
+        }
+    };
+    let mut group = Vec::new(alloc);
+    group.push((tree, batch))?;
+    Ok(Step::Whole(Whole::Group(group)))
+}
+
+// The step of a text; where a call begins, it is on this tree, and so is a batch.
 fn step_of(alloc: Global, tree: &Tree, text: &[u8]) -> Result<Option<Step>> {
     match parse(alloc, text) {
         Ok(Some(Command::Begin(call))) => match tree.clone() {
@@ -150,6 +166,7 @@ fn step_of(alloc: Global, tree: &Tree, text: &[u8]) -> Result<Option<Step>> {
         },
         Ok(Some(Command::Step(number))) => Ok(Some(Step::Step(Slot(number)))),
         Ok(Some(Command::Abandon(number))) => Ok(Some(Step::Abandon(Slot(number)))),
+        Ok(Some(Command::Batch(batch))) => batch_step(alloc, tree, batch).map(Some),
         Ok(Some(Command::Flush)) => Ok(Some(Step::Whole(Whole::Flush))),
         Ok(other) => {
             drop(other);
