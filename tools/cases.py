@@ -9,6 +9,7 @@ What is printed comes from the oracle; see script.py for what it is compared wit
 does not print what the case spells out.
 """
 import sys
+import cases_beginnings
 import cases_draws
 import cases_drops
 import cases_events

@@ -745,7 +745,7 @@ class Range:
 
 FORMS = """insert K V; get K; remove K; cas K OLD NEW; merge K V; begin merge K V; operator OPERATOR; begin insert K V; begin get K; begin remove K; begin cas K OLD NEW; begin scan LO HI; begin scan-back LO HI
 step N; finish N; abandon N; turns N; flush; crash N; dump; dump lines; run FILE; fill N; stats; remove-range LO HI; owned remove-range LO HI; new; new refuse N ..; reopen; reopen refuse N ..
-reopen unreadable PID ..; reopen mark N; recover; recover refuse N ..; recovered; verify; root NAME PID; image; image mark N; image group; each-refusal FILE; each-crash FILE; pages; draw; draw links; draw dot; parts PID; handle DATABASE NAME N; why; version; help; quit; exit
+reopen unreadable PID ..; reopen mark N; recover; recover refuse N ..; recovered; verify; root NAME PID; image; image mark N; image group; each-refusal FILE; each-crash FILE; pages; draw; draw links; draw dot; parts PID; rests PID; handle DATABASE NAME N; why; version; help; quit; exit
 set K V; put K V; del K; scan LO HI; iter; ls; trees
 has K; read K; lt K; gt K; first; last; len; empty; range LO HI; range-back LO HI; range-ends LO HI; prefix P; prefix-back P
 keys LO HI; keys-back LO HI; values LO HI; values-back LO HI
@@ -771,7 +771,7 @@ FORMS, CROWD = forms_of(FORMS), forms_of(CROWD)
 # The first words of the lines of the shell, in the order in which its help lists them.
 HEADS = """insert get remove cas merge update fetch operator begin step finish abandon turns has read lt gt first last len empty range range-back
 range-ends prefix prefix-back keys keys-back values values-back pop-min pop-max clear remove-range fill batch group tx tx-all import import-type import-all tree
-old-tree drop names id watch next unwatch flush crash dump run new reopen recover recovered verify pages stats draw parts why version help ? quit exit set put
+old-tree drop names id watch next unwatch flush crash dump run new reopen recover recovered verify pages stats draw parts rests why version help ? quit exit set put
 del scan iter ls trees owned handle page root image each-refusal each-crash""".split()
 # Other names of lines, with what stands in them.
 OTHER_NAMES = {'set': ['insert'], 'put': ['insert'], 'del': ['remove'], 'scan': ['range'], 'iter': ['range', None, None], 'ls': ['names'], 'trees': ['names']}
@@ -811,6 +811,13 @@ def fit(form, words):
         return len(own), own + ([values] if ';' in form else values[0]), None
     except BadLine as why:
         return len(own), None, str(why)
+
+
+def rests_of(node):
+    """What all keys of a page begin with, and what each of them has behind that."""
+    keys = [k for k, _ in node.entries]
+    first = os.path.commonprefix(keys) or b''
+    return ' '.join(['rests', word(first), *(word(k[len(first):]) for k in keys)])
 
 
 def parts_of(words):
@@ -1118,6 +1125,9 @@ class Shell:
         if name == 'parts':
             view = store.pages.get(words[0])
             return [f'parts {view.base} {view.links}' if view else 'none']
+        if name == 'rests':
+            view = store.read(words[0])
+            return [rests_of(view.node) if view else 'none']
         if name in ('each-refusal', 'each-crash'):
             return [each_refusal(lines_of(words[0])) if name == 'each-refusal' else each_crash(lines_of(words[0]))]
         if name == 'page':

@@ -11,7 +11,7 @@ from oracle import (CROWD, DATABASE, FORMS, GREATEST, HOWS, LOOKS, ON_TREES, OPE
                     read_line, some_keys, value_of, word)
 
 # What a closed database serves, and the shell by itself, or a line that opens one.
-SERVED = ('next', 'unwatch', 'abandon', 'turns', 'recovered', 'why', 'version', 'parts', 'handle', 'old-tree', 'new', 'recover', 'crash', 'page', 'root', 'image')
+SERVED = ('next', 'unwatch', 'abandon', 'turns', 'recovered', 'why', 'version', 'parts', 'rests', 'handle', 'old-tree', 'new', 'recover', 'crash', 'page', 'root', 'image')
 CRATES = os.path.join(os.path.dirname(os.path.abspath(__file__)), '..', 'crates')
 CASES = []
 
@@ -434,7 +434,7 @@ class Plain:
 
     def found(self, name, printed, shell):
         """An image was opened, whose pairs the case says; or it is refused, and there is no database."""
-        expect(printed.split()[0] in ('opened', 'recovered', 'sound', 'corrupt', 'refused', 'noted', 'no', 'why'), name, printed)
+        expect(printed.split()[0] in ('opened', 'recovered', 'sound', 'corrupt', 'refused', 'noted', 'no', 'why', 'rests'), name, printed)
         maps = shell.contents() if shell.opened else {TREE: {}}
         self.__init__(maps, not shell.opened)
 

@@ -61,6 +61,8 @@ pub enum Verb {
     Stats,
     /// As what a page is kept.
     Parts,
+    /// The keys of a page without what all of them begin with.
+    Rests,
     Why,
     Version,
     Help,
@@ -225,13 +227,14 @@ fn store_commands() -> &'static [Command] {
 }
 
 #[rattlefmt::skip]
-static HELP: [Command; 12] = [
+static HELP: [Command; 13] = [
     Command("pages", "", Verb::Pages, "prints how many pages each level of the tree has, and the most entries of one"),
     Command("stats", "", Verb::Stats, "prints how many trees, pages, levels and pairs there are, and the bytes of all keys and values"),
     Command("draw", "", Verb::Draw(Drawing::Text), "draws the tree level by level, with what is half done"),
     Command("draw links", "", Verb::Draw(Drawing::Links), "draws it with how many entries the base of each page has, and how many links are kept over it"),
     Command("draw dot", "", Verb::Draw(Drawing::Dot), "draws it as a graph for the program dot"),
     Command("parts", "PID", Verb::Parts, "prints of a page how many entries its base has, and how many links are kept over it"),
+    Command("rests", "PID", Verb::Rests, "prints of a page what all its keys begin with, and what each has behind that"),
     Command("why", "", Verb::Why, "prints the text of the last refusal"),
     Command("version", "", Verb::Version, "prints the version of the shell"),
     Command("help", "[WORD]", Verb::Help, "lists the lines for use; with a WORD what those take and do that begin with it, with `tests` those that are for tests"),

@@ -1,4 +1,4 @@
-//! Drawings of a tree, counts of its pages, and as what a store in memory keeps them: nothing is changed.
+//! Drawings of a tree, counts of its pages, and as what a store in memory keeps them and their keys: nothing is changed.
 #![tactic(auto)]
 
 pub mod draw;

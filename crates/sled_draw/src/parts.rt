@@ -1,8 +1,9 @@
-//! As what a store in memory keeps a page: a base, and links over it.
+//! As what a store in memory keeps a page: a base, and links over it; and its keys, without what all of them begin with.
 
 use line_words::print::Piece::{Number, Text};
-use line_words::print::push_pieces;
-use sled_nodes::{Data, Node, Pid, Result};
+use line_words::print::{push_pieces, push_text};
+use line_words::words::push_word;
+use sled_nodes::{Data, IVec, Node, Pid, Result};
 use sled_pages::MemPages;
 
 /// How many entries the base of a page has, and how many links are kept over it.
@@ -41,4 +42,29 @@ pub fn push_parts(pages: &MemPages, pid: Pid, out: &mut Vec<u8>) -> Result<()> {
         out,
         &[Text(b"parts "), base, Text(b" "), links, Text(b"\n")],
     )
+}
+
+// Adds what each key has behind what all of them begin with.
+fn push_each<V>(rests: &[(IVec, V)], out: &mut Vec<u8>) -> Result<()> {
+    for rest in rests {
+        push_text(out, b" ")?;
+        push_word(out, rest.0.as_ref())?;
+    }
+    Ok(())
+}
+
+/// Adds the line of what all keys of a page begin with, and what each of them has behind that.
+pub fn push_rests(node: &Node, out: &mut Vec<u8>) -> Result<()> {
+    push_text(out, b"rests ")?;
+    match &node.content {
+        Data::Leaf(leaf) => {
+            push_word(out, leaf.prefix())?;
+            push_each(leaf.rests(), out)?;
+        }
+        Data::Index(index) => {
+            push_word(out, index.prefix())?;
+            push_each(index.rests(), out)?;
+        }
+    }
+    push_text(out, b"\n")
 }

@@ -21,7 +21,7 @@ use shell_words::operators::Operator;
 use shell_words::table::Verb;
 use shell_words::tell::{Result, Told, answered, tell, tell_refused, tell_why};
 use sled::{Db, GROUP_IS_OPEN};
-use sled_draw::parts::push_parts;
+use sled_draw::parts::{push_parts, push_rests};
 use sled_lines::session::Session;
 use sled_model::{Outcome, Reply, Tree, Whole};
 use sled_nodes::{Error, IVec, Pid};
@@ -109,6 +109,7 @@ impl Shell {
             | Verb::Quit => return Ok(false),
             Verb::Verify => self.verify(state),
             Verb::Parts => self.parts(state),
+            Verb::Rests => self.rests(state),
             Verb::OldTree => self.take_old(state),
             Verb::Page => self.note_page(),
             Verb::Root => self.note_root(),
@@ -136,6 +137,21 @@ impl Shell {
         let pid = Pid(self.lines.arguments.number());
         let pushed = push_parts(state.pages(), pid, &mut self.lines.out.text);
         answered(pushed)
+    }
+
+    // Says of a page what all its keys begin with, and what each of them has behind that.
+    fn rests(&mut self, state: &State) -> Result<()> {
+        let pid = Pid(self.lines.arguments.number());
+        let out = &mut self.lines.out;
+        match state.pages().read(self.lines.alloc, pid) {
+            Ok(Some(view)) => {
+                let pushed = push_rests(&view.node, &mut out.text);
+                drop(view);
+                answered(pushed)
+            }
+            Ok(None) => tell(out, &[Text(b"none\n")]),
+            Err(error) => tell_refused(out, error),
+        }
     }
 
     fn version(&mut self) -> Result<()> {
