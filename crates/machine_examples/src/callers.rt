@@ -17,7 +17,7 @@ ghost use Rattle.machine_examples.specs.Callers.{ReadsAs, HasTurns, PutsOne, lat
 use sled::{Db, crash_pages, empty_pages};
 use sled_calls::Machine;
 use sled_model::{Call, MergeOperator, Outcome, Slot, Tree};
-use sled_nodes::{Error, IVec, Result};
+use sled_nodes::{Error, IVec, Result, clone_pair};
 use sled_pages::MemPages;
 use sled_store::Pages;
 use std::alloc::Global;
@@ -26,8 +26,8 @@ use std::alloc::Global;
 fn insert_of(key: &IVec, value: &IVec) -> Result<Call>
     ensures { IfOk result (λ made. made ≡ call.Insert key.now value.now) }
 {
-    let key = key.clone()?;
-    Ok(Call::Insert(key, value.clone()?))
+    let (key, value) = clone_pair(key, value)?;
+    Ok(Call::Insert(key, value))
 }
 
 /// Inserts a pair into a tree, and gets its key then: how the get came out, or `None` where the insert was not decided, which

@@ -3,20 +3,8 @@
 use shell_words::arguments::value_at;
 use shell_words::table::Verb;
 use sled_model::Collection;
-use sled_nodes::{IVec, Result};
+use sled_nodes::{IVec, Result, clone_pair};
 use std::alloc::Global;
-
-// The same key and value.
-fn pair_of(key: &IVec, value: &IVec) -> Result<(IVec, IVec)> {
-    let key = key.clone()?;
-    match value.clone() {
-        Ok(value) => Ok((key, value)),
-        Err(error) => {
-            drop(key);
-            Err(error)
-        }
-    }
-}
 
 // The pairs that keys and values are in turn.
 fn pairs_of(alloc: Global, values: &[Option<IVec>]) -> Result<Vec<(IVec, IVec)>> {
@@ -26,7 +14,7 @@ fn pairs_of(alloc: Global, values: &[Option<IVec>]) -> Result<Vec<(IVec, IVec)>>
         let [Some(key), Some(value), others @ ..] = rest else {
             break;
         };
-        pairs.push(pair_of(key, value)?)?;
+        pairs.push(clone_pair(key, value)?)?;
         rest = others;
     }
     Ok(pairs)

@@ -2,13 +2,13 @@
 
 use line_words::input::Stopped;
 use line_words::print::Piece::{Text, Word};
-use shell_words::look::{Look, Side, lend, read_bound};
+use shell_words::look::{Look, Side, read_bound};
 use shell_words::tell::{
     Result, Told, answered, bytes_of, tell, tell_numbered, tell_refused, tell_whether,
 };
 use sled::{Db, Iter};
 use sled_model::{MergeOperator, Tree};
-use sled_nodes::{Error, IVec};
+use sled_nodes::{Error, IVec, lend_bound};
 use sled_store::Pages;
 use std::alloc::Global;
 use std::iter::{DoubleEndedIterator, Iterator};
@@ -242,7 +242,7 @@ fn look_between<P: Pages, M: MergeOperator>(
             return Err(stopped);
         }
     };
-    let told = tell_range(out, db.range(tree, lend(&lo), lend(&hi)), look);
+    let told = tell_range(out, db.range(tree, lend_bound(&lo), lend_bound(&hi)), look);
     drop(lo);
     drop(hi);
     told

@@ -2,14 +2,14 @@
 
 use crate::how::takes_bytes;
 use crate::image::check_page;
-use crate::look::{lend, read_bound};
+use crate::look::read_bound;
 use crate::operators::operator_of;
 use crate::script::{Reach, check_script};
 use crate::words::{NO_BYTES, NO_NUMBER, find, is_semicolon, quote, was_read, words_of};
 use line_words::print::Piece::Text;
 use line_words::print::{push_pieces, push_text};
 use line_words::words::{read_number, read_value, read_word};
-use sled_nodes::{IVec, Result};
+use sled_nodes::{IVec, Result, lend_bound};
 use std::alloc::Global;
 use std::ops::Bound;
 
@@ -72,7 +72,7 @@ impl Arguments {
     /// The bound in this place.
     pub fn bound(&self, place: usize) -> Bound<&[u8]> {
         match self.bounds.get(place) {
-            Some(bound) => lend(bound),
+            Some(bound) => lend_bound(bound),
             None => Bound::Unbounded,
         }
     }

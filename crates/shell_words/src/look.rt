@@ -75,15 +75,6 @@ pub fn read_bound(alloc: Global, word: &[u8]) -> Answer<Option<Bound<IVec>>> {
     }
 }
 
-/// A bound, lent.
-pub fn lend(bound: &Bound<IVec>) -> Bound<&[u8]> {
-    match bound {
-        Bound::Included(key) => Bound::Included(key.as_ref()),
-        Bound::Excluded(key) => Bound::Excluded(key.as_ref()),
-        Bound::Unbounded => Bound::Unbounded,
-    }
-}
-
 // Whether a word is a bound.
 fn is_bound(alloc: Global, word: &[u8]) -> Answer<bool> {
     Ok(was_read(read_bound(alloc, word)?))

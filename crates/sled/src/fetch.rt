@@ -9,7 +9,7 @@ ghost use Rattle.sled.specs.Fetch.{Answers, Stands};
 
 use crate::db::Db;
 use sled_model::{Call, MergeOperator, Tree};
-use sled_nodes::{Error, IVec, Result};
+use sled_nodes::{Error, IVec, Result, clone_value};
 use sled_store::Pages;
 use std::alloc::{AllocError, Global};
 
@@ -42,31 +42,20 @@ fn value_of(alloc: Global, bytes: Option<Vec<u8>>) -> Result<Option<IVec>>
     }
 }
 
-// The same value, or none. Refused with `NoMemory` alone.
-fn copy_of(value: &Option<IVec>) -> Result<Option<IVec>>
-    ensures ok { IfOk result (λ copy. copy ≡ value.now) }
-    ensures err { IfErr result (λ e. e ≡ NoMemory) }
-{
-    match value {
-        Some(value) => Ok(Some(value.clone()?)),
-        None => Ok(None),
-    }
-}
-
 // The call that swaps the one value for the other at a key.
 fn swap_of(alloc: Global, key: &[u8], stood: &Option<IVec>, made: &Option<IVec>) -> Result<Call>
     ensures ok { IfOk result (λ swap. swap ≡ call.CompareAndSwap key.now stood.now made.now) }
     ensures err { IfErr result (λ e. e ≡ NoMemory) }
 {
     let key = IVec::from_slice(alloc, key)?;
-    let stood = match copy_of(stood) {
+    let stood = match clone_value(stood) {
         Ok(stood) => stood,
         Err(e) => {
             drop(key);
             return Err(e);
         }
     };
-    match copy_of(made) {
+    match clone_value(made) {
         Ok(made) => Ok(Call::CompareAndSwap(key, stood, made)),
         Err(e) => {
             drop(key);

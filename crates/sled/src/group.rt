@@ -28,7 +28,7 @@ use crate::db::Db;
 use sled_batch::Batch;
 use sled_model::{Event, MergeOperator, Tree};
 use sled_nodes::texts::HANDLE_OF_ANOTHER_DATABASE;
-use sled_nodes::{Error, IVec, Pid, Result, Version};
+use sled_nodes::{Error, IVec, Pid, Result, Version, clone_pair};
 use sled_queues::Queues;
 use sled_store::{Pages, View};
 use std::alloc::Global;
@@ -84,14 +84,8 @@ fn inserted(key: &IVec, value: &IVec) -> Result<Event>
     ensures ok { IfOk result (λ made. made ≡ event.Insert key.now value.now) }
     ensures err { IfErr result (λ e. e ≡ NoMemory) }
 {
-    let key = key.clone()?;
-    match value.clone() {
-        Ok(value) => Ok(Event::Insert { key, value }),
-        Err(e) => {
-            drop(key);
-            Err(e)
-        }
-    }
+    let (key, value) = clone_pair(key, value)?;
+    Ok(Event::Insert { key, value })
 }
 
 // Prepares the events of writes that each change something. Refused, some of them may be prepared.

@@ -5,7 +5,6 @@ ghost use Rattle.std.specs.declared.ops.Bound.TheVariants.{Excluded, Unbounded};
 ghost use Rattle.sled_nodes.specs.Among.{bound_of, IsSuccessor, IsPredecessor};
 ghost use Rattle.sled_nodes.specs.Order.{key_cmp};
 ghost use Rattle.sled_store.specs.Store.{now};
-ghost use Rattle.sled_nodes.specs.declared.error.Error.TheVariants.{NoMemory};
 ghost use Rattle.sled_model.specs.Refusal.{must_refuse_of};
 ghost use Rattle.tree_reads.specs.Walk.{once, for_each};
 ghost use Rattle.tree_reads.specs.Ranges.{IsRoot};
@@ -14,23 +13,10 @@ ghost use Rattle.sled.specs.Reads.{ReadsMap, BeginsRange, BeginsWith, RefusesRea
 
 use crate::db::Db;
 use sled_model::{MergeOperator, Tree};
-use sled_nodes::{Error, IVec, Pid, Result};
+use sled_nodes::{IVec, Pid, Result, own_bound};
 use sled_store::Pages;
-use std::alloc::Global;
 use std::ops::Bound;
 use tree_reads::{Iter, above_prefix, count_pairs, first_from, last_up_to, pairs_of, value_at};
-
-// A bound of one's own. Refused with `NoMemory` alone.
-fn owned(alloc: Global, bound: Bound<&[u8]>) -> Result<Bound<IVec>>
-    ensures ok { IfOk result (λ own. own ≡ bound_of bound.entry) }
-    ensures err { IfErr result (λ e. e ≡ NoMemory) }
-{
-    match bound {
-        Bound::Included(key) => Ok(Bound::Included(IVec::from_slice(alloc, key)?)),
-        Bound::Excluded(key) => Ok(Bound::Excluded(IVec::from_slice(alloc, key)?)),
-        Bound::Unbounded => Ok(Bound::Unbounded),
-    }
-}
 
 impl<P: Pages, M: MergeOperator> Db<P, M> {
     ghost use Rattle.sled.specs.Values.{db_state};
@@ -251,11 +237,11 @@ impl<P: Pages, M: MergeOperator> Db<P, M> {
             Ok(root) => root,
             Err(e) => return Err(e),
         };
-        let lo = match owned(self.alloc, lo) {
+        let lo = match own_bound(self.alloc, lo) {
             Ok(lo) => lo,
             Err(e) => return Err(e),
         };
-        let hi = match owned(self.alloc, hi) {
+        let hi = match own_bound(self.alloc, hi) {
             Ok(hi) => hi,
             Err(e) => {
                 drop(lo);

@@ -14,7 +14,7 @@ ghost use Rattle.sled.specs.Opens.{OpensBySteps, OpenRefusedBySteps};
 use crate::db::Db;
 use sled_model::{MergeOperator, Reply, Tree};
 use sled_nodes::texts::NUMBERS_USED_UP;
-use sled_nodes::{Error, IVec, Result};
+use sled_nodes::{Error, IVec, Result, clone_pair};
 use sled_store::Pages;
 use tree_pages::number_of;
 
@@ -23,14 +23,7 @@ fn pair_told(pair: &(IVec, IVec)) -> Result<Reply>
     ensures ok { IfOk result (λ told. told ≡ Pair (Some pair.now)) }
     ensures err { IfErr result (λ e. e ≡ NoMemory) }
 {
-    let key = pair.0.clone()?;
-    match pair.1.clone() {
-        Ok(value) => Ok(Reply::Pair(Some((key, value)))),
-        Err(e) => {
-            drop(key);
-            Err(e)
-        }
-    }
+    Ok(Reply::Pair(Some(clone_pair(&pair.0, &pair.1)?)))
 }
 
 // The same twice.

@@ -9,7 +9,7 @@ ghost use Rattle.sled_nodes.specs.Order.{key_cmp};
 ghost use Rattle.sled_batch.specs.Batch.{Rises};
 ghost use Rattle.sled_nodes.specs.declared.error.Error.TheVariants.{NoMemory};
 
-use sled_nodes::{Error, IVec, Result};
+use sled_nodes::{Error, IVec, Result, clone_value};
 use std::alloc::Global;
 use std::collections::BTreeMap;
 use std::marker::Model;
@@ -131,10 +131,7 @@ impl Batch {
         ensures ok { OnOk result (self.new ≡ put key_cmp key.now value.now self.old) }
         ensures cause { IfErr result (λ e. e ≡ NoMemory) }
     {
-        let value = match value {
-            Some(value) => Some(value.clone()?),
-            None => None,
-        };
+        let value = clone_value(value)?;
         match key.clone() {
             Ok(key) => self.write(key, value),
             Err(e) => {

@@ -11,12 +11,11 @@ ghost use Rattle.sled_model.specs.declared.call.Call.TheVariants.{Get, Insert, R
 ghost use Rattle.sled_model.specs.declared.call.Whole.TheVariants.{Group, Import, Watch};
 
 use crate::batches::copied_batches;
-use crate::collection::{Collection, copied_collections, copied_pair};
-use crate::reply::clone_value;
+use crate::collection::{Collection, copied_collections};
 use crate::subscriber::Subscriber;
 use crate::tree::Tree;
 use sled_batch::Batch;
-use sled_nodes::{IVec, Result};
+use sled_nodes::{IVec, Result, clone_pair, clone_value, own_bound};
 use std::alloc::Global;
 use std::ops::Bound;
 
@@ -254,13 +253,13 @@ impl Call {
         match self {
             Call::Get(key) => Ok(Call::Get(key.clone()?)),
             Call::Insert(key, value) => {
-                let (key, value) = copied_pair(key, value)?;
+                let (key, value) = clone_pair(key, value)?;
                 Ok(Call::Insert(key, value))
             }
             Call::Remove(key) => Ok(Call::Remove(key.clone()?)),
             Call::CompareAndSwap(key, old, new) => copied_swap(key, old, new),
             Call::Merge(key, bytes) => {
-                let (key, bytes) = copied_pair(key, bytes)?;
+                let (key, bytes) = clone_pair(key, bytes)?;
                 Ok(Call::Merge(key, bytes))
             }
             Call::Scan { lo, hi, back } => copied_scan(lo, hi, *back),
@@ -291,18 +290,6 @@ fn own_pair(alloc: Global, key: &[u8], value: &[u8]) -> Result<(IVec, IVec)>
             drop(key);
             Err(e)
         }
-    }
-}
-
-// A bound of one's own.
-fn own_bound(alloc: Global, bound: Bound<&[u8]>) -> Result<Bound<IVec>>
-    ensures ok { IfOk result (λ own. own ≡ bound_of bound.entry) }
-    ensures err { IfErr result (λ e. e ≡ NoMemory) }
-{
-    match bound {
-        Bound::Included(key) => Ok(Bound::Included(IVec::from_slice(alloc, key)?)),
-        Bound::Excluded(key) => Ok(Bound::Excluded(IVec::from_slice(alloc, key)?)),
-        Bound::Unbounded => Ok(Bound::Unbounded),
     }
 }
 

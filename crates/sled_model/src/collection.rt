@@ -3,7 +3,7 @@ ghost use Rattle.std.specs.Prelude.{◌≡◌, IfOk, IfErr};
 ghost use Rattle.sled_nodes.specs.declared.error.Error.TheVariants.{NoMemory};
 ghost use Rattle.sled_model.specs.Collections.{content_of, contents_of};
 
-use sled_nodes::{IVec, Result};
+use sled_nodes::{IVec, Result, clone_pair};
 
 /// What an export has of a tree, and an import makes of one: the type of collection, which is `tree`, the tree's name, and its
 /// pairs.
@@ -17,16 +17,6 @@ fn copied_bytes(bytes: &Vec<u8>) -> Result<Vec<u8>>
     Ok(Vec::from_slice(*bytes.allocator(), bytes.as_slice())?)
 }
 
-// The same key and value.
-pub(crate) fn copied_pair(key: &IVec, value: &IVec) -> Result<(IVec, IVec)>
-    ensures ok { IfOk result (λ copy. copy ≡ (key.now, value.now)) }
-    ensures err { IfErr result (λ e. e ≡ NoMemory) }
-{
-    let key = key.clone()?;
-    let value = value.clone()?;
-    Ok((key, value))
-}
-
 // The same pairs.
 fn copied_pairs(pairs: &Vec<(IVec, IVec)>) -> Result<Vec<(IVec, IVec)>>
     ensures ok { IfOk result (λ copy. copy.items ≡ pairs.now.items) }
@@ -34,7 +24,7 @@ fn copied_pairs(pairs: &Vec<(IVec, IVec)>) -> Result<Vec<(IVec, IVec)>>
 {
     let mut copy = Vec::with_capacity(*pairs.allocator(), pairs.len())?;
     for pair in pairs {
-        copy.push(copied_pair(&pair.0, &pair.1)?)?;
+        copy.push(clone_pair(&pair.0, &pair.1)?)?;
     }
     Ok(copy)
 }

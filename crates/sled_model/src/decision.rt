@@ -4,9 +4,8 @@ ghost use Rattle.std.specs.Option.{option_map, option_copied};
 ghost use Rattle.sled_nodes.specs.declared.error.Error.TheVariants.{NoMemory};
 ghost use Rattle.sled_model.specs.Answer.{ReadDecides, decision_of, decision_of_swap, decision_of_merge, decision_of_write, reply_of_swap};
 
-use crate::reply::clone_value;
 use crate::{Call, CompareAndSwapError, MergeOperator, Reply};
-use sled_nodes::{Error, IVec, Result};
+use sled_nodes::{Error, IVec, Result, clone_value};
 use std::alloc::Global;
 
 /// What becomes of the value at a key.

@@ -3,7 +3,7 @@ ghost use Rattle.std.specs.Prelude.{◌≡◌, IfOk, IfErr};
 ghost use Rattle.sled_nodes.specs.declared.error.Error.TheVariants.{NoMemory};
 ghost use Rattle.sled_model.specs.Event.{key_of_event};
 
-use sled_nodes::{IVec, Result};
+use sled_nodes::{IVec, Result, clone_pair};
 
 /// A change of one key.
 #[derive(Debug, Drop, PartialEq, Eq, PartialOrd, Ord)]
@@ -49,10 +49,10 @@ impl Event {
         ensures err { IfErr result (λ e. e ≡ NoMemory) }
     {
         match self {
-            Event::Insert { key, value } => Ok(Event::Insert {
-                key: key.clone()?,
-                value: value.clone()?,
-            }),
+            Event::Insert { key, value } => {
+                let (key, value) = clone_pair(key, value)?;
+                Ok(Event::Insert { key, value })
+            }
             Event::Remove { key } => Ok(Event::Remove { key: key.clone()? }),
         }
     }

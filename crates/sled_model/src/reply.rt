@@ -2,11 +2,10 @@
 ghost use Rattle.std.specs.Prelude.{◌≡◌, IfOk, IfErr};
 ghost use Rattle.sled_nodes.specs.declared.error.Error.TheVariants.{NoMemory};
 
-use crate::collection::copied_pair;
 use crate::event::Next;
 use crate::subscriber::Subscriber;
 use crate::tree::Tree;
-use sled_nodes::{IVec, Result};
+use sled_nodes::{IVec, Result, clone_pair, clone_value};
 use std::fmt::{self, Display, Formatter, Write};
 
 /// Why a value was not swapped: another one stood at the key. Nothing was written.
@@ -85,7 +84,7 @@ impl Reply {
             Reply::Number(number) => Ok(Reply::Number(*number)),
             Reply::End => Ok(Reply::End),
             Reply::Done => Ok(Reply::Done),
-            Reply::Pair(pair) => Ok(Reply::Pair(clone_pair(pair)?)),
+            Reply::Pair(pair) => Ok(Reply::Pair(copied_pair(pair)?)),
             Reply::Tree(tree) => Ok(Reply::Tree(tree.clone()?)),
             Reply::Flag(flag) => Ok(Reply::Flag(*flag)),
             Reply::Subscriber(subscriber) => Ok(Reply::Subscriber(Subscriber(subscriber.0))),
@@ -95,14 +94,14 @@ impl Reply {
 }
 
 // The same pair, if there is one.
-fn clone_pair(pair: &Option<(IVec, IVec)>) -> Result<Option<(IVec, IVec)>>
+fn copied_pair(pair: &Option<(IVec, IVec)>) -> Result<Option<(IVec, IVec)>>
     ensures ok { IfOk result (λ copy. copy ≡ pair.now) }
     ensures err { IfErr result (λ e. e ≡ NoMemory) }
 {
     let Some((key, value)) = pair else {
         return Ok(None);
     };
-    Ok(Some(copied_pair(key, value)?))
+    Ok(Some(clone_pair(key, value)?))
 }
 
 // What a subscriber is told, if it is told something.
@@ -113,17 +112,6 @@ fn clone_next(next: &Option<Next>) -> Result<Option<Next>>
     match next {
         Some(Next::Event(event)) => Ok(Some(Next::Event(event.clone()?))),
         Some(Next::Missed(count)) => Ok(Some(Next::Missed(*count))),
-        None => Ok(None),
-    }
-}
-
-// The same value, if there is one.
-pub(crate) fn clone_value(value: &Option<IVec>) -> Result<Option<IVec>>
-    ensures ok { IfOk result (λ copy. copy ≡ value.now) }
-    ensures err { IfErr result (λ e. e ≡ NoMemory) }
-{
-    match value {
-        Some(value) => Ok(Some(value.clone()?)),
         None => Ok(None),
     }
 }

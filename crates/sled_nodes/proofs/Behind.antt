@@ -10,7 +10,7 @@ use Rattle.std.specs.declared.cmp.Ordering.{Ordering}
 use Rattle.std.specs.declared.cmp.Ordering.TheVariants.{Less, Equal, Greater}
 use Rattle.std.specs.FinMap.Entries.{put, find, by_order}
 use Rattle.sled_nodes.specs.Order.{Key}
-use Rattle.sled_nodes.specs.theory.Stripped.{behind}
+use Rattle.sled_nodes.specs.Prefix.{behind}
 use Rattle.sled_nodes.specs.theory.Places.{IsFirstAt, IsLastAt}
 use Rattle.sled_nodes.specs.theory.Rising.{IsOut}
 use Rattle.sled_nodes.proofs.Prefixes.{cmp_behind}

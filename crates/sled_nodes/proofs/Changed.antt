@@ -8,8 +8,8 @@ use Rattle.std.proofs.lemmas.List.{length-drop}
 use Rattle.std.proofs.Math.Seq.{take-length}
 use Rattle.sled_nodes.specs.theory.Rising.{IsOut}
 use Rattle.sled_nodes.specs.Order.{Key}
-use Rattle.sled_nodes.specs.Prefix.{prefix_of}
-use Rattle.sled_nodes.specs.theory.Stripped.{behind, IsStripped, IsRest}
+use Rattle.sled_nodes.specs.Prefix.{prefix_of, behind, IsStripped}
+use Rattle.sled_nodes.specs.theory.Stripped.{IsRest}
 use Rattle.sled_nodes.proofs.Prefixes.{prefix_is, put_stripped}
 use Rattle.sled_nodes.proofs.Behind.{put_behind, remove_behind, take_behind, drop_behind}
 

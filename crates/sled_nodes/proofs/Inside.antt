@@ -8,7 +8,7 @@ use Rattle.std.specs.Option.{option_map}
 use Rattle.sled_nodes.specs.Order.{Key}
 use Rattle.sled_nodes.specs.Among.{is_up_to, is_from}
 use Rattle.sled_nodes.specs.Ranges.{is_in_range, pairs_in}
-use Rattle.sled_nodes.specs.theory.Stripped.{behind}
+use Rattle.sled_nodes.specs.Prefix.{behind}
 use Rattle.sled_nodes.specs.theory.Places.{IsPlaceOf}
 use Rattle.sled_nodes.proofs.Behind.{filter_behind, length_behind, append_behind}
 

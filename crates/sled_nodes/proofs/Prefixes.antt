@@ -15,11 +15,11 @@ use Rattle.std.specs.declared.cmp.Ordering.{Ordering}
 use Rattle.std.specs.declared.cmp.Ordering.TheVariants.{Less, Equal, Greater}
 use Rattle.std.specs.FinMap.Entries.{put, by_order}
 use Rattle.sled_nodes.specs.Order.{Key, key_cmp}
-use Rattle.sled_nodes.specs.Prefix.{shared, shared_with, prefix_of, cut, rests_of}
+use Rattle.sled_nodes.specs.Prefix.{shared, shared_with, prefix_of, cut, rests_of, behind, IsStripped}
 use Rattle.std.proofs.Common.{Bor, MatchBool}
 use Rattle.std.specs.declared.ops.Bound.{Bound}
 use Rattle.std.specs.declared.ops.Bound.TheVariants.{Unbounded}
-use Rattle.sled_nodes.specs.theory.Stripped.{behind, IsStripped, is_up_to_in, is_from_in}
+use Rattle.sled_nodes.specs.theory.Stripped.{is_up_to_in, is_from_in}
 
 -- a key begins with p
 abbrev pub Begins : Key → Key → Type 0

@@ -9,8 +9,7 @@ use Rattle.std.proofs.lemmas.List.{length-take-le}
 use Rattle.std.proofs.Math.Seq.{take-append_seam, take-suc, take-length}
 use Rattle.sled_nodes.specs.Order.{Key}
 use Rattle.sled_nodes.specs.Bytes.{padded}
-use Rattle.sled_nodes.specs.Prefix.{shared, shared_with, prefix_of}
-use Rattle.sled_nodes.specs.theory.Stripped.{behind}
+use Rattle.sled_nodes.specs.Prefix.{shared, shared_with, prefix_of, behind}
 use Rattle.sled_nodes.proofs.Fronts.{padded-over, length-padded}
 use Rattle.sled_nodes.proofs.Prefixes.{behind_nothing}
 use Rattle.sled_nodes.proofs.Changed.{rest_taken}

@@ -1,5 +1,5 @@
 -- What all keys of a list begin with, and the list without it.
-use Rattle.std.specs.Prelude.{ℕ, nat_eq, List, [], ◌∷◌, map, drop, length, if◌then◌else◌}
+use Rattle.std.specs.Prelude.{◌≡◌, ℕ, nat_eq, List, [], ◌∷◌, ◌++◌, map, drop, length, if◌then◌else◌}
 use Rattle.sled_nodes.specs.Order.{Key}
 
 -- what two byte strings both begin with, up to the first byte that differs
@@ -25,3 +25,12 @@ cut n es = map (λ e. (drop n e.0, e.1)) es
 -- each key's rest behind that beginning, with what stands at it
 abbrev pub rests_of : {X : Type 0} → List (Key × X) → List (Key × X)
 rests_of es = cut (length (prefix_of es)) es
+
+-- the entries with these bytes before each key
+abbrev pub behind : {X : Type 0} → Key → List (Key × X) → List (Key × X)
+behind p es = map (λ e. (p ++ e.0, e.1)) es
+
+-- nothing more can be taken from the keys, and of no entry nothing was
+pub record IsStripped {X : Type 0} (p : Key) (es : List (Key × X)) : Type 0 where
+  pub none : es ≡ [] → p ≡ []
+  pub apart : prefix_of es ≡ []

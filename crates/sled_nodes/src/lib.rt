@@ -8,6 +8,7 @@
 
 mod among;
 mod ascending;
+mod bounds;
 mod entries;
 mod error;
 mod held;
@@ -24,11 +25,12 @@ mod stripped;
 pub mod texts;
 
 pub use among::{is_from, is_up_to, key_is_up_to};
+pub use bounds::{lend_bound, own_bound};
 pub use error::{Error, Fault, Result};
 pub use ivec::IVec;
 pub use link::Link;
 pub use node::{Data, Index, Leaf, Node};
-pub use pairs::{put_pair, remove_key, value_at};
+pub use pairs::{clone_pair, clone_value, put_pair, remove_key, value_at};
 pub use pid::{Pid, Version};
 pub use ranges::is_reversed;
 pub use shared::Shared;

@@ -3,6 +3,7 @@ ghost use Rattle.std.specs.Prelude.{◌≡◌, IfOk, IfErr};
 ghost use Rattle.sled_nodes.specs.declared.error.Error.TheVariants.{NoMemory};
 
 use crate::error::Result;
+use crate::pairs::clone_pair;
 use crate::{IVec, Pid};
 
 /// A change of one page.
@@ -31,7 +32,10 @@ impl Link {
         ensures err { IfErr result (λ e. e ≡ NoMemory) }
     {
         match self {
-            Link::Set(key, value) => Ok(Link::Set(key.clone()?, value.clone()?)),
+            Link::Set(key, value) => {
+                let (key, value) = clone_pair(key, value)?;
+                Ok(Link::Set(key, value))
+            }
             Link::Del(key) => Ok(Link::Del(key.clone()?)),
             Link::ParentMergeIntention(child) => Ok(Link::ParentMergeIntention(*child)),
             Link::ParentMergeConfirm => Ok(Link::ParentMergeConfirm),

@@ -1,5 +1,5 @@
-//! Lists of pairs of a key and something else. One that ascends by key is searched by halves, any other from the front, and what
-//! is said holds of both.
+//! Pairs of a key and a value, copied; and lists of pairs of a key and something else. One that ascends by key is searched by
+//! halves, any other from the front, and what is said holds of both.
 ghost use Rattle.std.specs.Prelude.{◌≡◌, ◌≤◌, true, length, IfOk, IfErr, OnOk, OnErr, IfSome};
 ghost use Rattle.sled_nodes.specs.declared.error.Error.TheVariants.{NoMemory};
 ghost use Rattle.std.specs.FinMap.Entries.{put, find};
@@ -42,7 +42,11 @@ fn place<V>(pairs: &[(IVec, V)], key: &IVec, ascends: bool) -> std::result::Resu
     Err(pairs.len())
 }
 
-// The same key and value.
+/// The same key and value. Refused with `NoMemory` alone.
+///
+/// ```
+/// let (again, same) = clone_pair(&key, &value)?; // Of long ones the bytes are shared.
+/// ```
 pub fn clone_pair(key: &IVec, value: &IVec) -> Result<(IVec, IVec)>
     ensures ok { IfOk result (λ copy. copy ≡ (key.now, value.now)) }
     ensures err { IfErr result (λ e. e ≡ NoMemory) }
@@ -54,6 +58,23 @@ pub fn clone_pair(key: &IVec, value: &IVec) -> Result<(IVec, IVec)>
             drop(key);
             Err(e)
         }
+    }
+}
+
+/// The same value, or none. Refused with `NoMemory` alone.
+///
+/// ```
+/// let found = node.get(b"ulm")?;
+/// let same = clone_value(&found)?; // Of a long one the bytes are shared.
+/// ```
+#[inline(always)]
+pub fn clone_value(value: &Option<IVec>) -> Result<Option<IVec>>
+    ensures ok { IfOk result (λ copy. copy ≡ value.now) }
+    ensures err { IfErr result (λ e. e ≡ NoMemory) }
+{
+    match value {
+        Some(value) => Ok(Some(value.clone()?)),
+        None => Ok(None),
     }
 }
 

@@ -7,8 +7,8 @@ ghost use Rattle.std.specs.List.{list_any, list_all, remove, slice_get};
 ghost use Rattle.std.specs.Cmp.Lexicographic.{slice_cmp};
 ghost use Rattle.std.specs.Ordering.{nat_cmp, eq_by_cmp};
 ghost use Rattle.sled_nodes.specs.Among.{bound_of, is_up_to as within_upper, is_from as within_lower, IsSuccessor, IsPredecessor, IsPointerFor, IsPointerBefore};
-ghost use Rattle.sled_nodes.specs.Prefix.{prefix_of, rests_of};
-ghost use Rattle.sled_nodes.specs.theory.Stripped.{behind, IsStripped, IsEntry, IsRest};
+ghost use Rattle.sled_nodes.specs.Prefix.{prefix_of, rests_of, behind, IsStripped};
+ghost use Rattle.sled_nodes.specs.theory.Stripped.{IsEntry, IsRest};
 ghost use Rattle.sled_nodes.specs.Order.{Key, key_cmp};
 ghost use Rattle.sled_nodes.specs.Node.{unpointed, without};
 ghost use Rattle.sled_nodes.specs.Halves.{first_half, second_half, first_key};
@@ -49,7 +49,7 @@ impl<V: Drop> Drop for Stripped<V> {
 
 impl<V> Model for Stripped<V> {
     ghost use Rattle.std.specs.Prelude.{List, ℕ};
-    ghost use Rattle.sled_nodes.specs.theory.Stripped.{behind, IsStripped};
+    ghost use Rattle.sled_nodes.specs.Prefix.{behind, IsStripped};
 
     ghost Value = { List (List ℕ × V) };
 

@@ -9,7 +9,7 @@ ghost use Rattle.sled_tree.specs.theory.Linking.{IsAtLink, PreparesChange, Links
 
 use crate::flight::{InFlight, Job, Went};
 use sled_model::{Call, Decision, Effect, Event, MAX_LOOPS, MergeOperator, Reply};
-use sled_nodes::{Link, Node, Result};
+use sled_nodes::{Link, Node, Result, clone_pair};
 use sled_store::Pages;
 use std::alloc::Global;
 use tree_laws::flight::Stage;
@@ -85,14 +85,8 @@ pub fn event_of(link: &Link) -> Result<Event>
 {
     match link {
         Link::Set(key, value) => {
-            let key = key.clone()?;
-            match value.clone() {
-                Ok(value) => Ok(Event::Insert { key, value }),
-                Err(e) => {
-                    drop(key);
-                    Err(e)
-                }
-            }
+            let (key, value) = clone_pair(key, value)?;
+            Ok(Event::Insert { key, value })
         }
         Link::Del(key) => Ok(Event::Remove { key: key.clone()? }),
         _ => unreachable!(),

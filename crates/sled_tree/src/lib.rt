@@ -25,4 +25,4 @@ pub use tree_laws::flight::{
     Split, Stage, SwapRoot, Walk,
 };
 pub use tree_laws::half::Half;
-pub use walk::{lent, lies_under};
+pub use walk::lies_under;

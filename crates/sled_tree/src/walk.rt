@@ -27,7 +27,7 @@ ghost use Rattle.tree_laws.specs.declared.flight.Stage.TheVariants as variant;
 use crate::flight::{Aim, InFlight, Job, Sequel, Went};
 use crate::repair::repair;
 use sled_model::{Call, MAX_LOOPS, Reply};
-use sled_nodes::{Data, Error, IVec, Node, Pid, Result, key_is_up_to};
+use sled_nodes::{Data, Error, IVec, Node, Pid, Result, key_is_up_to, lend_bound};
 use sled_store::{Pages, View};
 use std::alloc::Global;
 use std::ops::Bound;
@@ -62,18 +62,6 @@ fn by_pointer(parent: View, first: bool) -> Reached
     }
 }
 
-/// A bound, lent.
-#[inline(always)]
-pub fn lent(bound: &Bound<IVec>) -> Bound<&[u8]>
-    ensures { bound_of result ≡ bound.now }
-{
-    match bound {
-        Bound::Included(key) => Bound::Included(key.as_ref()),
-        Bound::Excluded(key) => Bound::Excluded(key.as_ref()),
-        Bound::Unbounded => Bound::Unbounded,
-    }
-}
-
 // The key that a range begins at, from the least key up.
 fn start_of(bound: &Bound<IVec>) -> &[u8]
     ensures { result.now ≡ start_of bound.now }
@@ -93,7 +81,7 @@ fn first_aim(call: &Call) -> Bound<&[u8]>
     match call {
         Call::Scan { lo, hi, back } => {
             if *back {
-                lent(hi)
+                lend_bound(hi)
             } else {
                 Bound::Included(start_of(lo))
             }
@@ -109,7 +97,7 @@ pub(crate) fn target<'a>(job: &'a Job, aim: &'a Aim) -> Bound<&'a [u8]>
 {
     match aim {
         Aim::Own => first_aim(&job.call),
-        Aim::At(bound) => lent(bound),
+        Aim::At(bound) => lend_bound(bound),
     }
 }
 

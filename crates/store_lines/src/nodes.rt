@@ -4,8 +4,7 @@ ghost use Rattle.sled_nodes.specs.Node.{count};
 
 use crate::line::{Line, Print, Word, push_all, push_kept};
 use crate::text::Text;
-use shell_words::look::lend;
-use sled_nodes::{Data, IVec, Index, Leaf, Link, Node, Pid};
+use sled_nodes::{Data, IVec, Index, Leaf, Link, Node, Pid, lend_bound};
 use std::alloc::Global;
 use std::ops::Bound;
 
@@ -267,7 +266,7 @@ fn find_before(node: &Node, line: &mut Line) {
 fn find_pointer(node: &Node, line: &mut Line) {
     let bound = Word::read(line);
     if let Some(bound) = line.whole(bound) {
-        match node.pointer(lend(&bound)) {
+        match node.pointer(lend_bound(&bound)) {
             Some((pid, true)) => line.out.push_numbered("first", pid.0),
             Some((pid, false)) => line.out.push_numbered("later", pid.0),
             None => line.out.push("none"),
@@ -279,7 +278,7 @@ fn find_pointer(node: &Node, line: &mut Line) {
 fn find_pair(node: &Node, back: bool, line: &mut Line) {
     let bound = Word::read(line);
     if let Some(bound) = line.whole(bound) {
-        push_pair(&mut line.out, node, lend(&bound), back);
+        push_pair(&mut line.out, node, lend_bound(&bound), back);
         drop(bound);
     }
 }
@@ -336,7 +335,7 @@ fn is_found_near(
 fn find_within(node: &Node, back: bool, line: &mut Line) {
     let bounds = Word::read(line);
     if let Some((lo, hi)) = line.whole(bounds) {
-        push_within(&mut line.out, node, lend(&lo), lend(&hi), back);
+        push_within(&mut line.out, node, lend_bound(&lo), lend_bound(&hi), back);
         drop(lo);
         drop(hi);
     }

@@ -7,7 +7,7 @@ ghost use Rattle.tree_groups.specs.Writes.{fresh_call};
 ghost use Rattle.tree_groups.specs.theory.Groups.{link_with};
 
 use sled_model::{Call, Tree};
-use sled_nodes::{IVec, Link, Pid, Result, Version};
+use sled_nodes::{IVec, Link, Pid, Result, Version, clone_value};
 use sled_tree::InFlight;
 
 /// What a key of a tree is to have: a value, or none.
@@ -48,11 +48,8 @@ fn copies_of(key: &IVec, value: &Option<IVec>) -> Result<(IVec, Option<IVec>)>
         Ok(key) => key,
         Err(e) => return Err(e),
     };
-    let Some(value) = value else {
-        return Ok((key, None));
-    };
-    match value.clone() {
-        Ok(value) => Ok((key, Some(value))),
+    match clone_value(value) {
+        Ok(value) => Ok((key, value)),
         Err(e) => {
             drop(key);
             Err(e)

@@ -14,24 +14,13 @@ ghost use Rattle.tree_reads.specs.theory.Ranges.{Advances, Retreats, shown_of};
 
 use crate::nearest::{first_at, last_at};
 use crate::reads::{Reads, law_given};
-use sled_nodes::{IVec, Pid, Result, is_from, is_reversed, is_up_to};
+use sled_nodes::{IVec, Pid, Result, is_from, is_reversed, is_up_to, lend_bound};
 use sled_store::View;
 use std::alloc::Global;
 use std::iter::{DoubleEndedIterator, Iterator};
 use std::marker::Model;
 use std::mem;
 use std::ops::Bound;
-
-// A bound, lent.
-fn lend(bound: &Bound<IVec>) -> Bound<&[u8]>
-    ensures { bound_of result ≡ bound.now }
-{
-    match bound {
-        Bound::Included(key) => Bound::Included(key.as_ref()),
-        Bound::Excluded(key) => Bound::Excluded(key.as_ref()),
-        Bound::Unbounded => Bound::Unbounded,
-    }
-}
 
 // The bound becomes the key, excluded.
 fn move_to(bound: &mut Bound<IVec>, key: &IVec) -> Result<()>
@@ -61,7 +50,7 @@ fn first_within<R: Reads>(
     ensures kept { SeeksAt (now (R.store pages.now)) root lo.new hand.new }
 {
     law_given(pages);
-    let pair = match first_at(alloc, pages, root, hand, near, lend(lo)) {
+    let pair = match first_at(alloc, pages, root, hand, near, lend_bound(lo)) {
         Ok(Some(pair)) => pair,
         Ok(None) => return Ok(None),
         Err(e) => return Err(e),
@@ -96,7 +85,7 @@ fn last_within<R: Reads>(
     ensures kept { SeeksBackAt (now (R.store pages.now)) root hi.new hand.new }
 {
     law_given(pages);
-    let pair = match last_at(alloc, pages, root, hand, near, lend(hi)) {
+    let pair = match last_at(alloc, pages, root, hand, near, lend_bound(hi)) {
         Ok(Some(pair)) => pair,
         Ok(None) => return Ok(None),
         Err(e) => return Err(e),
@@ -159,7 +148,7 @@ pub fn pairs_of<'a, R: Reads>(
     ensures is { result ≡ record { pages = pages.now; root = root; pairs = pairs_within lo hi (pairs_under (nodes_of (now (R.store pages.now))) root); ended = ends_before lo hi } }
     ensures none { ends_before lo hi ≡ true → pairs_within lo hi (pairs_under (nodes_of (now (R.store pages.now))) root) ≡ [] }
 {
-    let ended = is_reversed(lend(&lo), lend(&hi));
+    let ended = is_reversed(lend_bound(&lo), lend_bound(&hi));
     Iter {
         alloc,
         pages,
@@ -208,7 +197,7 @@ impl<'a, R: Reads> Iterator for Iter<'a, R> {
             &mut self.front,
             &mut self.front_place,
             &mut self.lo,
-            lend(&self.hi),
+            lend_bound(&self.hi),
         ) {
             Ok(Some(pair)) => Some(Ok(pair)),
             Ok(None) => {
@@ -236,7 +225,7 @@ impl<'a, R: Reads> DoubleEndedIterator for Iter<'a, R> {
             self.root,
             &mut self.back,
             &mut self.back_place,
-            lend(&self.lo),
+            lend_bound(&self.lo),
             &mut self.hi,
         ) {
             Ok(Some(pair)) => Some(Ok(pair)),

@@ -14,9 +14,9 @@ ghost use Rattle.tree_scans.specs.Scans.{ScanStep, aim_behind, range_behind, res
 ghost use Rattle.tree_scans.specs.theory.Scans.{ComesBehind, ComesTo, IsRangeOf, range_between};
 
 use sled_model::{Call, MAX_LOOPS, MergeOperator, Reply};
-use sled_nodes::{Error, IVec, Node, Result, is_reversed};
+use sled_nodes::{Error, IVec, Node, Result, is_reversed, lend_bound};
 use sled_store::Pages;
-use sled_tree::{Aim, Giving, InFlight, Job, Stage, Went, lent};
+use sled_tree::{Aim, Giving, InFlight, Job, Stage, Went};
 use std::alloc::Global;
 use std::mem;
 use std::ops::Bound;
@@ -49,19 +49,19 @@ fn bounds_from<'a>(call: &'a Call, aim: &'a Aim) -> Bounds<'a>
     let Call::Scan { lo, hi, back } = call else {
         unreachable!();
     };
-    let (lo, hi, back) = (lent(lo), lent(hi), *back);
+    let (lo, hi, back) = (lend_bound(lo), lend_bound(hi), *back);
     match aim {
         Aim::Own => Bounds { lo, hi, back },
         Aim::At(bound) => {
             if back {
                 Bounds {
                     lo,
-                    hi: lent(bound),
+                    hi: lend_bound(bound),
                     back,
                 }
             } else {
                 Bounds {
-                    lo: lent(bound),
+                    lo: lend_bound(bound),
                     hi,
                     back,
                 }

@@ -10,7 +10,7 @@ ghost use Rattle.tree_transactions.specs.Overlays.{ReadsThrough, RefusesThrough,
 
 use sled_batch::Batch;
 use sled_nodes::texts::NO_ID_SET_ASIDE;
-use sled_nodes::{Error, IVec, Pid, Result};
+use sled_nodes::{Error, IVec, Pid, Result, clone_value};
 use sled_store::Pages;
 use std::alloc::Global;
 use tree_reads::value_at;
@@ -32,8 +32,7 @@ fn copy_written(written: Option<&Option<IVec>>) -> Result<Option<Option<IVec>>>
     ensures err { IfErr result (λ e. e ≡ NoMemory) }
 {
     match written {
-        Some(Some(value)) => Ok(Some(Some(value.clone()?))),
-        Some(None) => Ok(Some(None)),
+        Some(value) => Ok(Some(clone_value(value)?)),
         None => Ok(None),
     }
 }

@@ -1,7 +1,6 @@
 //! A map from keys of a type to values of a type, in a tree of a database. Both types are the user's own; each says how its values
 //! are spelled as byte strings.
 ghost use Rattle.std.specs.Prelude.{◌≡◌, ◌≢◌, List, OnOk, OnErr, IfOk, IfErr};
-ghost use Rattle.sled_nodes.specs.Among.{bound_of};
 ghost use Rattle.sled_model.specs.State.{maps_of};
 ghost use Rattle.sled.specs.Values.{db_state};
 ghost use Rattle.typed_map.specs.declared.typed.TypedError.TheVariants.{Foreign};
@@ -12,7 +11,7 @@ use crate::pairs::all_of;
 use crate::spelled::Spelled;
 use sled::Db;
 use sled_model::{MergeOperator, Tree};
-use sled_nodes::{Error, IVec, Result};
+use sled_nodes::{Error, IVec, Result, lend_bound};
 use sled_store::Pages;
 use std::alloc::Global;
 use std::ops::Bound;
@@ -169,16 +168,6 @@ fn spelled_bounds<K: Spelled>(
     }
 }
 
-fn borrowed(bound: &Bound<IVec>) -> Bound<&[u8]>
-    ensures { bound_of result ≡ bound.now }
-{
-    match bound {
-        Bound::Included(key) => Bound::Included(key.as_ref()),
-        Bound::Excluded(key) => Bound::Excluded(key.as_ref()),
-        Bound::Unbounded => Bound::Unbounded,
-    }
-}
-
 /// The entries within two bounds, in the order of their keys.
 pub fn walk<P: Pages, M: MergeOperator, K: Spelled, V: Spelled>(
     db: &Db<P, M>,
@@ -195,7 +184,7 @@ pub fn walk<P: Pages, M: MergeOperator, K: Spelled, V: Spelled>(
         Ok(bounds) => bounds,
         Err(e) => return Err(TypedError::Refused(e)),
     };
-    let range = db.range(tree, borrowed(&lo), borrowed(&hi));
+    let range = db.range(tree, lend_bound(&lo), lend_bound(&hi));
     drop(lo);
     drop(hi);
     let mut entries = match range {

@@ -1,5 +1,5 @@
 -- Entries without what their keys begin with.
-use Rattle.std.specs.Prelude.{◌≡◌, ℕ, length, slice_index_or, List, [], ◌++◌, map, Bool, false, Option, Some, None}
+use Rattle.std.specs.Prelude.{◌≡◌, ℕ, length, slice_index_or, List, [], ◌++◌, Bool, false, Option, Some, None}
 use Rattle.std.proofs.Common.{Bor}
 use Rattle.std.specs.declared.ops.Bound.{Bound}
 use Rattle.std.specs.declared.ops.Bound.TheVariants.{Included, Excluded, Unbounded}
@@ -7,15 +7,6 @@ use Rattle.sled_nodes.specs.Among.{bound_of, is_up_to, is_from}
 use Rattle.sled_nodes.specs.Order.{Key}
 use Rattle.sled_nodes.specs.Prefix.{prefix_of}
 use Rattle.sled_nodes.specs.theory.Fronts.{front}
-
--- the entries with these bytes before each key
-abbrev pub behind : {X : Type 0} → Key → List (Key × X) → List (Key × X)
-behind p es = map (λ e. (p ++ e.0, e.1)) es
-
--- nothing more can be taken from the keys, and of no entry nothing was
-pub record IsStripped {X : Type 0} (p : Key) (es : List (Key × X)) : Type 0 where
-  pub none : es ≡ [] → p ≡ []
-  pub apart : prefix_of es ≡ []
 
 -- within a bound of rests; where there is none, none is
 abbrev pub is_up_to_in : Option (Bound (Bor Key)) → Key → Bool

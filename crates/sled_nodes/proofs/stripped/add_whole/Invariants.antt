@@ -1,5 +1,5 @@
 use Rattle.std.proofs.Common.{◌≡◌, ◌++◌, take}
-use Rattle.sled_nodes.specs.theory.Stripped.{behind}
+use Rattle.sled_nodes.specs.Prefix.{behind}
 use Rattle.sled_nodes.proofs.stripped.add_whole.Given as goal
 
 abbrev pub invariant-loop-rest : goal.invariant-loop-rest

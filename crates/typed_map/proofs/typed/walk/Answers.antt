@@ -7,9 +7,9 @@ pub all_of-pairs-requires-after_bounds : goal.all_of-pairs-requires-after_bounds
 all_of-pairs-requires-after_bounds g c = λ κs lives. ends_empty g.P.Pages.store g.M.MergeOperator.meant _ _ g.K.Spelled.spelling g.V.Spelled.spelling g.met.K.Spelled.keeps_order _ _ _ c.in-Ok-range.ensures.ok
 
 pub returns-clause-ok : goal.returns-clause-ok
-returns-clause-ok g c = ok_weaker _ _ (λ found is. walks g.P.Pages.store g.M.MergeOperator.meant _ _ g.K.Spelled.spelling g.V.Spelled.spelling g.met.K.Spelled.keeps_order _ _ _ _ c.in-Ok.ensures.are_values.0 c.in-Ok.ensures.are_values.1 (c.borrowed.ensures ∙ c.in-Ok.ensures.lo) (c.borrowed-2.ensures ∙ c.in-Ok.ensures.hi)
+returns-clause-ok g c = ok_weaker _ _ (λ found is. walks g.P.Pages.store g.M.MergeOperator.meant _ _ g.K.Spelled.spelling g.V.Spelled.spelling g.met.K.Spelled.keeps_order _ _ _ _ c.in-Ok.ensures.are_values.0 c.in-Ok.ensures.are_values.1 (c.lend_bound.ensures ∙ c.in-Ok.ensures.lo) (c.lend_bound-2.ensures ∙ c.in-Ok.ensures.hi)
     c.in-Ok-range.entries c.in-Ok-range.ensures.ok _ (c.as_slice.ensures.value ∙ c.in-Ok-pairs.ensures.all) g.met.K.Spelled.one_to_one g.met.V.Spelled.one_to_one c.audit.ensures.ascend _ is) c.typed-found.result c.typed-found.ensures.ok
 
 pub returns-clause-foreign : goal.returns-clause-foreign
-returns-clause-foreign g c = err_weaker _ _ (λ e told is. walks_foreign g.P.Pages.store g.M.MergeOperator.meant _ _ g.K.Spelled.spelling g.V.Spelled.spelling g.met.K.Spelled.keeps_order _ _ _ _ c.in-Ok.ensures.are_values.0 c.in-Ok.ensures.are_values.1 (c.borrowed.ensures ∙ c.in-Ok.ensures.lo) (c.borrowed-2.ensures ∙ c.in-Ok.ensures.hi)
+returns-clause-foreign g c = err_weaker _ _ (λ e told is. walks_foreign g.P.Pages.store g.M.MergeOperator.meant _ _ g.K.Spelled.spelling g.V.Spelled.spelling g.met.K.Spelled.keeps_order _ _ _ _ c.in-Ok.ensures.are_values.0 c.in-Ok.ensures.are_values.1 (c.lend_bound.ensures ∙ c.in-Ok.ensures.lo) (c.lend_bound-2.ensures ∙ c.in-Ok.ensures.hi)
     c.in-Ok-range.entries c.in-Ok-range.ensures.ok _ (c.as_slice.ensures.value ∙ c.in-Ok-pairs.ensures.all) (told is)) c.typed-found.result c.typed-found.ensures.foreign

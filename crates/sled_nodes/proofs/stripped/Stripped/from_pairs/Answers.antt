@@ -1,5 +1,5 @@
 use Rattle.std.proofs.Common.{◌≡◌, ◌∙◌, ap, subst, IfOk}
-use Rattle.sled_nodes.specs.theory.Stripped.{behind}
+use Rattle.sled_nodes.specs.Prefix.{behind}
 use Rattle.sled_nodes.proofs.Prefixes.{behind_nothing}
 use Rattle.sled_nodes.proofs.stripped.Stripped.from_pairs.Goals as goal
 

@@ -1,6 +1,5 @@
 use Rattle.std.proofs.Common.{◌/◌, length, ap, ◌∙◌}
-use Rattle.sled_nodes.specs.Prefix.{prefix_of}
-use Rattle.sled_nodes.specs.theory.Stripped.{behind}
+use Rattle.sled_nodes.specs.Prefix.{prefix_of, behind}
 use Rattle.sled_nodes.proofs.Changed.{taken_is, dropped_is, front_taken, rest_taken}
 use Rattle.sled_nodes.proofs.stripped.Stripped.halves.Goals as goal
 

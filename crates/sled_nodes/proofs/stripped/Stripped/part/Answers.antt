@@ -1,5 +1,5 @@
 use Rattle.std.proofs.Common.{◌≡◌, ap, subst, sym, IfOk}
-use Rattle.sled_nodes.specs.theory.Stripped.{behind}
+use Rattle.sled_nodes.specs.Prefix.{behind}
 use Rattle.sled_nodes.proofs.Changed.{prefix_here}
 use Rattle.sled_nodes.proofs.stripped.Stripped.part.Goals as goal
 

@@ -1,6 +1,6 @@
 use Rattle.std.proofs.Common.{ap, sym, subst, ◌∙◌}
 use Rattle.std.specs.List.{remove}
-use Rattle.sled_nodes.specs.theory.Stripped.{IsStripped}
+use Rattle.sled_nodes.specs.Prefix.{IsStripped}
 use Rattle.sled_nodes.proofs.Changed.{removed_is}
 use Rattle.sled_nodes.proofs.stripped.Stripped.remove_at.Goals as goal
 
