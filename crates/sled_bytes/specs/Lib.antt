@@ -1,0 +1,3 @@
+pub mod Spelling
+pub mod Reading
+pub use Rattle.sled_nodes.specs as sled_nodes

@@ -1,0 +1,33 @@
+//! The bytes of a node and of a change of a store, and what bytes stand for.
+//!
+//! A number is eight bytes, the lowest first. A byte string is its length and its bytes. What may be absent has a byte before
+//! it, 1 where it is there and 0 where it is not. What is one of several kinds has its kind before it, one byte: 0 for a leaf and 1
+//! for an index, and from 1 on for links and changes (`specs/Spelling`). Reading is total: any bytes are a value and so many bytes
+//! that it takes, or have a first flaw (`specs/Reading`). What is written is read again, and what is read has just these bytes:
+//!
+//! ```
+//! let mut bytes = Vec::new(alloc);
+//! encode_change(&Change::Begun, &mut bytes)?;
+//! encode_change(&Change::Freed(pid), &mut bytes)?;
+//! encode_change(&Change::Sealed, &mut bytes)?;
+//! let changes = decode_changes(alloc, bytes.as_slice()); // These three.
+//! ```
+//!
+//! `encode_node` and `encode_change` refuse nothing but for memory: all lengths and numbers of a program have 64 bits.
+#![tactic(auto)]
+
+mod change;
+mod changes;
+mod fields;
+mod laws;
+mod links;
+mod reading;
+mod refusal;
+mod writing;
+
+pub use change::Change;
+pub use changes::{decode_change, decode_changes};
+pub use laws::{law_change, law_changes, law_node};
+pub use reading::decode_node;
+pub use refusal::{Flaw, Refusal};
+pub use writing::{encode_change, encode_node};
