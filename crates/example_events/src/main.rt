@@ -25,10 +25,8 @@ fn show(rt: &HostRuntime, db: &Db<MemPages>, events: &Tree, topic: &[u8]) -> sle
     let prefix = prefix_of(db.allocator(), topic)?;
     for event in db.scan_prefix(events, prefix.as_slice())? {
         let (key, text) = event?;
-        let Some(rest) = key.as_ref().strip_prefix(prefix.as_slice()) else {
-            continue;
-        };
-        if let Some((id, _)) = read_number(rest) {
+        let rest = key.as_ref().strip_prefix(prefix.as_slice());
+        if let Some((id, _)) = rest.and_then(|rest| read_number(rest)) {
             let _ = println!(rt; "  {id}: {}", text.as_ref().escape_ascii());
         }
     }
@@ -51,21 +49,17 @@ fn hear(rt: &HostRuntime, db: &mut Db<MemPages>, subscriber: &Subscriber) {
     }
 }
 
-fn run(rt: &HostRuntime, db: &mut Db<MemPages>) -> sled::Result<()> {
-    let events = db.open_tree(b"events")?;
-    let sport = prefix_of(db.allocator(), b"sport")?;
-    let subscriber = db.watch_prefix(&events, sport.as_slice())?;
-    append(db, &events, b"news", b"rain in Ulm")?;
-    append(db, &events, b"sport", b"Bern 2, Ulm 1")?;
-    append(db, &events, b"newsletter", b"all of May")?;
-    append(db, &events, b"news", b"sun in Bern")?;
-    hear(rt, db, &subscriber);
-    let _ = println!(rt; "news:");
-    show(rt, db, &events, b"news")
-}
-
 fn main(rt: HostRuntime) -> sled::Result<()> {
     let alloc = rt.alloc();
     let mut db = Db::open(alloc, empty_pages(alloc), b"events").map_err(|(_, e)| e)?;
-    run(&rt, &mut db)
+    let events = db.open_tree(b"events")?;
+    let sport = prefix_of(alloc, b"sport")?;
+    let subscriber = db.watch_prefix(&events, sport.as_slice())?;
+    append(&mut db, &events, b"news", b"rain in Ulm")?;
+    append(&mut db, &events, b"sport", b"Bern 2, Ulm 1")?;
+    append(&mut db, &events, b"newsletter", b"all of May")?;
+    append(&mut db, &events, b"news", b"sun in Bern")?;
+    hear(&rt, &mut db, &subscriber);
+    let _ = println!(rt; "news:");
+    show(&rt, &db, &events, b"news")
 }

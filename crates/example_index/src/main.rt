@@ -38,7 +38,9 @@ fn show(rt: &HostRuntime, db: &Db<MemPages>, tree: &Tree, name: &str) -> sled::R
     Ok(())
 }
 
-fn run(rt: &HostRuntime, db: &mut Db<MemPages>) -> sled::Result<()> {
+fn main(rt: HostRuntime) -> sled::Result<()> {
+    let alloc = rt.alloc();
+    let mut db = Db::open(alloc, empty_pages(alloc), b"users").map_err(|(_, e)| e)?;
     let users = db.open_tree(b"users")?;
     let emails = db.open_tree(b"emails")?;
     for (id, email) in [
@@ -47,16 +49,10 @@ fn run(rt: &HostRuntime, db: &mut Db<MemPages>) -> sled::Result<()> {
         (b"18", b"ada@ulm"),
         (b"17", b"eva@ulm"),
     ] {
-        let is_free = set_email(db, &users, &emails, id, email)?;
+        let is_free = set_email(&mut db, &users, &emails, id, email)?;
         let (id, email) = (id.escape_ascii(), email.escape_ascii());
         let _ = println!(rt; "{email} for {id}: {is_free}");
     }
-    show(rt, db, &users, "users")?;
-    show(rt, db, &emails, "emails")
-}
-
-fn main(rt: HostRuntime) -> sled::Result<()> {
-    let alloc = rt.alloc();
-    let mut db = Db::open(alloc, empty_pages(alloc), b"users").map_err(|(_, e)| e)?;
-    run(&rt, &mut db)
+    show(&rt, &db, &users, "users")?;
+    show(&rt, &db, &emails, "emails")
 }

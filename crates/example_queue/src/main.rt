@@ -3,7 +3,6 @@
 #![tactic(auto)]
 
 use sled::{Db, MemPages, TransactionError, TransactionResult, Tree, crash_pages, empty_pages};
-use std::alloc::Global;
 
 // Has the first job that is ready run.
 fn start(db: &mut Db<MemPages>, ready: &Tree, running: &Tree) -> sled::Result<()> {
@@ -32,31 +31,22 @@ fn work(db: &mut Db<MemPages>) -> sled::Result<()> {
     start(db, &ready, &running)
 }
 
-fn show(rt: &HostRuntime, db: &mut Db<MemPages>, name: &str) -> sled::Result<()> {
-    let tree = db.open_tree(name.as_bytes())?;
-    let _ = print!(rt; ", {name}:");
-    for job in db.iter(&tree)?.values() {
-        let _ = print!(rt; " {}", job?.as_ref().escape_ascii());
-    }
-    Ok(())
-}
-
-// Works, and shows what a crash leaves that keeps so many of the page actions since the flush.
-fn work_and_crash(rt: &HostRuntime, alloc: Global, keep: usize) -> sled::Result<()> {
-    let mut db = Db::open(alloc, empty_pages(alloc), b"jobs").map_err(|(_, e)| e)?;
-    work(&mut db)?;
-    let left = crash_pages(db.into_pages(), keep)?;
-    let mut db = Db::open(alloc, left, b"jobs").map_err(|(_, e)| e)?;
-    let _ = print!(rt; "{keep} actions kept");
-    show(rt, &mut db, "ready")?;
-    show(rt, &mut db, "running")?;
-    let _ = println!(rt; "");
-    Ok(())
-}
-
+// Shows what is left of the work by a crash that keeps so many of the page actions since the flush.
 fn main(rt: HostRuntime) -> sled::Result<()> {
     for keep in 0..9 {
-        work_and_crash(&rt, rt.alloc(), keep)?;
+        let mut db = Db::open(rt.alloc(), empty_pages(rt.alloc()), b"jobs").map_err(|(_, e)| e)?;
+        work(&mut db)?;
+        let left = crash_pages(db.into_pages(), keep)?;
+        let mut db = Db::open(rt.alloc(), left, b"jobs").map_err(|(_, e)| e)?;
+        let _ = print!(rt; "{keep} actions kept");
+        for name in ["ready", "running"] {
+            let tree = db.open_tree(name.as_bytes())?;
+            let _ = print!(rt; ", {name}:");
+            for job in db.iter(&tree)?.values() {
+                let _ = print!(rt; " {}", job?.as_ref().escape_ascii());
+            }
+        }
+        let _ = println!(rt; "");
     }
     Ok(())
 }

@@ -18,6 +18,8 @@ use Rattle.ordered_keys.specs.declared.part.Kind.{Kind}
 use Rattle.ordered_keys.specs.declared.part.Kind.TheVariants as kinds
 use Rattle.ordered_keys.specs.declared.part.Part.{Part}
 use Rattle.ordered_keys.specs.declared.part.Part.TheVariants.{Number, Text}
+use Rattle.typed_map.specs.Typed.{still_given}
+use Rattle.typed_map.proofs.Listing.{given_open}
 use Rattle.examples.specs.Index.{IsUnder, IsIndex, FindsUnder}
 
 -- what stands in a filtered list
@@ -97,7 +99,7 @@ module _ {P M : Type 0} (store : P → Store) (meant : M → Merge) (d : DbValue
       record { tested = r.tested; named = r.named; there = r.there; is = finds_under law number fits r.named.map prefix found same (is ∙ r.is) }
 
   -- all of a scan of the number's bytes
-  pub found_all_as : {V E : Type 0} (items : V → Map) (result : Result V E) → prefix ≡ spelled (Number number ∷ []) → Reads.BeginsWith store meant d tree prefix entries → IfOk result (λ found. items found ≡ entries.pairs)
+  pub found_all_as : {V E : Type 0} (items : V → Map) (result : Result V E) → prefix ≡ spelled (Number number ∷ []) → Reads.BeginsWith store meant d tree prefix entries → IfOk result (λ found. items found ≡ still_given entries)
       → IfOk result (λ found. AllByRecursion (λ e. IsBytes e.0) (items found)) → IfOk result (λ found. ReadsMap store meant d tree (λ map. FindsUnder number map (items found)))
-  found_all_as items (Ok found) same b is bytes = found_all (items found) same b is bytes
+  found_all_as items (Ok found) same b is bytes = found_all (items found) same b (is ∙ given_open entries b.ended) bytes
   found_all_as items (Err e) same b is bytes = tt

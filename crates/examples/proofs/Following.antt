@@ -36,6 +36,8 @@ use Rattle.sled_queues.specs.Events.{Turn, after_turns, taken_by, Stays}
 use Rattle.sled_queues.specs.Turns.{turns_of_event}
 use Rattle.sled_queues.specs.Trees.{IsTreeAfter}
 use Rattle.sled_queues.proofs.Copied.{copy_law, follows_law, after_both}
+use Rattle.typed_map.specs.Typed.{still_given}
+use Rattle.typed_map.proofs.Listing.{given_open}
 use Rattle.example_parts.proofs.Maps.{second_none}
 use Rattle.examples.proofs.Missing.{GivenBy, given_by, comes_fits, stands_after, some_missed, none_missed}
 use Rattle.examples.proofs.Turned.{copies_prefix}
@@ -310,10 +312,11 @@ fewer_to_come at_most old i new j some p is up = let c : CatchesUpBy at_most old
 
 -- the entries of a scan are a copy of what the tree has under the prefix
 module _ {P M : Type 0} (store : P → Store) (meant : M → Merge) (d : DbValue P M) (tree : Tree) (prefix : Key) (coming : Coming P) where
-  pub copies_scan : (pairs es : Map) → BeginsWith store meant d tree prefix coming → pairs ≡ coming.pairs → AllByRecursion (λ e. IsBytes e.0) pairs → HasSame es pairs → ReadsMap store meant d tree (IsCopy prefix es)
+  pub copies_scan : (pairs es : Map) → BeginsWith store meant d tree prefix coming → pairs ≡ still_given coming → AllByRecursion (λ e. IsBytes e.0) pairs → HasSame es pairs → ReadsMap store meant d tree (IsCopy prefix es)
   copies_scan pairs es b is bytes h =
-      let r = b.beginning (subst (λ m. AllByRecursion (λ e. IsBytes e.0) m) is bytes) in
-      record { tested = r.tested; named = r.named; there = r.there; is = copies_prefix prefix es r.named.map (record { has = λ q. h.has q ∙ ap (find key_cmp q) (is ∙ r.is) }) }
+      let all : pairs ≡ coming.pairs = is ∙ given_open coming b.ended in
+      let r = b.beginning (subst (λ m. AllByRecursion (λ e. IsBytes e.0) m) all bytes) in
+      record { tested = r.tested; named = r.named; there = r.there; is = copies_prefix prefix es r.named.map (record { has = λ q. h.has q ∙ ap (find key_cmp q) (all ∙ r.is) }) }
 
 -- a tree that passes the tests has its number
 number_is : (s : State) (tree : Tree) (named : NamedTree) → must_refuse_of s (tree ∷ []) ≡ None → s.trees tree.name ≡ Some named → named.number ≡ tree.number

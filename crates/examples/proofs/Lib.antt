@@ -12,3 +12,4 @@ pub mod Entering
 pub mod Stocking
 pub mod Loading
 pub mod Batched
+pub mod Outside

@@ -5,6 +5,7 @@ pub mod Counters
 pub mod Endings
 pub mod Stock
 pub mod Batches
+pub mod Ranges
 pub mod theory
 pub use Rattle.sled_nodes.specs as sled_nodes
 pub use Rattle.sled_store.specs as sled_store

@@ -1,8 +1,8 @@
 //! Callers of a database that are proved from public contracts alone, as a user would write them: what those contracts say is enough to
 //! build on. `index` is an example of a scan, `queue` of a database that takes pairs out, `copy` of one that gets the trees of another,
 //! `typed` of a type of one's own that keys of `typed_map` may have, `counters` of a merge operator and of a closure, `endings` of a subscriber that keeps
-//! an index, and begins anew where it missed events, `stock` of two trees that groups keep in step, and `batches` of many pairs that are
-//! loaded a hundred at a time.
+//! an index, and begins anew where it missed events, `stock` of two trees that groups keep in step, `batches` of many pairs that are
+//! loaded a hundred at a time, and `ranges` of keys that are removed by their bounds.
 #![tactic(auto)]
 
 mod batches;
@@ -11,6 +11,7 @@ mod counters;
 mod endings;
 mod index;
 mod queue;
+mod ranges;
 mod stock;
 mod typed;
 
@@ -21,5 +22,6 @@ pub use endings::{Endings, Progress, index_follows, law_still_follows};
 pub use example_parts::{Adds, number_at};
 pub use index::entries_under;
 pub use queue::{add, take};
+pub use ranges::keep_outside;
 pub use stock::{new_stock, open_part, open_stock, put_item, recover_stock, take_item};
 pub use typed::Reading;

@@ -7,6 +7,7 @@ use crate::events::reads_events;
 use crate::fresh::{Fresh, opened};
 use crate::index::finds_entries;
 use crate::jobs::{are_in_one, take_both, takes};
+use crate::ranges::keeps_outside;
 use crate::seen::Seen;
 use crate::stock::moves;
 use crate::transfers::{come_to_hundred, fill_till, pay_twice, pays};
@@ -27,6 +28,7 @@ pub enum Case {
     Follows,
     BeginsAnew,
     Moves,
+    KeepsOutside,
     Gives,
     Pays,
     Takes,
@@ -52,6 +54,7 @@ impl Case {
             Case::Follows => follows(trial),
             Case::BeginsAnew => begins_anew(trial),
             Case::Moves => moves(trial),
+            Case::KeepsOutside => keeps_outside(trial),
             Case::Gives => gives(trial),
             Case::Pays => pays(trial),
             Case::Takes => takes(trial),

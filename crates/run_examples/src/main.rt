@@ -15,6 +15,7 @@ mod fresh;
 mod index;
 mod jobs;
 mod pairs;
+mod ranges;
 mod seen;
 mod stock;
 mod stores;
@@ -93,6 +94,8 @@ fn run_more(lines: &mut Lines) {
     lines.tell_case(what, Case::BeginsAnew);
     let what = "items lie where they were put last";
     lines.tell_case(what, Case::Moves);
+    let what = "the pairs outside two bounds are left";
+    lines.tell_case(what, Case::KeepsOutside);
     let what = "an index agrees with its table after each crash and each refusal";
     lines.tell_throughout(what, STOCK);
     let what = "a crash leaves whole batches of a load";

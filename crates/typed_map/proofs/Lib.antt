@@ -1,3 +1,4 @@
 pub mod Typing
 pub mod Walking
 pub mod Listing
+pub mod Refusing

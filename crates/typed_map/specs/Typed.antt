@@ -1,5 +1,5 @@
 -- A map from keys of a type to values of a type, in a tree of a database.
-use Rattle.std.specs.Prelude.{◌≡◌, ◌≢◌, ◌&&◌, Bool, true, not, map, filter, List, [], Option, Some, None}
+use Rattle.std.specs.Prelude.{◌≡◌, ◌≢◌, ◌&&◌, ◌⊎◌, Bool, true, not, cond, map, filter, List, [], Option, Some, None}
 use Rattle.std.specs.FinMap.Entries.{find, put, is_sorted}
 use Rattle.std.specs.List.{AllByRecursion}
 use Rattle.std.specs.Ordering.{is_lt, is_gt}
@@ -11,7 +11,19 @@ use Rattle.ordered_keys.specs.Keys.{HasShape, spelled, parts_cmp}
 use Rattle.ordered_keys.specs.declared.part.Kind.{Kind}
 use Rattle.ordered_keys.specs.declared.part.Part.{Part}
 use Rattle.sled_nodes.specs.Order.{Key, key_cmp}
-use Rattle.sled_model.specs.Maps.{Map, Maps}
+use Rattle.sled_nodes.specs.declared.error.Error.{Error}
+use Rattle.sled_nodes.specs.declared.error.Error.TheVariants.{NoMemory}
+use Rattle.sled_store.specs.Store.{Store}
+use Rattle.sled_model.specs.Maps.{Map, Maps, Merge}
+use Rattle.sled_model.specs.declared.call.Call.TheVariants.{Insert}
+use Rattle.sled_model.specs.declared.tree.Tree.{Tree}
+use Rattle.tree_reads.specs.Ranges.{Coming}
+use Rattle.tree_reads.specs.Walk.{once}
+use Rattle.sled.specs.Values.{DbValue}
+use Rattle.sled.specs.Reads.{RefusesReading, GivesUpGet}
+use Rattle.sled.specs.Direct.{PointRefused}
+use Rattle.typed_map.specs.declared.typed.TypedError.{TypedError}
+use Rattle.typed_map.specs.declared.typed.TypedError.TheVariants.{Foreign, Refused}
 
 -- how the values of a type are spelled as byte strings: what is a value of it, the bytes, and the order of the values
 pub record Spelling (A : Type 0) : Type 1 where
@@ -75,3 +87,25 @@ module _ {K V : Type 0} (keys : Spelling K) (values : Spelling V) where
   -- something in the tree spells no entry
   pub record IsForeign (maps : Maps) (tree : Key) : Type 0 where
     pub is : (entries : List (K × V)) → IsTyped (pairs_in (maps tree)) entries → ⊥
+
+-- what an iterator still gives: nothing once it has ended
+abbrev pub still_given : {P : Type 0} → Coming P → Map
+still_given c = cond c.ended [] c.pairs
+
+-- something spells no value of the types, or there is this to say of what the database or the spelling refused
+abbrev pub refused_as : (Error → Type 0) → TypedError → Type 0
+refused_as why Foreign = Unit {0}
+refused_as why (Refused e) = why e
+
+module _ {P M : Type 0} (store : P → Store) (meant : M → Merge) where
+  -- refused for want of memory to spell the key or the value, and then nothing was done, or as an insert of their bytes is
+  pub record RefusesPut {K V : Type 0} (keys : Spelling K) (values : Spelling V) (old : DbValue P M) (tree : Tree) (key : K) (value : V) (e : Error) (new : DbValue P M) : Type 0 where
+    pub is : ((e ≡ NoMemory) × (new ≡ old)) ⊎ PointRefused store meant old tree (Insert (keys.bytes key) (values.bytes value)) e new
+
+  -- refused for want of memory, or as a get of the key's bytes is
+  pub record RefusesLookUp {K : Type 0} (keys : Spelling K) (d : DbValue P M) (tree : Tree) (key : K) (e : Error) : Type 0 where
+    pub is : (e ≡ NoMemory) ⊎ (RefusesReading store meant d tree once e × GivesUpGet store meant d tree (keys.bytes key) e)
+
+  -- refused for want of memory, or as the reading of the tree's pages from left to right is
+  pub record RefusesListing (d : DbValue P M) (tree : Tree) (e : Error) : Type 0 where
+    pub is : (e ≡ NoMemory) ⊎ RefusesReading store meant d tree once e

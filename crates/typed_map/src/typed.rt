@@ -2,10 +2,11 @@
 //! are spelled as byte strings.
 ghost use Rattle.std.specs.Prelude.{◌≡◌, ◌≢◌, List, OnOk, OnErr, IfOk, IfErr};
 ghost use Rattle.sled_model.specs.State.{maps_of};
+ghost use Rattle.sled_nodes.specs.declared.error.Error.TheVariants.{NoMemory};
 ghost use Rattle.sled.specs.Values.{db_state};
 ghost use Rattle.typed_map.specs.declared.typed.TypedError.TheVariants.{Foreign};
 ghost use Rattle.typed_map.specs.theory.Typed.{bounds_value, bound_bytes};
-ghost use Rattle.typed_map.specs.Typed.{bound_at, IsTyped, Puts, LooksUp, Walks, IsForeign};
+ghost use Rattle.typed_map.specs.Typed.{bound_at, IsTyped, Puts, LooksUp, Walks, IsForeign, refused_as, RefusesPut, RefusesLookUp, RefusesListing};
 
 use crate::pairs::all_of;
 use crate::spelled::Spelled;
@@ -38,7 +39,8 @@ impl From<Error> for TypedError {
 /// What a typed read answers.
 pub type TypedResult<T> = std::result::Result<T, TypedError>;
 
-/// Sets the value at a key: the tree's entries are those of before, with this one in its place. Refused, no map is changed.
+/// Sets the value at a key: the tree's entries are those of before, with this one in its place. Refused for want of memory to spell the
+/// two, and then nothing changes, or as `Db::insert` of their bytes is. No map is changed then.
 pub fn put<P: Pages, M: MergeOperator, K: Spelled, V: Spelled>(
     db: &mut Db<P, M>,
     tree: &Tree,
@@ -46,7 +48,8 @@ pub fn put<P: Pages, M: MergeOperator, K: Spelled, V: Spelled>(
     value: &V,
 ) -> Result<()>
     ensures ok { OnOk result (Puts K.spelling V.spelling (maps_of (db_state P.store M.meant db.old)) (maps_of (db_state P.store M.meant db.new)) tree.now.name key.now value.now) }
-    ensures err { OnErr result (maps_of (db_state P.store M.meant db.new) ≡ maps_of (db_state P.store M.meant db.old)) }
+    ensures stays { OnErr result (maps_of (db_state P.store M.meant db.new) ≡ maps_of (db_state P.store M.meant db.old)) }
+    ensures err { IfErr result (λ e. RefusesPut P.store M.meant K.spelling V.spelling db.old tree.now key.now value.now e db.new) }
 {
     db.audit();
     let key = match key.spell(db.allocator()) {
@@ -76,6 +79,7 @@ pub fn put<P: Pages, M: MergeOperator, K: Spelled, V: Spelled>(
 fn read_whole<A: Spelled>(alloc: Global, bytes: &[u8]) -> TypedResult<A>
     ensures ok { IfOk result (λ x. A.spelling.is_value x × (bytes.now ≡ A.spelling.bytes x)) }
     ensures foreign { IfErr result (λ e. e ≡ Foreign → (x : A) → A.spelling.is_value x → bytes.now ≢ A.spelling.bytes x) }
+    ensures err { IfErr result (refused_as (λ e. e ≡ NoMemory)) }
 {
     match A::read(alloc, bytes)? {
         Some(value) => Ok(value),
@@ -83,7 +87,8 @@ fn read_whole<A: Spelled>(alloc: Global, bytes: &[u8]) -> TypedResult<A>
     }
 }
 
-/// The value at a key, or `None` where it is absent.
+/// The value at a key, or `None` where it is absent. Refused as `Db::get` of the key's bytes is, for want of memory to spell the key or to
+/// read the value, or as `Foreign` where what stands there spells no value.
 pub fn look_up<P: Pages, M: MergeOperator, K: Spelled, V: Spelled>(
     db: &Db<P, M>,
     tree: &Tree,
@@ -91,6 +96,7 @@ pub fn look_up<P: Pages, M: MergeOperator, K: Spelled, V: Spelled>(
 ) -> TypedResult<Option<V>>
     ensures ok { IfOk result (LooksUp K.spelling V.spelling (maps_of (db_state P.store M.meant db.now)) tree.now.name key.now) }
     ensures foreign { IfErr result (λ e. e ≡ Foreign → IsForeign K.spelling V.spelling (maps_of (db_state P.store M.meant db.now)) tree.now.name) }
+    ensures err { IfErr result (refused_as (RefusesLookUp P.store M.meant K.spelling db.now tree.now key.now)) }
 {
     let key = match key.spell(db.allocator()) {
         Ok(key) => key,
@@ -115,6 +121,7 @@ pub fn look_up<P: Pages, M: MergeOperator, K: Spelled, V: Spelled>(
 fn typed<K: Spelled, V: Spelled>(alloc: Global, pairs: &[(IVec, IVec)]) -> TypedResult<Vec<(K, V)>>
     ensures ok { IfOk result (λ found. IsTyped K.spelling V.spelling pairs.now found.items) }
     ensures foreign { IfErr result (λ e. e ≡ Foreign → (entries : List (K × V)) → IsTyped K.spelling V.spelling pairs.now entries → ⊥) }
+    ensures err { IfErr result (refused_as (λ e. e ≡ NoMemory)) }
 {
     let mut found = Vec::new(alloc);
     'pairs: for pair in pairs {
@@ -136,6 +143,7 @@ fn typed<K: Spelled, V: Spelled>(alloc: Global, pairs: &[(IVec, IVec)]) -> Typed
 // The bytes of a bound.
 fn spelled_bound<K: Spelled>(alloc: Global, bound: Bound<&K>) -> Result<Bound<IVec>>
     ensures ok { IfOk result (λ made. made ≡ bound_bytes K.spelling (bound_at bound.entry)) }
+    ensures err { IfErr result (λ e. e ≡ NoMemory) }
     ensures are_values { bounds_value K.spelling (bound_at bound.entry) }
 {
     match bound {
@@ -153,6 +161,7 @@ fn spelled_bounds<K: Spelled>(
 ) -> Result<(Bound<IVec>, Bound<IVec>)>
     ensures lo { IfOk result (λ made. made.0 ≡ bound_bytes K.spelling (bound_at lo.entry)) }
     ensures hi { IfOk result (λ made. made.1 ≡ bound_bytes K.spelling (bound_at hi.entry)) }
+    ensures err { IfErr result (λ e. e ≡ NoMemory) }
     ensures are_values { OnOk result (bounds_value K.spelling (bound_at lo.entry) × bounds_value K.spelling (bound_at hi.entry)) }
 {
     let lo = match spelled_bound(alloc, lo) {
@@ -168,7 +177,8 @@ fn spelled_bounds<K: Spelled>(
     }
 }
 
-/// The entries within two bounds, in the order of their keys.
+/// The entries within two bounds, in the order of their keys. Refused as `Db::range` and what it gives are, for want of memory, or as
+/// `Foreign` where a pair within the bounds spells no entry.
 pub fn walk<P: Pages, M: MergeOperator, K: Spelled, V: Spelled>(
     db: &Db<P, M>,
     tree: &Tree,
@@ -177,6 +187,7 @@ pub fn walk<P: Pages, M: MergeOperator, K: Spelled, V: Spelled>(
 ) -> TypedResult<Vec<(K, V)>>
     ensures ok { IfOk result (λ found. Walks K.spelling V.spelling (maps_of (db_state P.store M.meant db.now)) tree.now.name (bound_at lo.entry) (bound_at hi.entry) found.items) }
     ensures foreign { IfErr result (λ e. e ≡ Foreign → IsForeign K.spelling V.spelling (maps_of (db_state P.store M.meant db.now)) tree.now.name) }
+    ensures err { IfErr result (refused_as (RefusesListing P.store M.meant db.now tree.now)) }
 {
     db.audit();
     let alloc = db.allocator();
