@@ -1,7 +1,7 @@
 //! A block more at the end of a log.
 ghost use Rattle.std.specs.Prelude.{◌≡◌, ◌<◌, ◌≤◌, ◌+◌, ◌^◌, ◌++◌, [], ◌∷◌, length, IfOk, IfErr, OnOk, Ok};
 ghost use Rattle.sled_disk.specs.Disk.{written, Torn, Only, LeavesOnly, HasCause};
-ghost use Rattle.sled_log.specs.Log.{opened, log_of};
+ghost use Rattle.sled_log.specs.Log.{opened, log_of, IsLog};
 ghost use Rattle.sled_log.specs.Append.{behind_gate, IsBlockFor, IsBeforeOrAfter};
 ghost use Rattle.sled_log.specs.Digest.{digest};
 ghost use Rattle.sled_disk.specs.declared.disk.DiskError.TheVariants.{NoMemory};
@@ -66,8 +66,9 @@ pub fn append<D: Disk>(disk: &mut D, gate: usize, block: &[u8]) -> Result<()>
     requires on_disk { Only (D.seen disk.old) (D.may_leave disk.old) }
     ensures written { OnOk result (D.seen disk.new ≡ written gate (opened ∷ []) (written (gate + 1) block.now (D.seen disk.old))) }
     ensures durable { OnOk result (Only (D.seen disk.new) (D.may_leave disk.new)) }
-    // Then the log has the new payload.
+    // Then the log has the new payload, and its closed gate stands behind the block.
     ensures acknowledged { OnOk result ((b : IsBlockFor (D.seen disk.old) gate block.now) → log_of b.digest (D.seen disk.new) ≡ Ok (b.payloads ++ b.payload ∷ [])) }
+    ensures next { OnOk result ((b : IsBlockFor (D.seen disk.old) gate block.now) → IsLog b.digest (D.seen disk.new) (b.payloads ++ b.payload ∷ []) (gate + length block.now)) }
     // A crash at any moment of the call leaves a log of the payloads from before it, with the new one or without.
     ensures any_moment { (b : IsBlockFor (D.seen disk.old) gate block.now) → LeavesOnly D.moment D.left_since disk.old disk.new (IsBeforeOrAfter b) }
     ensures cause { HasCause (D.faults disk.old) (D.faults disk.new) result }
