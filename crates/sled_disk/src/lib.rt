@@ -10,5 +10,5 @@ mod disk;
 mod memory;
 
 pub use choices::Choices;
-pub use disk::{Disk, DiskError, Result};
+pub use disk::{Disk, DiskError, Result, law_counts_now, law_may_stay, law_only_now};
 pub use memory::MemoryDisk;

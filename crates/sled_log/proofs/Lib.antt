@@ -1,4 +1,4 @@
 mod LogLemmas
-mod Moments
+pub mod Moments
 mod Appending
-mod ReadingLemmas
+pub mod ReadingLemmas
