@@ -1,0 +1,28 @@
+-- The first and the last of the states that a crash may leave.
+use Rattle.std.proofs.Common.{◌≡◌, inl, inr, List, [], ◌∷◌, refl}
+use Rattle.std.specs.Prelude.{Bool, true, false, if◌then◌else◌}
+use Rattle.sled_store.specs.In.{In}
+use Rattle.sled_store.specs.State.{State, Action, after, after_all}
+use Rattle.sled_store.specs.Crash.{left_from}
+
+alone : (b : Bool) (s : State) → b ≡ false → In s (if b then [] else (s ∷ []))
+alone true s out = absurd (cc)
+alone false s out = inl refl
+
+further : (b : Bool) (x s : State) (rest : List State) → In x rest → In x (if b then rest else (s ∷ rest))
+further true x s rest i = i
+further false x s rest i = inr i
+
+-- the state after all actions is one that a crash may leave, if it is outside every group
+pub last_left : (s : State) (actions : List Action) → (after_all actions s).in_group ≡ false → In (after_all actions s) (left_from s actions)
+last_left s [] out = alone s.in_group s out
+last_left s (a ∷ actions) out = further s.in_group (after_all actions (after a s)) s (left_from (after a s) actions) (last_left (after a s) actions out)
+
+first : (b : Bool) (s : State) (rest : List State) → b ≡ false → In s (if b then rest else (s ∷ rest))
+first true s rest is = absurd (cc)
+first false s rest is = inl refl
+
+-- and so is the state before them
+pub base_left : (s : State) (actions : List Action) → s.in_group ≡ false → In s (left_from s actions)
+base_left s [] out = alone s.in_group s out
+base_left s (a ∷ actions) out = first s.in_group s (left_from (after a s) actions) out

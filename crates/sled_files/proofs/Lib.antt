@@ -1,0 +1,2 @@
+pub mod Crashing
+pub mod Lasts

@@ -1,0 +1,8 @@
+pub mod Change
+pub mod Lasting
+pub mod Pending
+pub use Rattle.sled_nodes.specs as sled_nodes
+pub use Rattle.sled_store.specs as sled_store
+pub use Rattle.sled_disk.specs as sled_disk
+pub use Rattle.sled_log.specs as sled_log
+pub use Rattle.sled_bytes.specs as sled_bytes

@@ -1,0 +1,6 @@
+//! A store of pages in a file.
+#![tactic(auto)]
+
+mod flushing;
+
+pub use flushing::flush_pending;
