@@ -1,9 +1,8 @@
 -- The removal of all keys within two bounds.
 use Rattle.std.proofs.Common.{◌≡◌, ◌⊎◌, inl, inr, ℕ, Bool, true, false, ◌&&◌, List, [], ◌∷◌, ◌++◌, length, map, Option, Some, None, option_map, Result, Ok, Err, IfOk, IfErr, OnOk, Ordering, is_lt, sym, refl, ap, ◌∙◌, subst}
-use Rattle.std.specs.FinMap.Entries.{is_sorted, below_all, put}
+use Rattle.std.specs.FinMap.Entries.{is_sorted, below_all, put, where_key, is_sorted-where_key}
 use Rattle.std.specs.declared.ops.Bound.{Bound}
-use Rattle.sled_nodes.proofs.Basics.{some_is, none_some}
-use Rattle.sled_nodes.proofs.Rising.{rises_where}
+use Rattle.sled_nodes.proofs.Basics.{some_is, none_some, true_of, of_true}
 use Rattle.sled_nodes.specs.Among.{is_from, is_up_to}
 use Rattle.sled_nodes.specs.Order.{Key, key_cmp}
 use Rattle.sled_nodes.specs.Ranges.{is_reversed}
@@ -83,6 +82,10 @@ no_memory_walk s root e short = subst (RefusesWalk once s root) (sym short) (rec
 
 -- ---- the removals of a tree's keys within the bounds
 
+-- what passes of an ascending list ascends
+rises_where : {X : Type 0} (p : Key → Bool) (es : List (Key × X)) → is_sorted key_cmp es ≡ true → is_sorted key_cmp (where_key key_cmp p es) ≡ true
+rises_where p es s = true_of (is_sorted key_cmp (where_key key_cmp p es)) (is_sorted-where_key key_cmp p es (of_true (is_sorted key_cmp es) s))
+
 module _ {P M : Type 0} (store : P → Store) (meant : M → Merge) (d : DbValue P M) (tree : Tree) (lo hi : Bound Key) (pairs : Coming P) (begins : BeginsRange store meant d tree lo hi pairs) where
   pub range_ended : pairs.ended ≡ true → pairs.pairs ≡ []
   range_ended e = begins.all.is ∙ reversed_none lo hi begins.all.named.map (sym begins.ended ∙ e)
@@ -90,7 +93,7 @@ module _ {P M : Type 0} (store : P → Store) (meant : M → Merge) (d : DbValue
   pub range_rises : MapsAscend (maps_of (db_state store meant d)) → is_sorted key_cmp pairs.pairs ≡ true
   range_rises ascend =
       ap (is_sorted key_cmp) begins.all.is
-      ∙ rises_where key_cmp (λ k. is_from lo k && is_up_to hi k) begins.all.named.map (ascend.is tree.name begins.all.named.map (ap (option_map (λ (t : NamedTree). t.map)) begins.all.there))
+      ∙ rises_where (λ k. is_from lo k && is_up_to hi k) begins.all.named.map (ascend.is tree.name begins.all.named.map (ap (option_map (λ (t : NamedTree). t.map)) begins.all.there))
 
   pub range_collected : (r : Result Writes Error) → IfOk r (λ batch. batch ≡ removals pairs.pairs) → IfOk r (λ batch. ReadsMap store meant d tree (λ map. batch ≡ removals (pairs_within lo hi map)))
   range_collected (Ok batch) e = record { tested = begins.all.tested; named = begins.all.named; there = begins.all.there; is = e ∙ ap removals begins.all.is }
