@@ -1,5 +1,5 @@
 -- What a file may be left with, against what the store in it means.
-use Rattle.std.specs.Prelude.{◌≡◌, ◌⊎◌, ◌<◌, ℕ, true, List, [], ◌∷◌, ◌++◌, Result, Ok, Err}
+use Rattle.std.specs.Prelude.{◌≡◌, ◌⊎◌, ◌<◌, ◌≤◌, ℕ, true, List, [], ◌∷◌, ◌++◌, Result, Ok, Err}
 use Rattle.sled_store.specs.In.{In}
 use Rattle.sled_store.specs.Store.{Store}
 use Rattle.sled_store.specs.Crash.{IsCrashState}
@@ -28,16 +28,26 @@ pub record StandsFor (bytes : List ℕ) (d : Durable) : Type 0 where
   pub decoded : all_changes payloads ≡ Ok changes
   pub makes : changed_all changes nothing_yet ≡ d
 
+-- the limits below which page numbers and versions are set aside
+pub record Limits : Type 0 where
+  pub pids : ℕ
+  pub versions : ℕ
+
+-- all numbers and versions that a store ever gave are below them
+pub record IsWithin (limits : Limits) (s : Store) : Type 0 where
+  pub pids : (p : ℕ) → s.pids p ≡ true → p < limits.pids
+  pub versions : (v : ℕ) → s.versions v ≡ true → v < limits.versions
+
+-- the limits in a file are no lower
+pub record HasLimits (limits : Limits) (d : Durable) : Type 0 where
+  pub pids : limits.pids ≤ d.pids
+  pub versions : limits.versions ≤ d.versions
+
 -- What a crash may leave of a file is right for a store: a state that a crash may leave of the store, the mark that was
--- set aside or one that was asked for, and limits above all numbers and versions that were ever given
-pub record IsLasting (asked : List ℕ) (s : Store) (bytes : List ℕ) : Type 0 where
+-- set aside or one that was asked for, and the limits
+pub record IsLasting (asked : List ℕ) (limits : Limits) (s : Store) (bytes : List ℕ) : Type 0 where
   pub durable : Durable
   pub stands : StandsFor bytes durable
   pub state : IsCrashState s durable.state
   pub mark : (durable.mark ≡ s.mark) ⊎ In durable.mark asked
-  pub pids : (p : ℕ) → s.pids p ≡ true → p < durable.pids
-  pub versions : (v : ℕ) → s.versions v ≡ true → v < durable.versions
-
--- the invariant of a store in a file: all that the disk may leave is right for it
-abbrev pub AllLasting : List ℕ → Store → (List ℕ → Type 0) → Type 0
-AllLasting asked s may_leave = (c : List ℕ) → may_leave c → IsLasting asked s c
+  pub limited : HasLimits limits durable

@@ -2,7 +2,7 @@
 ghost use Rattle.std.specs.Prelude.{◌≡◌, ◌<◌, ◌+◌, ◌^◌, false, [], length, IfOk, OnOk};
 ghost use Rattle.sled_disk.specs.Disk.{Only, LeavesOnly, HasCause};
 ghost use Rattle.sled_store.specs.Store.{now, after_flush};
-ghost use Rattle.sled_files.specs.Lasting.{IsLasting};
+ghost use Rattle.sled_files.specs.Lasting.{IsLasting, Limits};
 ghost use Rattle.sled_files.specs.Pending.{IsPending};
 
 use sled_disk::{Disk, Result, law_only_now};
@@ -29,8 +29,8 @@ pub fn flush_pending<P: Pages, D: Disk>(
     requires small { gate + length pending.now < 2 ^ 62 }
     requires on_disk { Only (D.seen disk.old) (D.may_leave disk.old) }
     ensures durable { OnOk result (Only (D.seen disk.new) (D.may_leave disk.new)) }
-    ensures flushed { IfOk result (λ next. IsPending (P.store pages.now) (D.seen disk.old) gate pending.now → IsPending (after_flush (P.store pages.now)) (D.seen disk.new) next []) }
-    ensures any_moment { IsPending (P.store pages.now) (D.seen disk.old) gate pending.now → LeavesOnly D.moment D.left_since disk.old disk.new (IsLasting [] (P.store pages.now)) }
+    ensures flushed { IfOk result (λ place. (limits next : Limits) → IsPending limits next (P.store pages.now) (D.seen disk.old) gate pending.now → IsPending next next (after_flush (P.store pages.now)) (D.seen disk.new) place []) }
+    ensures any_moment { (limits next : Limits) → IsPending limits next (P.store pages.now) (D.seen disk.old) gate pending.now → LeavesOnly D.moment D.left_since disk.old disk.new (IsLasting [] limits (P.store pages.now)) }
     ensures cause { HasCause (D.faults disk.old) (D.faults disk.new) result }
 {
     law_sealed(pages);
