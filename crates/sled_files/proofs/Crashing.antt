@@ -1,4 +1,4 @@
--- The first and the last of the states that a crash may leave.
+-- The last of the states that a crash may leave, and those after an action more.
 use Rattle.std.proofs.Common.{◌≡◌, inl, inr, List, [], ◌∷◌, ◌++◌, refl}
 use Rattle.std.specs.Prelude.{Bool, true, false, if◌then◌else◌}
 use Rattle.sled_store.specs.In.{In}
@@ -17,15 +17,6 @@ further false x s rest i = inr i
 pub last_left : (s : State) (actions : List Action) → (after_all actions s).in_group ≡ false → In (after_all actions s) (left_from s actions)
 last_left s [] out = alone s.in_group s out
 last_left s (a ∷ actions) out = further s.in_group (after_all actions (after a s)) s (left_from (after a s) actions) (last_left (after a s) actions out)
-
-first : (b : Bool) (s : State) (rest : List State) → b ≡ false → In s (if b then rest else (s ∷ rest))
-first true s rest is = absurd (cc)
-first false s rest is = inl refl
-
--- and so is the state before them
-pub base_left : (s : State) (actions : List Action) → s.in_group ≡ false → In s (left_from s actions)
-base_left s [] out = alone s.in_group s out
-base_left s (a ∷ actions) out = first s.in_group s (left_from (after a s) actions) out
 
 more_alone : (b : Bool) (x s : State) (rest : List State) → In x (if b then [] else (s ∷ [])) → In x (if b then rest else (s ∷ rest))
 more_alone true x s rest i = absurd i

@@ -9,6 +9,7 @@ use Rattle.sled_store.specs.In.{In}
 use Rattle.sled_store.specs.State.{State, Action, after_all}
 use Rattle.sled_store.specs.Store.{Store, now, after_flush}
 use Rattle.sled_store.specs.Crash.{left_from, crash_states}
+use Rattle.sled_store.specs.theory.Facts.{may_leave_base}
 use Rattle.sled_log.specs.Digest.{digest}
 use Rattle.sled_log.specs.Log.{log_of, IsLog}
 use Rattle.sled_log.specs.Append.{behind_gate, IsBlockFor, IsBeforeOrAfter}
@@ -22,7 +23,7 @@ use Rattle.sled_bytes.proofs.Again.{changes_again}
 use Rattle.sled_files.specs.Change.{Durable, action_of, acted, changed, changed_all, with_action, actions_of, nothing_yet}
 use Rattle.sled_files.specs.Lasting.{joined, all_changes, StandsFor, IsLasting, Limits}
 use Rattle.sled_files.specs.Pending.{IsPending}
-use Rattle.sled_files.proofs.Crashing.{last_left, base_left, left_stays}
+use Rattle.sled_files.proofs.Crashing.{last_left, left_stays}
 
 joined_swap : (x : Result (List Change) Flaw) → joined x (Ok []) ≡ joined (Ok []) x
 joined_swap (Ok front) = ap (λ (l : List Change). Ok l) (append-nil front)
@@ -79,7 +80,7 @@ module _ {limits next : Limits} {store : Store} {file : List ℕ} {gate : ℕ} {
   same_lasts sealed c log = record {
     durable = p.durable;
     stands = stands_same p.stands c log;
-    state = record { is = subst (λ (x : State). In x (crash_states store)) (sym p.base) (base_left store.base store.recent sealed) };
+    state = record { is = subst (λ (x : State). In x (crash_states store)) (sym p.base) (may_leave_base store sealed).is };
     mark = inl p.mark;
     limited = p.limited;
   }

@@ -1,5 +1,5 @@
 -- What a file may be left with, against what the store in it means.
-use Rattle.std.specs.Prelude.{◌≡◌, ◌⊎◌, ◌<◌, ◌≤◌, ℕ, true, List, [], ◌∷◌, ◌++◌, Result, Ok, Err}
+use Rattle.std.specs.Prelude.{◌≡◌, ◌⊎◌, ◌≤◌, ℕ, List, [], ◌∷◌, ◌++◌, Result, Ok, Err}
 use Rattle.sled_store.specs.In.{In}
 use Rattle.sled_store.specs.Store.{Store}
 use Rattle.sled_store.specs.Crash.{IsCrashState}
@@ -32,11 +32,6 @@ pub record StandsFor (bytes : List ℕ) (d : Durable) : Type 0 where
 pub record Limits : Type 0 where
   pub pids : ℕ
   pub versions : ℕ
-
--- all numbers and versions that a store ever gave are below them
-pub record IsWithin (limits : Limits) (s : Store) : Type 0 where
-  pub pids : (p : ℕ) → s.pids p ≡ true → p < limits.pids
-  pub versions : (v : ℕ) → s.versions v ≡ true → v < limits.versions
 
 -- the limits in a file are no lower
 pub record HasLimits (limits : Limits) (d : Durable) : Type 0 where
