@@ -17,12 +17,13 @@ use Rattle.sled_model.specs.Answer.{answer_of}
 use Rattle.sled_model.specs.State.{State, NamedTree, maps_of, after_decision_on}
 use Rattle.sled_model.specs.declared.call.Call.TheVariants.{Insert}
 use Rattle.sled_model.specs.declared.reply.Reply.{Reply}
+use Rattle.sled_model.specs.declared.reply.Reply.TheVariants.{Value}
 use Rattle.sled_model.specs.declared.tree.Tree.{Tree}
 use Rattle.sled.specs.Values.{DbValue, db_state}
 use Rattle.sled.specs.Sound.{MapsAscend}
 use Rattle.sled.specs.Direct.{PointDecided}
 use Rattle.sled.specs.Reads.{ReadsMap, BeginsRange}
-use Rattle.typed_map.specs.Typed.{Spelling, pairs_in, is_above, is_below, pair_bytes, IsTyped, Puts, LooksUp, Walks, IsForeign}
+use Rattle.typed_map.specs.Typed.{Spelling, pairs_in, is_above, is_below, pair_bytes, IsTyped, Puts, LooksUp, Walks, IsForeign, IsPut, HasBytes, SpellsNone}
 use Rattle.typed_map.specs.theory.Typed.{bound_bytes, bounds_value}
 use Rattle.typed_map.proofs.Typing.{KeepsOrder, IsOneToOne, insert_puts, put_bytes, put_values, find_bytes, find_value, within_bytes, within_values, sorted_bytes, same_entries_of}
 
@@ -100,6 +101,27 @@ module _ {P M : Type 0} (store : P → Store) (meant : M → Merge) (d : DbValue
 
   pub ends_empty : (lo hi : Bound Key) (entries : Coming P) → BeginsRange store meant d tree lo hi entries → entries.ended ≡ true → entries.pairs ≡ []
   ends_empty lo hi entries b e = b.all.is ∙ reversed_none lo hi b.all.named.map (sym b.ended ∙ e)
+
+  -- the same of the bytes alone
+  pub is_put : (key : K) (value : V) (k v : Key) (stood : Option Key) (new : DbValue P M) → k ≡ keys.bytes key → v ≡ values.bytes value → PointDecided store meant d tree (Insert k v) (Value stood) new
+      → IsPut store meant keys values d tree key value new
+  is_put key value k v stood new k-is v-is e = record {
+    stood = stood;
+    decided = subst (λ x. PointDecided store meant d tree (Insert x (values.bytes value)) (Value stood) new) k-is (subst (λ y. PointDecided store meant d tree (Insert k y) (Value stood) new) v-is e);
+  }
+
+  bytes_at : (key : K) (k : Key) (value bytes : Option Key) → k ≡ keys.bytes key → value ≡ bytes → ReadsMap store meant d tree (λ map. value ≡ find key_cmp k map) → ReadsMap store meant d tree (λ map. bytes ≡ find key_cmp (keys.bytes key) map)
+  bytes_at key k value bytes k-is same r = record { tested = r.tested; named = r.named; there = r.there; is = sym same ∙ (r.is ∙ ap (λ z. find key_cmp z r.named.map) k-is) }
+
+  pub has_none : (key : K) (k : Key) (value : Option Key) → k ≡ keys.bytes key → ReadsMap store meant d tree (λ map. value ≡ find key_cmp k map) → value ≡ None → HasBytes store meant keys values d tree key None
+  has_none key k value k-is r none = bytes_at key k value None k-is none r
+
+  pub has_some : (key : K) (k : Key) (value : Option Key) (b : Key) (x : V) → k ≡ keys.bytes key → ReadsMap store meant d tree (λ map. value ≡ find key_cmp k map) → value ≡ Some b → b ≡ values.bytes x → HasBytes store meant keys values d tree key (Some x)
+  has_some key k value b x k-is r some same = bytes_at key k value (Some (values.bytes x)) k-is (some ∙ ap Some same) r
+
+  pub spells_none : (key : K) (k : Key) (value : Option Key) (b : Key) → k ≡ keys.bytes key → ReadsMap store meant d tree (λ map. value ≡ find key_cmp k map) → value ≡ Some b → ((x : V) → values.is_value x → b ≢ values.bytes x)
+      → SpellsNone store meant keys values d tree key
+  spells_none key k value b k-is r some none = record { bytes = b; there = bytes_at key k value (Some b) k-is some r; none = none }
 
   module _ (lo hi : Bound K) (lo-bytes hi-bytes : Bound Key) (i : bounds_value keys lo) (j : bounds_value keys hi) (lo-is : lo-bytes ≡ bound_bytes keys lo) (hi-is : hi-bytes ≡ bound_bytes keys hi) (coming : Coming P) (b : BeginsRange store meant d tree lo-bytes hi-bytes coming) (pairs : Map) (all : pairs ≡ coming.pairs) where
     abbrev within : List (K × V) → List (K × V)

@@ -1,5 +1,5 @@
 -- A map from keys of a type to values of a type, in a tree of a database.
-use Rattle.std.specs.Prelude.{◌≡◌, ◌≢◌, ◌&&◌, ◌⊎◌, Bool, true, not, cond, map, filter, List, [], Option, Some, None}
+use Rattle.std.specs.Prelude.{◌≡◌, ◌≢◌, ◌&&◌, ◌⊎◌, Bool, true, not, cond, map, filter, List, [], Option, Some, None, option_map}
 use Rattle.std.specs.FinMap.Entries.{find, put, is_sorted}
 use Rattle.std.specs.List.{AllByRecursion}
 use Rattle.std.specs.Ordering.{is_lt, is_gt}
@@ -16,12 +16,13 @@ use Rattle.sled_nodes.specs.declared.error.Error.TheVariants.{NoMemory}
 use Rattle.sled_store.specs.Store.{Store}
 use Rattle.sled_model.specs.Maps.{Map, Maps, Merge}
 use Rattle.sled_model.specs.declared.call.Call.TheVariants.{Insert}
+use Rattle.sled_model.specs.declared.reply.Reply.TheVariants.{Value}
 use Rattle.sled_model.specs.declared.tree.Tree.{Tree}
 use Rattle.tree_reads.specs.Ranges.{Coming}
 use Rattle.tree_reads.specs.Walk.{once}
 use Rattle.sled.specs.Values.{DbValue}
-use Rattle.sled.specs.Reads.{RefusesReading, GivesUpGet}
-use Rattle.sled.specs.Direct.{PointRefused}
+use Rattle.sled.specs.Reads.{ReadsMap, RefusesReading, GivesUpGet}
+use Rattle.sled.specs.Direct.{PointDecided, PointRefused}
 use Rattle.typed_map.specs.declared.typed.TypedError.{TypedError}
 use Rattle.typed_map.specs.declared.typed.TypedError.TheVariants.{Foreign, Refused}
 
@@ -98,6 +99,21 @@ refused_as why Foreign = Unit {0}
 refused_as why (Refused e) = why e
 
 module _ {P M : Type 0} (store : P → Store) (meant : M → Merge) where
+  -- an insert of their bytes took effect
+  pub record IsPut {K V : Type 0} (keys : Spelling K) (values : Spelling V) (old : DbValue P M) (tree : Tree) (key : K) (value : V) (new : DbValue P M) : Type 0 where
+    pub stood : Option Key
+    pub decided : PointDecided store meant old tree (Insert (keys.bytes key) (values.bytes value)) (Value stood) new
+
+  -- the bytes at the key are those of what was found, or there are none where nothing was
+  abbrev pub HasBytes : {K V : Type 0} → Spelling K → Spelling V → DbValue P M → Tree → K → Option V → Type 0
+  HasBytes keys values d tree key found = ReadsMap store meant d tree (λ map. option_map values.bytes found ≡ find key_cmp (keys.bytes key) map)
+
+  -- the bytes at the key spell no value
+  pub record SpellsNone {K V : Type 0} (keys : Spelling K) (values : Spelling V) (d : DbValue P M) (tree : Tree) (key : K) : Type 0 where
+    pub bytes : Key
+    pub there : ReadsMap store meant d tree (λ map. Some bytes ≡ find key_cmp (keys.bytes key) map)
+    pub none : (x : V) → values.is_value x → bytes ≢ values.bytes x
+
   -- refused for want of memory to spell the key or the value, and then nothing was done, or as an insert of their bytes is
   pub record RefusesPut {K V : Type 0} (keys : Spelling K) (values : Spelling V) (old : DbValue P M) (tree : Tree) (key : K) (value : V) (e : Error) (new : DbValue P M) : Type 0 where
     pub is : ((e ≡ NoMemory) × (new ≡ old)) ⊎ PointRefused store meant old tree (Insert (keys.bytes key) (values.bytes value)) e new

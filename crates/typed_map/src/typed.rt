@@ -6,7 +6,7 @@ ghost use Rattle.sled_nodes.specs.declared.error.Error.TheVariants.{NoMemory};
 ghost use Rattle.sled.specs.Values.{db_state};
 ghost use Rattle.typed_map.specs.declared.typed.TypedError.TheVariants.{Foreign};
 ghost use Rattle.typed_map.specs.theory.Typed.{bounds_value, bound_bytes};
-ghost use Rattle.typed_map.specs.Typed.{bound_at, IsTyped, Puts, LooksUp, Walks, IsForeign, refused_as, RefusesPut, RefusesLookUp, RefusesListing};
+ghost use Rattle.typed_map.specs.Typed.{bound_at, IsTyped, Puts, LooksUp, Walks, IsForeign, IsPut, HasBytes, SpellsNone, refused_as, RefusesPut, RefusesLookUp, RefusesListing};
 
 use crate::pairs::all_of;
 use crate::spelled::Spelled;
@@ -48,6 +48,7 @@ pub fn put<P: Pages, M: MergeOperator, K: Spelled, V: Spelled>(
     value: &V,
 ) -> Result<()>
     ensures ok { OnOk result (Puts K.spelling V.spelling (maps_of (db_state P.store M.meant db.old)) (maps_of (db_state P.store M.meant db.new)) tree.now.name key.now value.now) }
+    ensures decided { OnOk result (IsPut P.store M.meant K.spelling V.spelling db.old tree.now key.now value.now db.new) }
     ensures stays { OnErr result (maps_of (db_state P.store M.meant db.new) ≡ maps_of (db_state P.store M.meant db.old)) }
     ensures err { IfErr result (λ e. RefusesPut P.store M.meant K.spelling V.spelling db.old tree.now key.now value.now e db.new) }
 {
@@ -95,7 +96,9 @@ pub fn look_up<P: Pages, M: MergeOperator, K: Spelled, V: Spelled>(
     key: &K,
 ) -> TypedResult<Option<V>>
     ensures ok { IfOk result (LooksUp K.spelling V.spelling (maps_of (db_state P.store M.meant db.now)) tree.now.name key.now) }
+    ensures bytes { IfOk result (HasBytes P.store M.meant K.spelling V.spelling db.now tree.now key.now) }
     ensures foreign { IfErr result (λ e. e ≡ Foreign → IsForeign K.spelling V.spelling (maps_of (db_state P.store M.meant db.now)) tree.now.name) }
+    ensures none { IfErr result (λ e. e ≡ Foreign → SpellsNone P.store M.meant K.spelling V.spelling db.now tree.now key.now) }
     ensures err { IfErr result (refused_as (RefusesLookUp P.store M.meant K.spelling db.now tree.now key.now)) }
 {
     let key = match key.spell(db.allocator()) {
