@@ -11,8 +11,8 @@ use sled_store::{Pages, law_sealed};
 use std::alloc::Global;
 
 /// Adds the changes that are pending of a store to the log in a file, and answers the place of its closed gate then. At any moment
-/// a crash leaves a file that is right for the store. What is refused is refused by the disk, or for want of memory: then all, or
-/// nothing, of what is pending is in the log, and the file is to be opened again.
+/// a crash leaves a file that is right for the store. What is refused is refused by the disk, or for want of memory: then the
+/// file is one that a crash might have left, and is to be opened again.
 ///
 /// ```
 /// let gate = flush_pending(alloc, &pages, &mut disk, 0, &[])?; // Of a file whose first byte is the closed gate of its log.
