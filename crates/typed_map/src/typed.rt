@@ -181,7 +181,7 @@ fn spelled_bounds<K: Spelled>(
 }
 
 /// The entries within two bounds, in the order of their keys. Refused as `Db::range` and what it gives are, for want of memory, or as
-/// `Foreign` where a pair within the bounds spells no entry.
+/// `Foreign` where something in the tree spells no entry.
 pub fn walk<P: Pages, M: MergeOperator, K: Spelled, V: Spelled>(
     db: &Db<P, M>,
     tree: &Tree,
