@@ -105,8 +105,11 @@ module _ (lo hi : Bound Key) where
         (subst T (sym (before.is tree.name n.0.map (ap (option_map (λ (t : NamedTree). t.map)) n.1))) tt) (λ name map there. subst T (sym (after.is name map there)) tt)
 
     pub counts_within : IsCountWithin tree.name lo hi (maps_now store meant old) count
-    counts_within = record { is = λ map there. r.counts ∙ go ((db_state store meant old).trees tree.name) map there }
-      where
-        go : (o : Option NamedTree) (map : Map) → option_map (λ (t : NamedTree). t.map) o ≡ Some map → length (removals_within lo hi o) ≡ length (pairs_within lo hi map)
-        go None map e = absurd cc
-        go (Some t) map e = length-map (pairs_within lo hi t.map) (λ (p : Key × Key). (p.0, None)) ∙ ap (λ m. length (pairs_within lo hi m)) (some_is e)
+    counts_within =
+        let made = r.group.decides (λ n. None) 0 in
+        let n = first_there (db_state store meant old) tree [] made.free in
+        record {
+          map = n.0.map;
+          there = ap (option_map (λ (t : NamedTree). t.map)) n.1;
+          is = r.counts ∙ ap (λ o. length (removals_within lo hi o)) n.1 ∙ length-map (pairs_within lo hi n.0.map) (λ (p : Key × Key). (p.0, None));
+        }

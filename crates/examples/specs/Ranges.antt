@@ -15,6 +15,8 @@ pairs_outside lo hi map = filter (λ e. not (is_from lo e.0 && is_up_to hi e.0))
 abbrev pub outside_alone : Key → Bound Key → Bound Key → Maps → Maps
 outside_alone tree lo hi maps name = if bytes_eq name tree then option_map (pairs_outside lo hi) (maps name) else maps name
 
--- so many pairs of a tree are within both bounds
+-- the tree is there, and so many of its pairs are within both bounds
 pub record IsCountWithin (tree : Key) (lo hi : Bound Key) (maps : Maps) (count : ℕ) : Type 0 where
-  pub is : (map : Map) → maps tree ≡ Some map → count ≡ length (pairs_within lo hi map)
+  pub map : Map
+  pub there : maps tree ≡ Some map
+  pub is : count ≡ length (pairs_within lo hi map)
