@@ -102,43 +102,38 @@ last_entry p es i e l h = subst (λ x. IsLast p es x) (sym (last_is p es i e l) 
 pub placed : {X : Type 0} (es : List X) (i : ℕ) (e : X) → i < length es → ((d : X) → get_or es i d ≡ e) → slice_get es i ≡ Some e
 placed es i e l h = slice_get-get_or es i e l ∙ ap Some (h e)
 
-pub pointer_is : (bound : Bound Key) (es all : List (Key × ℕ)) (i c : ℕ) → all ≡ es → ((d : Key × ℕ) → (get_or all i d).1 ≡ c) → IsLastAt (λ x. is_up_to bound x.0) all i → IsPointer bound es c (nat_eq i 0)
-pointer_is bound es all i c a h l =
-    let same : l.x.1 ≡ c = ap (λ (e : Key × ℕ). e.1) (sym (last_is (λ x. is_up_to bound x.0) all i l.x l)) ∙ h l.x in
-    subst (λ (b : ℕ). IsPointer bound es b (nat_eq i 0)) same (record {
-      key = l.x.0;
-      last = record { before = l.last.before; after = l.last.after; is = sym a ∙ l.last.is; passed = l.last.passed; none = l.last.none };
-      is_first = ap (λ n. nat_eq n 0) (sym l.place);
-    })
+pub pointer_is : (bound : Bound Key) (es : List (Key × ℕ)) (i c : ℕ) → ((d : Key × ℕ) → (get_or es i d).1 ≡ c) → IsLastAt (λ x. is_up_to bound x.0) es i → IsPointer bound es c (nat_eq i 0)
+pointer_is bound es i c h l =
+    let same : l.x.1 ≡ c = ap (λ (e : Key × ℕ). e.1) (sym (last_is (λ x. is_up_to bound x.0) es i l.x l)) ∙ h l.x in
+    subst (λ (b : ℕ). IsPointer bound es b (nat_eq i 0)) same (record { key = l.x.0; last = l.last; is_first = ap (λ n. nat_eq n 0) (sym l.place) })
 
 -- the one before it
 last_of : (xs : List (Key × ℕ)) (j : ℕ) (d : Key × ℕ) → length xs ≡ suc j → xs ≡ take j xs ++ get_or xs j d ∷ []
 last_of xs j d e = sym (take-length xs) ∙ (ap (λ n. take n xs) e ∙ take-suc xs j d (omega arith))
 
-before_at : (c : ℕ) (es slice : List (Key × ℕ)) (i j : ℕ) (e : Key × ℕ) → slice ≡ es → i ≡ suc j → e ≡ get_or es j e → IsFirstAt (λ x. nat_eq x.1 c) slice i → IsBefore c es e.1
-before_at c es slice i j e s k g l =
+before_at : (c : ℕ) (es : List (Key × ℕ)) (i j : ℕ) (e : Key × ℕ) → i ≡ suc j → e ≡ get_or es j e → IsFirstAt (λ x. nat_eq x.1 c) es i → IsBefore c es e.1
+before_at c es i j e k g l =
     let xs : List (Key × ℕ) = l.first.before in
     let n : length xs ≡ suc j = l.place ∙ k in
-    let all : es ≡ xs ++ l.x ∷ l.first.after = sym s ∙ l.first.is in
-    let b : get_or xs j e ≡ e = sym (ap (λ ys. get_or ys j e) all ∙ get_or-append xs (l.x ∷ l.first.after) e j (omega arith)) ∙ sym g in
+    let b : get_or xs j e ≡ e = sym (ap (λ ys. get_or ys j e) l.first.is ∙ get_or-append xs (l.x ∷ l.first.after) e j (omega arith)) ∙ sym g in
     let split : xs ≡ take j xs ++ e ∷ [] = last_of xs j e n ∙ ap (λ y. take j xs ++ y ∷ []) b in
     record {
       front = take j xs;
       low = e.0;
       key = l.x.0;
       after = l.first.after;
-      is = all ∙ (ap (λ ys. ys ++ l.x ∷ l.first.after) split ∙ ap (λ p. (take j xs ++ e ∷ []) ++ (l.x.0, p) ∷ l.first.after) (eqb-true l.x.1 c l.first.passed));
+      is = l.first.is ∙ (ap (λ ys. ys ++ l.x ∷ l.first.after) split ∙ ap (λ p. (take j xs ++ e ∷ []) ++ (l.x.0, p) ∷ l.first.after) (eqb-true l.x.1 c l.first.passed));
       none = ap (list_any (λ x. nat_eq x.1 c)) (sym split) ∙ l.first.none;
     }
 
-pub before_is : (c b : ℕ) (es all : List (Key × ℕ)) (i : ℕ) → all ≡ es → (i ≡ 0 → ⊥) → ((d : Key × ℕ) → (get_or all (i - 1) d).1 ≡ b) → IsFirstAt (λ x. nat_eq x.1 c) all i → IsBefore c es b
-before_is c b es all zero a k h l = absurd (k refl)
-before_is c b es all (suc j) a k h l =
+pub before_is : (c b : ℕ) (es : List (Key × ℕ)) (i : ℕ) → (i ≡ 0 → ⊥) → ((d : Key × ℕ) → (get_or es (i - 1) d).1 ≡ b) → IsFirstAt (λ x. nat_eq x.1 c) es i → IsBefore c es b
+before_is c b es zero k h l = absurd (k refl)
+before_is c b es (suc j) k h l =
     let m : suc j - 1 ≡ j = omega arith in
-    let e : Key × ℕ = get_or all j l.x in
-    let within : suc j < length all = first_in (λ x. nat_eq x.1 c) all (suc j) l in
-    let same : e.1 ≡ b = ap (λ (n : ℕ). (get_or all n l.x).1) (sym m) ∙ h l.x in
-    subst (λ (n : ℕ). IsBefore c es n) same (before_at c es all (suc j) j e a refl (get_or_default all j l.x e (omega (arith, within)) ∙ ap (λ ys. get_or ys j e) a) l)
+    let e : Key × ℕ = get_or es j l.x in
+    let within : suc j < length es = first_in (λ x. nat_eq x.1 c) es (suc j) l in
+    let same : e.1 ≡ b = ap (λ (n : ℕ). (get_or es n l.x).1) (sym m) ∙ h l.x in
+    subst (λ (n : ℕ). IsBefore c es n) same (before_at c es (suc j) j e refl (get_or_default es j l.x e (omega (arith, within))) l)
 
 -- none stands before the first
 head_or : Key × ℕ → List (Key × ℕ) → Key × ℕ
@@ -161,5 +156,5 @@ nothing : (xs : List (Key × ℕ)) → length xs ≡ 0 → xs ≡ []
 nothing [] e = refl
 nothing (x ∷ xs) e = absurd (omega (arith, e))
 
-pub none_before : (c : ℕ) (es all slice : List (Key × ℕ)) (i : ℕ) → slice ≡ all → all ≡ es → i ≡ 0 → IsFirstAt (λ x. nat_eq x.1 c) slice i → (b : ℕ) → IsBefore c es b → ⊥
-none_before c es all slice i s a k l b h = no_before c b l.x es l.first.before l.first.after h.front ((h.key, c) ∷ h.after) h.low (nothing l.first.before (l.place ∙ k)) (sym a ∙ (sym s ∙ l.first.is)) h.is l.first.passed h.none
+pub none_before : (c : ℕ) (es : List (Key × ℕ)) (i : ℕ) → i ≡ 0 → IsFirstAt (λ x. nat_eq x.1 c) es i → (b : ℕ) → IsBefore c es b → ⊥
+none_before c es i k l b h = no_before c b l.x es l.first.before l.first.after h.front ((h.key, c) ∷ h.after) h.low (nothing l.first.before (l.place ∙ k)) l.first.is h.is l.first.passed h.none

@@ -97,6 +97,16 @@ module _ {X : Type 0} (p : X → Bool) where
       let all : length (filter p xs) ≡ so_far xs n = whole xs ∙ ap (so_far xs) (sym e) in
       slice_get_past (filter p xs) k (omega (arith, all, h))
 
+  -- where those that pass end, and those that pass not begin: so many pass
+  pub counted : (xs : List X) (n : ℕ) → n ≤ length xs → IsPartitionPoint (λ x. p x ≡ true) (λ x. p x ≡ false) xs n → n ≡ length (filter p xs)
+  counted [] n h parts = omega (arith, h)
+  counted (x ∷ xs) n h parts =
+      let same : 0 + n ≡ n = omega arith in
+      let all : n + (length (x ∷ xs) - n) ≡ length (x ∷ xs) = omega (arith, h) in
+      let front : so_far (x ∷ xs) (0 + n) ≡ 0 + n = rise (x ∷ xs) x 0 n (omega (arith, h)) (λ j l u. parts.0 j x l (omega (arith, u))) in
+      let rest : so_far (x ∷ xs) (n + (length (x ∷ xs) - n)) ≡ so_far (x ∷ xs) n = flat (x ∷ xs) x n (length (x ∷ xs) - n) (omega (arith, h)) (λ j l u. parts.1 j x l (omega (arith, u, h))) in
+      sym (whole (x ∷ xs) ∙ ap (so_far (x ∷ xs)) (sym all) ∙ rest ∙ ap (so_far (x ∷ xs)) (sym same) ∙ front ∙ same)
+
   back_past : (xs : List X) (k : ℕ) → length (filter p xs) ≤ k → slice_get (reverse (filter p xs)) k ≡ None
   back_past xs k h = let n : length (reverse (filter p xs)) ≡ length (filter p xs) = length-reverse (filter p xs) in slice_get_past (reverse (filter p xs)) k (omega (arith, n, h))
 

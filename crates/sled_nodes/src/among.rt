@@ -93,8 +93,8 @@ fn is_within(key: &[u8], lo: Bound<&[u8]>, hi: Bound<&[u8]>) -> bool
     is_from(key, lo) && is_up_to(key, hi)
 }
 
-// How many pairs have a key within two bounds.
-fn count_within(pairs: &[(IVec, IVec)], lo: Bound<&[u8]>, hi: Bound<&[u8]>) -> usize
+/// How many pairs have a key within two bounds.
+pub fn count_within(pairs: &[(IVec, IVec)], lo: Bound<&[u8]>, hi: Bound<&[u8]>) -> usize
     ensures { result ≡ length (pairs_in (record { lo = bound_of lo.entry; hi = bound_of hi.entry; back = false }) pairs.now) }
 {
     let mut count = 0;

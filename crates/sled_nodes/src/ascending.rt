@@ -103,9 +103,9 @@ fn count_to<V>(pairs: &[(IVec, V)], key: &[u8], front: u64, near: usize) -> usiz
     }
 }
 
-// How many keys are within an upper bound. All others come behind them.
+/// How many keys are within an upper bound. All others come behind them.
 #[inline(always)]
-fn count_up_to<V>(pairs: &[(IVec, V)], bound: Bound<&[u8]>, front: u64, near: usize) -> usize
+pub fn count_up_to<V>(pairs: &[(IVec, V)], bound: Bound<&[u8]>, front: u64, near: usize) -> usize
     requires sorted { is_sorted (slice_cmp nat_cmp) pairs.now ≡ true }
     requires front { IsFrontOf front (bound_of bound) }
     ensures bound { result ≤ length pairs.now }

@@ -8,12 +8,13 @@ ghost use Rattle.std.specs.Cmp.Lexicographic.{slice_cmp};
 ghost use Rattle.std.specs.Ordering.{nat_cmp, eq_by_cmp};
 ghost use Rattle.sled_nodes.specs.Among.{bound_of, is_up_to as within_upper, is_from as within_lower};
 ghost use Rattle.sled_nodes.specs.Ranges.{pairs_in};
+ghost use Rattle.std.specs.declared.ops.Bound.TheVariants.{Unbounded};
 ghost use Rattle.sled_nodes.specs.theory.Places.{IsFirstAt, IsLastAt, IsPlaceOf};
 ghost use Rattle.sled_nodes.specs.theory.Rising.{IsOut};
 ghost use Rattle.sled_nodes.specs.theory.Fronts.{front as front_is, IsFrontOf};
 
 use crate::error::Result;
-use crate::order::front_of;
+use crate::order::{front_of, front_of_bound};
 use crate::{IVec, among, ascending, pairs};
 use std::alloc::Global;
 use std::marker::Model;
@@ -169,6 +170,18 @@ impl<V: Drop> Entries<V> {
 }
 
 impl Entries<IVec> {
+    /// How many pairs have a key within an upper bound.
+    pub fn count_up_to(&self, bound: Bound<&[u8]>) -> usize
+        ensures { result ≡ length (pairs_in (record { lo = Unbounded; hi = bound_of bound.entry; back = false }) self.now) }
+    {
+        let list = self.list.as_slice();
+        if self.ascends {
+            ascending::count_up_to(list, bound, front_of_bound(bound), ascending::NOWHERE)
+        } else {
+            among::count_within(list, Bound::Unbounded, bound)
+        }
+    }
+
     /// The place of the pair that is at a place of those within two bounds, from the least key up or from the greatest down.
     pub fn place_within(
         &self,

@@ -9,6 +9,7 @@ ghost use Rattle.sled_nodes.specs.Halves.{first_half, second_half, first_half_of
 ghost use Rattle.sled_nodes.specs.Among.{bound_of, IsSuccessor, IsPredecessor, IsPointerFor, IsPointerBefore};
 ghost use Rattle.std.specs.List.{list_all, slice_get};
 ghost use Rattle.sled_nodes.specs.Ranges.{pairs_in};
+ghost use Rattle.std.specs.declared.ops.Bound.TheVariants.{Unbounded};
 ghost use Rattle.sled_nodes.specs.Image.{all_of, all_named};
 ghost use Rattle.sled_nodes.specs.declared.link.Link.TheVariants.{Set, Del, ParentMergeConfirm};
 ghost use Rattle.sled_nodes.specs.Posting.{IsOpen, IsIndex, Posts};
@@ -525,6 +526,36 @@ impl Node {
         match &self.content {
             Data::Leaf(leaf) => leaf.last_up_to(bound, near),
             Data::Index(_) => Ok(None),
+        }
+    }
+
+    /// The pair of a leaf at a place, counted from 0, and `None` behind the last one. An index has none. Refused with `NoMemory` alone.
+    ///
+    /// ```
+    /// let third = node.pair_at(2)?;
+    /// ```
+    #[inline(always)]
+    pub fn pair_at(&self, place: usize) -> Result<Option<(IVec, IVec)>>
+        ensures ok { IfOk result (λ found. found ≡ slice_get (pairs self.now.content) place) }
+        ensures err { IfErr result (λ e. e ≡ NoMemory) }
+    {
+        match &self.content {
+            Data::Leaf(leaf) => leaf.pair_at(place),
+            Data::Index(_) => Ok(None),
+        }
+    }
+
+    /// How many pairs of a leaf have a key within an upper bound. An index has none. It takes no memory.
+    ///
+    /// ```
+    /// let count = node.count_up_to(Bound::Excluded(b"ulm")); // In a leaf whose keys ascend these are the first so many pairs.
+    /// ```
+    pub fn count_up_to(&self, bound: Bound<&[u8]>) -> usize
+        ensures { result ≡ length (pairs_in (record { lo = Unbounded; hi = bound_of bound.entry; back = false }) (pairs self.now.content)) }
+    {
+        match &self.content {
+            Data::Leaf(leaf) => leaf.count_up_to(bound),
+            Data::Index(_) => 0,
         }
     }
 

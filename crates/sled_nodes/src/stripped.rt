@@ -15,6 +15,7 @@ ghost use Rattle.sled_nodes.specs.Halves.{first_half, second_half, first_key};
 ghost use Rattle.sled_nodes.specs.theory.Places.{IsFirstAt, IsLastAt, IsPlaceOf};
 ghost use Rattle.sled_nodes.specs.theory.Rising.{IsOut};
 ghost use Rattle.sled_nodes.specs.Ranges.{pairs_in};
+ghost use Rattle.std.specs.declared.ops.Bound.TheVariants.{Unbounded};
 
 use crate::ascending::NOWHERE;
 use crate::entries::Entries;
@@ -512,6 +513,29 @@ impl Stripped<IVec> {
                 None => None,
             },
             None => None,
+        }
+    }
+
+    // The pair at a place of the list.
+    #[inline(always)]
+    pub(crate) fn pair_at(&self, place: usize) -> Result<Option<(IVec, IVec)>>
+        ensures ok { IfOk result (λ found. found ≡ slice_get self.now place) }
+        ensures err { IfErr result (λ e. e ≡ NoMemory) }
+    {
+        if place < self.len() {
+            Ok(Some(self.entry(place)?))
+        } else {
+            Ok(None)
+        }
+    }
+
+    // How many pairs are within an upper bound.
+    pub(crate) fn count_up_to(&self, bound: Bound<&[u8]>) -> usize
+        ensures { result ≡ length (pairs_in (record { lo = Unbounded; hi = bound_of bound.entry; back = false }) self.now) }
+    {
+        match upper_behind(&self.prefix, bound) {
+            Some(rest) => self.rests.count_up_to(rest),
+            None => 0,
         }
     }
 
