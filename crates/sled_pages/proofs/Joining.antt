@@ -5,7 +5,7 @@ use Rattle.sled_nodes.specs.Node.{after_link}
 use Rattle.sled_nodes.specs.declared.link.Link.{Link}
 use Rattle.sled_nodes.specs.declared.node.Node.{Node}
 use Rattle.sled_pages.specs.Parts.{Parts, after_links, node_of}
-use Rattle.sled_pages.specs.theory.Parts.{parts_under, is_joined_as}
+use Rattle.sled_pages.specs.theory.Parts.{is_ready_as}
 use Rattle.sled_pages.specs.declared.memory.linked.Below.{Below}
 use Rattle.sled_pages.specs.declared.memory.linked.Below.TheVariants.{Joined}
 use Rattle.sled_pages.proofs.Linked.{after_last_link}
@@ -18,6 +18,6 @@ join_more links base i d x n n' h e k m = rw add-one (
 pub joined_more : (n n' : Node) (p p' : Parts) (link : Link) → n ≡ node_of p → n' ≡ after_link link n → p' ≡ (p.0, p.1 ++ link ∷ []) → n' ≡ node_of p'
 joined_more n n' p p' link k m e = m ∙ (ap (after_link link) k ∙ (sym (after_last_link p.1 link p.0) ∙ ap node_of (sym e)))
 
--- what lies below a node, taken out
-pub below_joins : (n : Node) (b : Below) (p : Parts) → is_joined_as n b → b ≡ Joined p → n ≡ node_of (parts_under n b)
-below_joins n b p h e = subst (is_joined_as n) e h ∙ ap (λ x. node_of (parts_under n x)) (sym e)
+-- the node of a page that is joined
+pub ready_joins : (n : Node) (b : Below) (p : Parts) → is_ready_as n b → b ≡ Joined p → n ≡ node_of p
+ready_joins n b p h e = subst (is_ready_as n) e h

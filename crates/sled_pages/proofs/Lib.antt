@@ -7,3 +7,5 @@ pub mod Joining
 pub mod Parted
 pub mod Back
 pub mod Laying
+pub mod Rebuilding
+pub mod InPlace

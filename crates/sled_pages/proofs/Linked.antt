@@ -64,7 +64,7 @@ twice f p a b = fun_ext (λ q. elim (eqb q p) as (λ t. cond t b (cond t a (f q)
 same_put : {X : Type 0} (f : ℕ → X) (p : ℕ) (a : X) → f p ≡ a → put_at f p a ≡ f
 same_put f p a e = sym (one_place f f p a e (λ q h. refl))
 
-out_in : (s t u : ℕ → Option Slot) (pid : ℕ) (x : Option Slot) → t ≡ put_at s pid None → u ≡ put_at t pid x → u ≡ put_at s pid x
+pub out_in : (s t u : ℕ → Option Slot) (pid : ℕ) (x : Option Slot) → t ≡ put_at s pid None → u ≡ put_at t pid x → u ≡ put_at s pid x
 out_in s t u pid x out inn = inn ∙ (ap (λ f. put_at f pid x) out ∙ twice s pid None x)
 
 abbrev slot_at : ℕ → Parts → Option Slot

@@ -12,7 +12,8 @@ use Rattle.sled_store.specs.Update.{put_at}
 use Rattle.sled_store.specs.theory.Facts.{put_here, put_elsewhere}
 use Rattle.sled_pages.specs.Joined.{joined}
 use Rattle.sled_pages.specs.Slots.{slot_in, place_in, own_places, given_in}
-use Rattle.sled_pages.specs.theory.Known.{IsKnown, IsUnused}
+use Rattle.sled_pages.specs.theory.Known.{IsKnown}
+use Rattle.sled_pages.specs.Building.{IsUnused}
 
 pub same_place : {X : Type 0} (xs : List X) (i : ℕ) (x : X) → i < length xs → slice_get (slice_set xs i x) i ≡ Some x
 same_place [] i x h = absurd (omega (arith, h))
@@ -117,6 +118,21 @@ unused_added given own new slot e u = record { none = λ q k. ap (λ f. f q) e �
 
     weaker : (q : ℕ) → given + 1 ≤ q → given ≤ q
     weaker q k = omega arith
+
+-- a page of an image that is written over
+pub foreign_put : (last : ℕ) (foreign new : BTreeMap ℕ (Option Slot)) (own : ℕ → Option Slot) (p : ℕ) (slot : Option Slot) → p ≤ last → ((q : ℕ) → get nat_cmp new q ≡ cond (is_at (nat_cmp p) q) (Some slot) (get nat_cmp foreign q)) → slot_in last new own ≡ put_at (slot_in last foreign own) p slot
+foreign_put last foreign new own p slot h up = one_place (slot_in last new own) (slot_in last foreign own) p slot
+    (ap (λ b. cond b (joined (get nat_cmp new p)) (own (p - last - 1))) (up_to last p h) ∙ ap joined (up p ∙ ap (λ t. cond t (Some slot) (get nat_cmp foreign p)) (sym (unsigned_ties p p) ∙ same p)))
+    (λ q k. ap (λ o. cond (nat_le q last) (joined o) (own (q - last - 1))) (up q ∙ ap (λ t. cond t (Some slot) (get nat_cmp foreign q)) (sym (unsigned_ties p q) ∙ differs q (λ e. k (sym e)))))
+  where
+    up_to : (last p : ℕ) → p ≤ last → nat_le p last ≡ true
+    up_to last p h = grind (arith, nat_tests)
+
+    same : (n : ℕ) → nat_eq n n ≡ true
+    same n = grind (arith, nat_tests)
+
+    differs : (q : ℕ) → (p ≡ q → ⊥) → nat_eq p q ≡ false
+    differs q k = grind (arith, nat_tests)
 
 -- a page of an image whose place goes
 pub foreign_gone : (foreign new : BTreeMap ℕ (Option Slot)) (k : ℕ) → ((q : ℕ) → get nat_cmp new q ≡ cond (is_at (nat_cmp k) q) None (get nat_cmp foreign q)) → joined (get nat_cmp foreign k) ≡ None → (q : ℕ) → joined (get nat_cmp new q) ≡ joined (get nat_cmp foreign q)

@@ -7,7 +7,7 @@
 
 mod memory;
 
-pub use memory::MemPages;
+pub use memory::{MemPages, Rebuild};
 pub use sled_nodes::{
     Data, Error, Fault, IVec, Index, Leaf, Link, Node, Pid, Result, Shared, Version, is_from,
     is_up_to, texts,

@@ -8,7 +8,7 @@ ghost use Rattle.sled_store.specs.Roots.{roots_of};
 ghost use Rattle.sled_pages.specs.Table.{IsKept, AreBelow};
 ghost use Rattle.sled_store.specs.Faults.{IsFault};
 ghost use Rattle.sled_pages.specs.theory.Faults.{is_named};
-ghost use Rattle.std.specs.Option.{option_map};
+ghost use Rattle.std.specs.Option.{option_copied, option_map};
 ghost use Rattle.sled_store.specs.Update.{put_at};
 ghost use Rattle.sled_pages.specs.Table.{page_of, slot_given};
 ghost use Rattle.sled_store.specs.State.{PageBecomes, RootBecomes, GroupBegins, GroupEnds};
@@ -21,20 +21,22 @@ ghost use Rattle.sled_nodes.specs.Node.{after_link};
 ghost use Rattle.sled_store.specs.State.{nodes_of};
 ghost use Rattle.sled_store.specs.Store.{Allocates, Changes, Frees, SwapsRoot};
 ghost use Rattle.sled_pages.specs.declared.memory.slots.Slot.{Slot};
-ghost use Rattle.std.specs.Prelude.{◌≤◌, IfSome};
+ghost use Rattle.std.specs.Prelude.{◌≤◌, IfSome, nat_le, nat_lt};
 
 mod back;
 mod blocks;
 mod linked;
+mod rebuild;
 mod slots;
 mod undo;
 
 use back::{greatest_root, join_all, linked_pages, set_root, settle, sorted_roots, take_all_back};
 use linked::Linked;
+pub use rebuild::Rebuild;
 use sled_nodes::{
     Error, Fault, IVec, Link, Node, Pid, Result, Shared, Version, copy_pointers, value_at,
 };
-use sled_store::{Page, Pages, View};
+use sled_store::{Pages, View};
 use slots::{Slot, Slots, reserve_one};
 use std::alloc::Global;
 use undo::Undo;
@@ -101,6 +103,15 @@ fn fault(faults: &mut u64, code: u32) -> Error
     }
     *faults += 1;
     Error::Io(Fault(code))
+}
+
+// Whether a page was named. Out of line, since nearly always none was.
+#[cold]
+#[inline(never)]
+fn names(named: &[u64], pid: Pid) -> bool
+    ensures { result ≡ is_named pid named.now }
+{
+    named.contains(&pid.0)
 }
 
 // Counts a call, which is refused where its number was named.
@@ -278,6 +289,18 @@ impl MemPages {
         }
     }
 
+    /// The greatest page number that was given, 0 where none was, and how many versions were: all that are below it.
+    ///
+    /// ```
+    /// let (greatest, versions) = pages.numbers_given(); // (Pid(0), 0) of a new store.
+    /// ```
+    pub fn numbers_given(&self) -> (Pid, u64)
+        ensures pids { (p : ℕ) → 0 < p → (store_of self.now).pids p ≡ nat_le p result.0 }
+        ensures versions { (v : ℕ) → (store_of self.now).versions v ≡ nat_lt v result.1 }
+    {
+        (self.slots.greatest(), self.next_version)
+    }
+
     /// The page of this number cannot be read any more, until a crash. Refused with `NoMemory` alone, and then unchanged.
     ///
     /// ```
@@ -360,19 +383,20 @@ impl MemPages {
         }
     }
 
-    // The page of a number, whose node is shared.
+    // The slot of a number.
     #[inline(always)]
-    fn shared_page(&self, alloc: Global, pid: Pid) -> Result<Option<Page>>
-        ensures ok { IfOk result (λ page. page ≡ (now (store_of self.now)).pages pid) }
-        ensures err { IfErr result (λ e. e ≡ NoMemory) }
+    fn slot(&self, pid: Pid) -> Option<&Slot>
+        ensures { option_map page_of (option_copied result) ≡ (now (store_of self.now)).pages pid }
     {
-        match self.slots.get(pid) {
-            Some(slot) => Ok(Some(Page {
-                version: slot.version,
-                node: slot.page.node(alloc)?,
-            })),
-            None => Ok(None),
-        }
+        self.slots.get(pid)
+    }
+
+    // Whether a page cannot be read.
+    #[inline(always)]
+    fn is_unreadable(&self, pid: Pid) -> bool
+        ensures { result ≡ is_named pid self.now.unreadable.items }
+    {
+        !self.unreadable.is_empty() && names(self.unreadable.as_slice(), pid)
     }
 
     // Puts a page in the place of another, or takes it out.
@@ -441,14 +465,14 @@ impl Pages for MemPages {
 
     #[inline(always)]
     fn read(&self, alloc: Global, pid: Pid) -> Result<Option<View>> {
-        if self.unreadable.contains(&pid.0) {
+        if self.is_unreadable(pid) {
             return Err(Error::Io(Fault(UNREADABLE)));
         }
-        match self.shared_page(alloc, pid)? {
-            Some(page) => Ok(Some(View {
+        match self.slot(pid) {
+            Some(slot) => Ok(Some(View {
                 pid,
-                version: page.version,
-                node: page.node,
+                version: slot.version,
+                node: slot.page.node(alloc)?,
             })),
             None => Ok(None),
         }

@@ -1,5 +1,5 @@
 -- Of Parts, for proofs. A page as the node that it stands for, and what lies below it.
-use Rattle.std.specs.Prelude.{◌≡◌, [], Option, Some, None}
+use Rattle.std.specs.Prelude.{◌≡◌, []}
 use Rattle.sled_nodes.specs.declared.node.Node.{Node}
 use Rattle.sled_pages.specs.declared.memory.linked.Below.{Below}
 use Rattle.sled_pages.specs.declared.memory.linked.Below.TheVariants.{Nothing, Joined, Apart}
@@ -20,7 +20,11 @@ is_joined_as n (Apart p) = Unit {0}
 pub record IsJoined (n : Node) (below : Below) : Type 0 where
   pub is : is_joined_as n below
 
--- the base and the links that were taken out from below a node; where there are none it is the base
-abbrev pub joined_under : Node → Option Parts → Parts
-joined_under n None = (n, [])
-joined_under n (Some p) = p
+abbrev pub is_ready_as : Node → Below → Type 0
+is_ready_as n Nothing = Unit {0}
+is_ready_as n (Joined p) = n ≡ node_of p
+is_ready_as n (Apart p) = ⊥
+
+-- it is the base after the links, and these are not apart
+pub record IsReady (n : Node) (below : Below) : Type 0 where
+  pub is : is_ready_as n below

@@ -19,7 +19,8 @@ use Rattle.sled_store.specs.State.{GroupBegins, GroupEnds, after, after_all}
 use Rattle.sled_pages.specs.Joined.{joined}
 use Rattle.sled_pages.specs.Rows.{lies_in, has_in}
 use Rattle.sled_pages.specs.Slots.{slot_in, place_in, own_places, given_in}
-use Rattle.sled_pages.specs.theory.Known.{IsKnown, IsUnused}
+use Rattle.sled_pages.specs.theory.Known.{IsKnown}
+use Rattle.sled_pages.specs.Building.{IsUnused}
 use Rattle.sled_pages.specs.Table.{Table, page_of, pages_of, state_of, undone, undoes, base_of, recent_of, slot_given, slot_unlinked}
 use Rattle.sled_store.specs.theory.Facts.{after_last, same_name}
 

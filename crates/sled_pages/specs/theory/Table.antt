@@ -1,11 +1,18 @@
 -- Of Table, for proofs. A store in memory as slots by number, and what its log of undone work says: the state before it, and the actions in it.
-use Rattle.std.specs.Prelude.{◌≡◌, ℕ, ◌<◌, ◌≤◌, true, false, Bool, List, length, take, Option}
+use Rattle.std.specs.Prelude.{◌≡◌, ℕ, ◌<◌, ◌≤◌, true, false, Bool, List, length, take, Option, Some, None}
 use mathlib.Core.List.{reverse}
 use Rattle.sled_nodes.specs.Order.{Key}
+use Rattle.sled_nodes.specs.declared.link.Link.{Link}
+use Rattle.sled_pages.specs.Parts.{linked}
 use Rattle.sled_pages.specs.declared.memory.slots.Slot.{Slot}
 use Rattle.sled_pages.specs.declared.memory.undo.Undo.{Undo}
 use Rattle.sled_store.specs.State.{State, after_all}
 use Rattle.sled_pages.specs.Table.{Table, state_of, base_of, recent_of}
+
+-- the slot after a link, at this version
+abbrev pub slot_linked : Link → ℕ → Option Slot → Option Slot
+slot_linked link version None = None
+slot_linked link version (Some s) = Some (record { version = version; page = linked link s.page })
 
 abbrev pub table : (ℕ → Option Slot) → (Key → Option ℕ) → Bool → Table
 table slots roots in_group = record { slots = slots; roots = roots; in_group = in_group }

@@ -1,15 +1,18 @@
 //! Slots by place, in blocks of 64 places. A block in which no slot lies may be let go: then it takes no memory but for its entry in the
 //! list of blocks, and has no places.
-ghost use Rattle.std.specs.Prelude.{◌≡◌, ℕ, ◌≤◌, ◌<◌, Some, None, true, false, length, OnOk, IfErr, slice_set};
+ghost use Rattle.std.specs.Prelude.{◌≡◌, ℕ, ◌≤◌, ◌<◌, Some, None, true, false, length, is_some, IfSome, IfOk, IfErr, OnOk, OnErr, slice_set};
 ghost use Rattle.std.specs.List.{slice_get};
 ghost use Rattle.std.specs.Option.{option_copied};
 ghost use Rattle.sled_nodes.specs.declared.error.Error.TheVariants.{NoMemory};
 ghost use Rattle.sled_store.specs.Update.{put_at};
 ghost use Rattle.sled_pages.specs.Joined.{joined};
 ghost use Rattle.sled_pages.specs.Rows.{rows_of};
+ghost use Rattle.sled_pages.specs.theory.Table.{slot_linked};
+ghost use Rattle.sled_pages.specs.theory.Linking.{undo_of};
 
-use super::slots::Slot;
-use sled_nodes::Result;
+use super::slots::{Slot, link_slot};
+use super::undo::Undo;
+use sled_nodes::{Link, Pid, Result, Version};
 use std::alloc::Global;
 
 // A block has so many places.
@@ -69,6 +72,25 @@ fn put_in(block: &mut Vec<Option<Slot>>, i: usize, slot: Option<Slot>) -> Option
     std::mem::replace(&mut block[i], slot)
 }
 
+// Changes the page of a slot at a place of a block by a link. Refused with `NoMemory` alone, and then unchanged.
+#[inline(always)]
+fn link_in(
+    alloc: Global,
+    block: &mut Vec<Option<Slot>>,
+    i: usize,
+    pid: Pid,
+    version: Version,
+    link: Link,
+) -> Result<Undo>
+    requires there { is_some (joined (slice_get block.old.items i)) ≡ true }
+    ensures told { IfOk result (λ undo. IfSome (joined (slice_get block.old.items i)) (λ was. undo ≡ undo_of pid was.version was.page)) }
+    ensures ok { OnOk result (block.new.items ≡ slice_set block.old.items i (slot_linked link version (joined (slice_get block.old.items i)))) }
+    ensures err { OnErr result (block.new.items ≡ block.old.items) }
+    ensures cause { IfErr result (λ e. e ≡ NoMemory) }
+{
+    link_slot(alloc, &mut block[i], pid, version, link)
+}
+
 impl Blocks {
     ghost use Rattle.sled_pages.specs.Blocks.{lies_of, has_of};
 
@@ -104,6 +126,28 @@ impl Blocks {
         ensures places { has_of self.new ≡ has_of self.old }
     {
         put_in(&mut self.blocks[place / PLACES], place % PLACES, slot)
+    }
+
+    /// Changes the page of a slot by a link where it lies, and gives it a version. Says how that is taken back, by the number of the page.
+    /// Refused with `NoMemory` alone, and then unchanged.
+    pub fn link(
+        &mut self,
+        alloc: Global,
+        place: usize,
+        pid: Pid,
+        version: Version,
+        link: Link,
+    ) -> Result<Undo>
+        requires placed { has_of self.old place ≡ true }
+        requires there { is_some (lies_of self.old place) ≡ true }
+        ensures told { IfOk result (λ undo. IfSome (lies_of self.old place) (λ was. undo ≡ undo_of pid was.version was.page)) }
+        ensures ok { OnOk result (lies_of self.new ≡ put_at (lies_of self.old) place (slot_linked link version (lies_of self.old place))) }
+        ensures err { OnErr result (lies_of self.new ≡ lies_of self.old) }
+        ensures places { has_of self.new ≡ has_of self.old }
+        ensures cause { IfErr result (λ e. e ≡ NoMemory) }
+    {
+        let block = &mut self.blocks[place / PLACES];
+        link_in(alloc, block, place % PLACES, pid, version, link)
     }
 
     /// Sees to it that a place is there. Refused with `NoMemory` alone.

@@ -1,14 +1,14 @@
 //! A page as it is kept: a node, and below it the base and the links that it came from.
-ghost use Rattle.std.specs.Prelude.{◌≡◌, ◌<◌, ◌≤◌, ◌++◌, ◌∷◌, [], length, Some, None, IfOk, IfErr, OnOk, OnErr, if◌then◌else◌};
+ghost use Rattle.std.specs.Prelude.{◌≡◌, ◌<◌, ◌≤◌, ◌++◌, ◌∷◌, [], length, Some, None, true, IfOk, IfErr, OnOk, OnErr, if◌then◌else◌};
 ghost use Rattle.std.specs.Vec.{vec_len, vec_capacity};
 ghost use Rattle.sled_nodes.specs.declared.error.Error.TheVariants.{NoMemory};
 ghost use Rattle.sled_pages.specs.declared.memory.linked.Below.TheVariants.{Nothing};
 ghost use Rattle.sled_pages.specs.Parts.{node_of, linked, unlinked, is_full};
-ghost use Rattle.sled_pages.specs.theory.Parts.{IsJoined, parts_under, joined_under};
+ghost use Rattle.sled_pages.specs.theory.Parts.{IsJoined, IsReady, parts_under};
 ghost use Rattle.sled_nodes.specs.Node.{after_link};
 
 use sled_nodes::{Link, Node, Result, Shared};
-use std::alloc::Global;
+use std::alloc::{AllocError, Global};
 use std::marker::Model;
 
 // A link that finds so many folds.
@@ -49,6 +49,14 @@ impl Model for Under {
     ghost invariant = { λ a. length (box_value a.since).links.items ≤ 8 };
 }
 
+// Shares a node, as a read asks for it.
+#[inline(always)]
+fn share(node: &Shared) -> std::result::Result<Shared, AllocError>
+    ensures { IfOk result (λ more. more ≡ node.now) }
+{
+    node.share().map_err(|_| AllocError)
+}
+
 // Room for one link more. Refused with `NoMemory` alone.
 fn make_room(links: &mut Vec<Link>) -> Result<()>
     ensures same { links.new.items ≡ links.old.items }
@@ -84,6 +92,15 @@ impl Under {
             node.apply(alloc, link)?;
         }
         Ok(node)
+    }
+
+    // The same, as a read asks for it. Out of line, since only behind a crash there are pages that are not joined.
+    #[cold]
+    #[inline(never)]
+    fn joined(&self, alloc: Global) -> std::result::Result<Shared, AllocError>
+        ensures { IfOk result (λ node. node ≡ node_of self.now) }
+    {
+        self.join(alloc).map_err(|_| AllocError)
     }
 
     // How many links there are.
@@ -141,30 +158,109 @@ enum Below {
     Apart(Under),
 }
 
-// Takes out what lies below a node, once the node is what it joins to. Refused with `NoMemory` alone, and then unchanged.
-fn take_joined(alloc: Global, node: &mut Shared, below: &mut Below) -> Result<Option<Under>>
+// What lies below the node that these join to: where there are no links that is nothing, since the node is the base.
+fn below_of(under: Under) -> Below
+    ensures same { parts_under (node_of under) result ≡ under }
+    ensures ready { IsReady (node_of under) result }
+{
+    if under.len() > 0 {
+        return Below::Joined(under);
+    }
+    drop(under);
+    Below::Nothing
+}
+
+// Joins what lies below a node and is apart. Refused with `NoMemory` alone, and then unchanged.
+#[cold]
+#[inline(never)]
+fn join_apart(alloc: Global, node: &mut Shared, below: &mut Below) -> Result<()>
     requires { IsJoined node.old below.old }
-    ensures node { OnOk result (node.new ≡ node_of (parts_under node.old below.old)) }
-    ensures was { IfOk result (λ under. joined_under node.new under ≡ parts_under node.old below.old) }
-    ensures below { OnOk result (below.new ≡ Nothing) }
-    ensures err { OnErr result (node.new ≡ node.old) }
-    ensures kept { OnErr result (below.new ≡ below.old) }
+    ensures same { parts_under node.new below.new ≡ parts_under node.old below.old }
+    ensures joined { IsJoined node.new below.new }
+    ensures ready { OnOk result (IsReady node.new below.new) }
     ensures cause { IfErr result (λ e. e ≡ NoMemory) }
 {
     match std::mem::replace(below, Below::Nothing) {
-        Below::Nothing => Ok(None),
-        Below::Joined(under) => Ok(Some(under)),
         Below::Apart(under) => match under.join(alloc) {
             Ok(joined) => {
                 *node = joined;
-                Ok(Some(under))
+                *below = below_of(under);
+                Ok(())
             }
             Err(e) => {
                 *below = Below::Apart(under);
                 Err(e)
             }
         },
+        joined => {
+            *below = joined;
+            Ok(())
+        }
     }
+}
+
+// Joins what lies below a node, if it is apart. Refused with `NoMemory` alone, and then unchanged.
+#[inline(always)]
+fn make_ready(alloc: Global, node: &mut Shared, below: &mut Below) -> Result<()>
+    requires { IsJoined node.old below.old }
+    ensures same { parts_under node.new below.new ≡ parts_under node.old below.old }
+    ensures joined { IsJoined node.new below.new }
+    ensures ready { OnOk result (IsReady node.new below.new) }
+    ensures cause { IfErr result (λ e. e ≡ NoMemory) }
+{
+    match below {
+        Below::Apart(_) => join_apart(alloc, node, below),
+        _ => Ok(()),
+    }
+}
+
+// The ninth link of a page: the base becomes the node after it. Gives what lay below the node. Refused with `NoMemory` alone, and then
+// unchanged.
+fn fold(alloc: Global, node: &mut Shared, below: &mut Below, ninth: &Link) -> Result<Option<Under>>
+    requires ready { IsReady node.old below.old }
+    requires full { is_full (parts_under node.old below.old) ≡ true }
+    ensures ok { OnOk result (node.new ≡ after_link ninth.now node.old) }
+    ensures below { OnOk result (below.new ≡ Nothing) }
+    ensures folded { IfOk result (λ folded. folded ≡ Some (parts_under node.old below.old)) }
+    ensures err { OnErr result (node.new ≡ node.old) }
+    ensures kept { OnErr result (below.new ≡ below.old) }
+    ensures cause { IfErr result (λ e. e ≡ NoMemory) }
+{
+    node.apply(alloc, ninth)?;
+    match std::mem::replace(below, Below::Nothing) {
+        Below::Nothing => Ok(None),
+        Below::Joined(under) => Ok(Some(under)),
+        Below::Apart(under) => Ok(Some(under)),
+    }
+}
+
+// One link more of a page that is joined. Gives what lay below its node where it folds. Refused with `NoMemory` alone, and then
+// unchanged.
+fn link_ready(
+    alloc: Global,
+    node: &mut Shared,
+    below: &mut Below,
+    link: Link,
+) -> Result<Option<Under>>
+    requires { IsReady node.old below.old }
+    ensures ok { OnOk result (parts_under node.new below.new ≡ linked link (parts_under node.old below.old)) }
+    ensures folded { IfOk result (λ folded. folded ≡ (if is_full (parts_under node.old below.old) then Some (parts_under node.old below.old) else None)) }
+    ensures err { OnErr result (parts_under node.new below.new ≡ parts_under node.old below.old) }
+    ensures joined { IsJoined node.new below.new }
+    ensures cause { IfErr result (λ e. e ≡ NoMemory) }
+{
+    if let Below::Joined(under) = below {
+        if under.len() < MOST {
+            link_more(alloc, node, under, link)?;
+            return Ok(None);
+        }
+        let folded = fold(alloc, node, below, &link);
+        drop(link);
+        return folded;
+    }
+    let under = link_first(alloc, node, link)?;
+    *below = Below::Joined(under);
+    Ok(None)
 }
 
 /// A base node and at most 8 links. Contracts see these two.
@@ -241,16 +337,16 @@ impl Linked {
         }
     }
 
-    /// The base after the links. Refused with `NoMemory` alone.
+    /// The base after the links. Refused where there is no memory, which is all that a read needs to be told: so short an answer makes
+    /// reads cheap.
     #[inline(always)]
-    pub fn node(&self, alloc: Global) -> Result<Shared>
-        ensures ok { IfOk result (λ node. node ≡ node_of self.now) }
-        ensures err { IfErr result (λ e. e ≡ NoMemory) }
+    pub fn node(&self, alloc: Global) -> std::result::Result<Shared, AllocError>
+        ensures { IfOk result (λ node. node ≡ node_of self.now) }
     {
-        if let Below::Apart(under) = &self.below {
-            return under.join(alloc);
+        match &self.below {
+            Below::Apart(under) => under.joined(alloc),
+            _ => share(&self.node),
         }
-        self.node.share()
     }
 
     /// Whether the base and the links are yet to be joined.
@@ -263,12 +359,7 @@ impl Linked {
         ensures same { self.new ≡ self.old }
         ensures err { IfErr result (λ e. e ≡ NoMemory) }
     {
-        if let Some(under) = take_joined(alloc, &mut self.node, &mut self.below)? {
-            if under.len() > 0 {
-                self.below = Below::Joined(under);
-            }
-        }
-        Ok(())
+        make_ready(alloc, &mut self.node, &mut self.below)
     }
 
     /// One link more. Where there are 8 the base becomes the node after all of them, and the base and the links before are given.
@@ -279,22 +370,8 @@ impl Linked {
         ensures err { OnErr result (self.new ≡ self.old) }
         ensures cause { IfErr result (λ e. e ≡ NoMemory) }
     {
-        let Some(mut under) = take_joined(alloc, &mut self.node, &mut self.below)? else {
-            let under = link_first(alloc, &mut self.node, link)?;
-            self.below = Below::Joined(under);
-            return Ok(None);
-        };
-        if under.len() < MOST {
-            let done = link_more(alloc, &mut self.node, &mut under, link);
-            self.below = Below::Joined(under);
-            done?;
-            return Ok(None);
-        }
-        if let Err(e) = self.node.apply(alloc, &link) {
-            self.below = Below::Joined(under);
-            return Err(e);
-        }
-        Ok(Some(under))
+        make_ready(alloc, &mut self.node, &mut self.below)?;
+        link_ready(alloc, &mut self.node, &mut self.below, link)
     }
 
     /// One link less, if there is one. It takes no memory.

@@ -1,13 +1,21 @@
 //! Pages by number, as the store in memory keeps them.
-ghost use Rattle.std.specs.Prelude.{◌≡◌, ℕ, ◌+◌, ◌^◌, ◌<◌, Some, None, true, false, IfOk, IfErr, OnOk, IsTrue, ◌↔◌, OnErr, is_some};
+ghost use Rattle.std.specs.Prelude.{◌≡◌, ℕ, ◌+◌, ◌^◌, ◌<◌, ◌||◌, Some, None, true, false, nat_eq, nat_le, IfOk, IfErr, IfSome, OnOk, IsTrue, ◌↔◌, OnErr, is_some};
 ghost use Rattle.std.specs.Option.{option_copied};
 ghost use Rattle.std.specs.Vec.{vec_len, vec_capacity};
 ghost use Rattle.sled_nodes.specs.declared.error.Error.TheVariants.{NoMemory};
 ghost use Rattle.sled_store.specs.Update.{put_at};
 ghost use Rattle.sled_pages.specs.Blocks.{lies_of};
-ghost use Rattle.sled_pages.specs.theory.Known.{IsKnown, IsUnused};
+ghost use Rattle.sled_pages.specs.theory.Known.{IsKnown};
+ghost use Rattle.sled_pages.specs.Building.{IsUnused};
+ghost use Rattle.sled_pages.specs.theory.Table.{slot_linked};
 ghost use Rattle.sled_pages.specs.Table.{slot_unlinked};
-ghost use Rattle.sled_pages.specs.theory.Linking.{Relinked};
+ghost use Rattle.sled_pages.specs.theory.Linking.{Relinked, undo_of};
+ghost use Rattle.sled_pages.specs.Parts.{linked};
+ghost use Rattle.std.specs.Ordering.{nat_cmp};
+ghost use Rattle.std.specs.BTreeMap.{get};
+ghost use Rattle.sled_pages.specs.Joined.{joined};
+ghost use Rattle.std.specs.Prelude.{nat_lt, nat_le, ◌&&◌};
+ghost use Rattle.sled_pages.specs.Numbered.{numbered};
 
 use super::blocks::Blocks;
 use super::linked::Linked;
@@ -23,6 +31,47 @@ pub struct Slot {
     pub page: Linked,
 }
 
+impl Slot {
+    // Changes the page by a link, and gives it a version. Says how that is taken back. Refused with `NoMemory` alone, and then unchanged.
+    fn link(&mut self, alloc: Global, pid: Pid, version: Version, link: Link) -> Result<Undo>
+        ensures told { IfOk result (λ undo. undo ≡ undo_of pid self.old.version self.old.page) }
+        ensures ok { OnOk result (self.new ≡ record { version = version; page = linked link self.old.page }) }
+        ensures err { OnErr result (self.new ≡ self.old) }
+        ensures cause { IfErr result (λ e. e ≡ NoMemory) }
+    {
+        let folded = self.page.link(alloc, link)?;
+        let before = self.version;
+        self.version = version;
+        match folded {
+            None => Ok(Undo::UndoLink(pid, before)),
+            Some(under) => Ok(Undo::UndoFold(pid, before, under)),
+        }
+    }
+}
+
+/// Changes the page of a slot that is there by a link, as `Slots::link` does. Refused with `NoMemory` alone, and then unchanged.
+pub fn link_slot(
+    alloc: Global,
+    slot: &mut Option<Slot>,
+    pid: Pid,
+    version: Version,
+    link: Link,
+) -> Result<Undo>
+    requires { is_some slot.old ≡ true }
+    ensures told { IfOk result (λ undo. IfSome slot.old (λ was. undo ≡ undo_of pid was.version was.page)) }
+    ensures ok { OnOk result (slot.new ≡ slot_linked link version slot.old) }
+    ensures err { OnErr result (slot.new ≡ slot.old) }
+    ensures cause { IfErr result (λ e. e ≡ NoMemory) }
+{
+    match slot {
+        Some(slot) => slot.link(alloc, pid, version, link),
+        None => {
+            drop(link);
+            Err(Error::NoMemory)
+        }
+    }
+}
+
 /// Slots by number. Those of an image have any numbers up to `last`; those that were added since lie in order behind. Numbers whose
 /// slots are gone for good lose their places, so that these take no memory.
 #[derive(Drop)]
@@ -36,6 +85,7 @@ pub struct Slots {
     ghost known: { IsKnown from_image foreign },
     ghost numbered: { last + given < 2 ^ 64 },
     ghost unused: { IsUnused given (lies_of own) },
+    ghost first: { (from_image || nat_eq last 0) ≡ true },
 }
 
 // Room for one item more. A full list grows by an eighth, so that a long one has little to spare.
@@ -123,12 +173,20 @@ impl Slots {
         ensures { option_copied result ≡ slots_of self.now pid }
     {
         if pid.0 <= self.last {
-            match self.foreign.get(&pid.0) {
-                Some(slot) => slot.as_ref(),
-                None => None,
-            }
+            self.of_image(pid)
         } else {
             self.own.get((pid.0 - self.last - 1) as usize)
+        }
+    }
+
+    // The slot of a number up to the last one of the image. Out of line, so that a look-up of a later number stays short.
+    #[inline(never)]
+    fn of_image(&self, pid: Pid) -> Option<&Slot>
+        ensures { option_copied result ≡ joined (get nat_cmp self.now.foreign pid) }
+    {
+        match self.foreign.get(&pid.0) {
+            Some(slot) => slot.as_ref(),
+            None => None,
         }
     }
 
@@ -156,6 +214,30 @@ impl Slots {
 
     /// Changes a page by a link, and gives it a version. Says how that is taken back. Refused with `NoMemory` alone, and then unchanged.
     pub fn link(&mut self, alloc: Global, pid: Pid, version: Version, link: Link) -> Result<Undo>
+        requires placed { places_of self.old pid ≡ true }
+        requires there { is_some (slots_of self.old pid) ≡ true }
+        ensures ok { IfOk result (λ undo. Relinked link pid version (slots_of self.old) (slots_of self.new) undo) }
+        ensures err { OnErr result (slots_of self.new ≡ slots_of self.old) }
+        ensures places { places_of self.new ≡ places_of self.old }
+        ensures given { given_of self.new ≡ given_of self.old }
+        ensures cause { IfErr result (λ e. e ≡ NoMemory) }
+    {
+        if pid.0 <= self.last {
+            return self.link_of_image(alloc, pid, version, link);
+        }
+        let place = (pid.0 - self.last - 1) as usize;
+        self.own.link(alloc, place, pid, version, link)
+    }
+
+    // The same of a number up to the last one of the image.
+    #[inline(never)]
+    fn link_of_image(
+        &mut self,
+        alloc: Global,
+        pid: Pid,
+        version: Version,
+        link: Link,
+    ) -> Result<Undo>
         requires placed { places_of self.old pid ≡ true }
         requires there { is_some (slots_of self.old pid) ≡ true }
         ensures ok { IfOk result (λ undo. Relinked link pid version (slots_of self.old) (slots_of self.new) undo) }
@@ -246,6 +328,13 @@ impl Slots {
         }
     }
 
+    /// The greatest number that was given, 0 where none was.
+    pub fn greatest(&self) -> Pid
+        ensures { (p : ℕ) → 0 < p → given_of self.now p ≡ nat_le p result }
+    {
+        Pid(self.last + self.given)
+    }
+
     /// Whether a number is left for one slot more.
     pub fn has_number(&self) -> bool
         ensures { IsTrue result ↔ HasNumber self.now }
@@ -296,6 +385,21 @@ impl Slots {
             drop(none);
         } else {
             self.own.let_go(alloc, (pid.0 - self.last - 1) as usize);
+        }
+    }
+
+    /// The slots that lie in blocks, by number from 1 on. So many numbers count as given.
+    pub fn from_blocks(alloc: Global, own: Blocks, given: u64) -> Slots
+        requires { IsUnused given (lies_of own) }
+        ensures slots { slots_of result ≡ numbered (lies_of own) }
+        ensures given { (p : ℕ) → given_of result p ≡ (nat_lt 0 p && nat_le p given) }
+    {
+        Slots {
+            from_image: false,
+            last: 0,
+            foreign: BTreeMap::new(alloc),
+            given,
+            own,
         }
     }
 }

@@ -1,0 +1,13 @@
+use Rattle.std.proofs.Common.{◌∙◌}
+use Rattle.sled_store.specs.Roots.{roots_of}
+use Rattle.sled_pages.specs.Blocks.{lies_of}
+use Rattle.sled_pages.proofs.Rebuilding.{free_is, free_builds}
+use Rattle.sled_pages.proofs.memory.rebuild.Rebuild.free.Goals as goal
+
+pub invariant_of-self : goal.invariant_of-self
+invariant_of-self c = let m = c.args.self.now in
+    record { building = free_builds (lies_of m.pages) (lies_of c.let_go.new.self) m.roots.items c.place_of-place.result m.last m.next_version (c.let_go.ensures ∙ c.take_at-before.ensures.slots) m.building }
+
+pub returns : goal.returns
+returns c = let m = c.args.self.now in
+    free_is (lies_of m.pages) (lies_of c.take_at-before.new.pages) (lies_of c.let_go.new.self) (roots_of m.roots.items) c.place_of-place.result c.args.pid m.last m.next_version c.requires c.place_of-place.ensures c.take_at-before.ensures.slots c.let_go.ensures
