@@ -51,8 +51,8 @@ module _ {P : Type 0} (store : P → Store) (pages : P) (root : ℕ) (all : List
     pub next_found : from ≡ hi → Advances all lo from found new → TakesFirst store whole old (Some (Ok p)) (coming new hi ended)
     next_found same a = next_some old view off p new (subst (λ b. Advances all lo b (Some p) new) same (subst (λ z. Advances all lo from z new) is a))
 
-    pub back_found : from ≡ lo → Retreats all from hi found new → TakesLast store whole old (Some (Ok p)) (coming lo new ended)
-    back_found same a = back_some old view off p new (subst (λ b. Retreats all b hi (Some p) new) same (subst (λ z. Retreats all from hi z new) is a))
+    pub back_found : (low : Bound Key) → low ≡ lo → from ≡ lo → Retreats all from hi found new → TakesLast store whole old (Some (Ok p)) (coming low new ended)
+    back_found low still same a = subst (λ b. TakesLast store whole old (Some (Ok p)) (coming b new ended)) (sym still) (back_some old view off p new (subst (λ b. Retreats all b hi (Some p) new) same (subst (λ z. Retreats all from hi z new) is a)))
 
 -- what is shown of the pair is given
 takes_shown : {P A : Type 0} (store : P → Store) (splits : List (Key × Key) → Key × Key → List (Key × Key) → Type 0) (shows : Key × Key → A) (of : ℕ → ℕ) (old new : Coming P) (given : Option (Result (Key × Key) Error)) (shown : Option (Result A Error)) → shown ≡ shown_of shows given → takes store splits whole of old given new → takes store splits shows of old shown new

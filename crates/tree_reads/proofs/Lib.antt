@@ -4,5 +4,6 @@ pub mod Seeking
 pub mod Backing
 pub mod Counting
 pub mod Ranging
+pub mod Stepping
 pub mod Iterating
 pub mod Prefixes

@@ -29,7 +29,7 @@ use Rattle.tree_reads.proofs.Turning.{lower}
 use Rattle.tree_reads.proofs.Seeking.{none_at, all_at, higher, under, seeks_on}
 use Rattle.tree_reads.proofs.Backing.{not_below, back_on}
 
-each_above : (k : Key) (es : List (Key × Key)) → T (below_all key_cmp k es) → AllByRecursion (λ e. Below k e.0) es
+pub each_above : (k : Key) (es : List (Key × Key)) → T (below_all key_cmp k es) → AllByRecursion (λ e. Below k e.0) es
 each_above k [] p = tt
 each_above k (e ∷ es) p = (less_of _ (left_of _ _ p), each_above k es (right_of _ _ p))
 
@@ -38,12 +38,12 @@ at_seam k [] y ys a = a.0
 at_seam k (z ∷ zs) y ys a = at_seam k zs y ys a.1
 
 -- what stands before an entry of a sorted list is below it, and what stands behind it above
-around : (xs : List (Key × Key)) (y : Key × Key) (ys : List (Key × Key)) → T (is_sorted key_cmp (xs ++ y ∷ ys)) → AllByRecursion (λ e. Below e.0 y.0) xs × AllByRecursion (λ e. Below y.0 e.0) ys
+pub around : (xs : List (Key × Key)) (y : Key × Key) (ys : List (Key × Key)) → T (is_sorted key_cmp (xs ++ y ∷ ys)) → AllByRecursion (λ e. Below e.0 y.0) xs × AllByRecursion (λ e. Below y.0 e.0) ys
 around [] y ys p = (tt, each_above y.0 ys (left_of _ _ p))
 around (x ∷ xs) y ys p = let r = around xs y ys (right_of _ _ p) in ((at_seam x.0 xs y ys (each_above x.0 (xs ++ y ∷ ys) (left_of _ _ p)), r.0), r.1)
 
 -- filters
-filter_none : {X : Type 0} (test : X → Bool) (xs : List X) → ((x : X) → In x xs → test x ≡ false) → filter test xs ≡ []
+pub filter_none : {X : Type 0} (test : X → Bool) (xs : List X) → ((x : X) → In x xs → test x ≡ false) → filter test xs ≡ []
 filter_none test [] k = refl
 filter_none test (x ∷ xs) k = ap (λ b. cond b (x ∷ filter test xs) (filter test xs)) (k x (inl refl)) ∙ filter_none test xs (λ y i. k y (inr i))
 

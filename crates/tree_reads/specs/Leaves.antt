@@ -1,9 +1,10 @@
 -- Searches along the leaves of a tree, and the leaves at which they stand.
-use Rattle.std.specs.Prelude.{◌≡◌, ◌≢◌, ℕ, ◌+◌, ◌*◌, ◌<◌, ◌≤◌, ◌^◌, false, List, [], ◌∷◌, ◌++◌, length, Option, Some, None}
+use Rattle.std.specs.Prelude.{◌≡◌, ◌≢◌, ℕ, ◌+◌, ◌*◌, ◌<◌, ◌≤◌, ◌^◌, false, List, [], ◌∷◌, ◌++◌, length, slice_get, Option, Some, None}
 use Rattle.std.specs.declared.ops.Bound.{Bound}
 use Rattle.sled_nodes.specs.Order.{Key, Below, UpTo}
 use Rattle.sled_store.specs.In.{In}
 use Rattle.sled_nodes.specs.Among.{is_up_to, is_from}
+use Rattle.sled_nodes.specs.Node.{pairs}
 use Rattle.sled_store.specs.State.{State, nodes_of}
 use Rattle.sled_store.specs.declared.page.Page.{Page}
 use Rattle.sled_store.specs.declared.page.View.{View}
@@ -33,6 +34,11 @@ pub record SeeksBack (s : State) (root : ℕ) (hi : Bound Key) (v : View) (looke
   pub is : (w : Forest) → WellFormed (nodes_of s) s.roots w → (t : Tree) → s.roots t ≡ Some root
       → (before : List ℕ) × (behind : List ℕ) × (w.chain (place t 0) ≡ before ++ v.pid ∷ behind) × (looked + length before * tree_pages s t ≤ tree_pages s t * tree_pages s t)
       × ((e : Key × Key) → In e (contents (nodes_of s) w t) → v.node.hi ≢ [] → UpTo v.node.hi e.0 → is_up_to hi e.0 ≡ false)
+
+-- the pair at a place of the leaf at hand, if there is one
+abbrev pub entry_at : Option View → ℕ → Option (Key × Key)
+entry_at None i = None
+entry_at (Some v) i = slice_get (pairs v.node.content) i
 
 -- the leaf at hand, if there is one
 abbrev pub SeeksAt : State → ℕ → Bound Key → Option View → Type 0

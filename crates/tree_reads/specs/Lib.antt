@@ -1,5 +1,6 @@
 pub mod Walk
 pub mod Leaves
+pub mod Cursor
 pub mod Ranges
 pub mod Prefixes
 pub mod theory

@@ -1,3 +1,4 @@
 pub mod Walk
 pub mod Leaves
+pub mod Cursor
 pub mod Ranges

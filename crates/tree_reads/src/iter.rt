@@ -7,14 +7,15 @@ ghost use Rattle.sled_store.specs.Store.{now};
 ghost use Rattle.sled_store.specs.State.{nodes_of};
 ghost use Rattle.sled_nodes.specs.declared.error.Error.TheVariants.{NoMemory};
 ghost use Rattle.tree_laws.specs.Contents.{pairs_under};
-ghost use Rattle.tree_reads.specs.Walk.{RefusesWalk, once, for_each};
-ghost use Rattle.tree_reads.specs.Leaves.{SeeksAt, SeeksBackAt};
+ghost use Rattle.tree_reads.specs.Walk.{RefusesWalk, for_each};
+ghost use Rattle.tree_reads.specs.Leaves.{SeeksBackAt};
 ghost use Rattle.tree_reads.specs.Ranges.{pairs_within, IsRoot, TakesFirst, TakesLast, whole, key_alone, value_alone, coming_count};
-ghost use Rattle.tree_reads.specs.theory.Ranges.{Advances, Retreats, shown_of};
+ghost use Rattle.tree_reads.specs.theory.Ranges.{Retreats, shown_of};
 
-use crate::nearest::{first_at, last_at};
+use crate::cursor::{Cursor, first_within};
+use crate::nearest::last_at;
 use crate::reads::{Reads, law_given};
-use sled_nodes::{IVec, Pid, Result, is_from, is_reversed, is_up_to, lend_bound};
+use sled_nodes::{IVec, Pid, Result, is_from, is_reversed, lend_bound};
 use sled_store::View;
 use std::alloc::Global;
 use std::iter::{DoubleEndedIterator, Iterator};
@@ -31,41 +32,6 @@ fn move_to(bound: &mut Bound<IVec>, key: &IVec) -> Result<()>
     let old = mem::replace(bound, Bound::Excluded(key));
     drop(old);
     Ok(())
-}
-
-// The first pair of the tree within two bounds. The lower one goes on to its key.
-fn first_within<R: Reads>(
-    alloc: Global,
-    pages: &R,
-    root: Pid,
-    hand: &mut Option<View>,
-    near: &mut usize,
-    lo: &mut Bound<IVec>,
-    hi: Bound<&[u8]>,
-) -> Result<Option<(IVec, IVec)>>
-    requires root { IsRoot (now (R.store pages.now)) root }
-    requires at { SeeksAt (now (R.store pages.now)) root lo.old hand.old }
-    ensures ok { IfOk result (λ found. Advances (pairs_under (nodes_of (now (R.store pages.now))) root) lo.old (bound_of hi.entry) found lo.new) }
-    ensures err { IfErr result (λ e. RefusesWalk once (R.store pages.now) root e × (lo.new ≡ lo.old)) }
-    ensures kept { SeeksAt (now (R.store pages.now)) root lo.new hand.new }
-{
-    law_given(pages);
-    let pair = match first_at(alloc, pages, root, hand, near, lend_bound(lo)) {
-        Ok(Some(pair)) => pair,
-        Ok(None) => return Ok(None),
-        Err(e) => return Err(e),
-    };
-    if !is_up_to(pair.0.as_ref(), hi) {
-        drop(pair);
-        return Ok(None);
-    }
-    match move_to(lo, &pair.0) {
-        Ok(()) => Ok(Some(pair)),
-        Err(e) => {
-            drop(pair);
-            Err(e)
-        }
-    }
 }
 
 // The last pair of the tree within two bounds. The upper one goes on to its key.
@@ -111,11 +77,10 @@ pub struct Iter<'a, R: Reads> {
     alloc: Global,
     pages: &'a R,
     root: Pid,
-    lo: Bound<IVec>,
+    // where it goes on from the front
+    front: Cursor,
     hi: Bound<IVec>,
-    // the leaves at which the searches from both ends stand, and where the last pairs were found in them
-    front: Option<View>,
-    front_place: usize,
+    // the leaf at which the search from the back stands, and where the last pair was found in it
     back: Option<View>,
     back_place: usize,
     ended: bool,
@@ -125,14 +90,15 @@ impl<'a, R: Reads> Model for Iter<'a, R> {
     ghost use Rattle.sled_store.specs.Store.{now};
     ghost use Rattle.sled_store.specs.State.{nodes_of};
     ghost use Rattle.tree_laws.specs.Contents.{pairs_under};
+    ghost use Rattle.tree_reads.specs.Cursor.{lower, EndsAt};
     ghost use Rattle.tree_reads.specs.Leaves.{SeeksAt, SeeksBackAt};
     ghost use Rattle.tree_reads.specs.Ranges.{pairs_within, Coming, IsRoot};
 
     ghost Value = { Coming R };
 
-    ghost view = { λ r. record { pages = r.pages.now; root = r.root; pairs = pairs_within r.lo r.hi (pairs_under (nodes_of (now (R.store r.pages.now))) r.root); ended = r.ended } };
+    ghost view = { λ r. record { pages = r.pages.now; root = r.root; pairs = pairs_within (lower r.front) r.hi (pairs_under (nodes_of (now (R.store r.pages.now))) r.root); ended = r.ended } };
 
-    ghost invariant = { λ r. IsRoot (now (R.store r.pages.now)) r.root × SeeksAt (now (R.store r.pages.now)) r.root r.lo r.front × SeeksBackAt (now (R.store r.pages.now)) r.root r.hi r.back };
+    ghost invariant = { λ r. IsRoot (now (R.store r.pages.now)) r.root × SeeksAt (now (R.store r.pages.now)) r.root (lower r.front) r.front.leaf × EndsAt r.hi r.front × SeeksBackAt (now (R.store r.pages.now)) r.root r.hi r.back };
 }
 
 /// The pairs of the tree with this root whose keys are within two bounds. It reads no page. Where the range starts above its
@@ -153,10 +119,8 @@ pub fn pairs_of<'a, R: Reads>(
         alloc,
         pages,
         root,
-        lo,
+        front: Cursor::within(lo),
         hi,
-        front: None,
-        front_place: usize::MAX,
         back: None,
         back_place: usize::MAX,
         ended,
@@ -195,8 +159,6 @@ impl<'a, R: Reads> Iterator for Iter<'a, R> {
             self.pages,
             self.root,
             &mut self.front,
-            &mut self.front_place,
-            &mut self.lo,
             lend_bound(&self.hi),
         ) {
             Ok(Some(pair)) => Some(Ok(pair)),
@@ -219,13 +181,17 @@ impl<'a, R: Reads> DoubleEndedIterator for Iter<'a, R> {
         if self.ended {
             return None;
         }
+        if let Err(e) = self.front.catch_up() {
+            self.ended = true;
+            return Some(Err(e));
+        }
         match last_within(
             self.alloc,
             self.pages,
             self.root,
             &mut self.back,
             &mut self.back_place,
-            lend_bound(&self.lo),
+            lend_bound(&self.front.lo),
             &mut self.hi,
         ) {
             Ok(Some(pair)) => Some(Ok(pair)),

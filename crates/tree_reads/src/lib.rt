@@ -3,11 +3,13 @@
 //! A walk goes from the root to the leaf under its target: right along `next`, and down by pointers, but never by that to a
 //! merging child, whose pairs the page before it leads to (`specs/Walk`). Searches go on from leaf to leaf (`specs/Leaves`).
 //! What is found is told of the contents at every forest that shows the pages well formed. An iterator is its two bounds: the
-//! pairs still to come are a function of the pages and the bounds (`specs/Ranges`), and no list is kept. The keys that begin with a
-//! prefix are a range too (`specs/Prefixes`).
+//! pairs still to come are a function of the pages and the bounds (`specs/Ranges`), and no list is kept. Within a leaf it goes on from
+//! the front by place, and the key of the pair at the place is its lower bound (`specs/Cursor`). The keys that begin with a prefix are
+//! a range too (`specs/Prefixes`).
 #![tactic(auto)]
 
 mod count;
+mod cursor;
 mod iter;
 mod nearest;
 mod prefix;

@@ -1,12 +1,12 @@
 //! The value at a key, and the pairs of a tree that are nearest to a bound.
-ghost use Rattle.std.specs.Prelude.{◌≡◌, IfOk, IfErr};
+ghost use Rattle.std.specs.Prelude.{◌≡◌, Some, IfOk, IfErr, IfSome};
 ghost use Rattle.std.specs.FinMap.Entries.{find};
 ghost use Rattle.sled_nodes.specs.Among.{bound_of, IsSuccessor, IsPredecessor};
 ghost use Rattle.sled_nodes.specs.Order.{key_cmp};
 ghost use Rattle.sled_store.specs.Store.{now};
 ghost use Rattle.std.specs.declared.ops.Bound.TheVariants.{Included};
 ghost use Rattle.tree_reads.specs.Walk.{RefusesWalk, GivesUp, once, for_each};
-ghost use Rattle.tree_reads.specs.Leaves.{OfContents, Seeks, SeeksBack, SeeksAt, SeeksBackAt};
+ghost use Rattle.tree_reads.specs.Leaves.{OfContents, Seeks, SeeksBack, SeeksAt, SeeksBackAt, entry_at};
 ghost use Rattle.tree_reads.specs.theory.Leaves.{StartsAt};
 
 use crate::MOST_PAGES;
@@ -65,6 +65,7 @@ fn first_along<R: Reads>(
 ) -> Result<Option<(IVec, IVec)>>
     requires { Seeks (now (R.store pages.now)) root (bound_of lo) leaf.old looked }
     ensures ok { IfOk result (λ found. OfContents (now (R.store pages.now)) root (λ pairs. IsSuccessor (bound_of lo.entry) pairs found)) }
+    ensures place { IfOk result (λ found. IfSome found (λ pair. entry_at (Some leaf.new) near.new ≡ Some pair)) }
     ensures err { IfErr result (RefusesWalk once (R.store pages.now) root) }
     ensures kept { Seeks (now (R.store pages.now)) root (bound_of lo.entry) leaf.new 0 }
 {
@@ -100,6 +101,7 @@ pub(crate) fn first_at<R: Reads>(
 ) -> Result<Option<(IVec, IVec)>>
     requires { SeeksAt (now (R.store pages.now)) root (bound_of lo) hand.old }
     ensures ok { IfOk result (λ found. OfContents (now (R.store pages.now)) root (λ pairs. IsSuccessor (bound_of lo.entry) pairs found)) }
+    ensures place { IfOk result (λ found. IfSome found (λ pair. entry_at hand.new near.new ≡ Some pair)) }
     ensures err { IfErr result (RefusesWalk once (R.store pages.now) root) }
     ensures kept { SeeksAt (now (R.store pages.now)) root (bound_of lo.entry) hand.new }
 {
