@@ -1,6 +1,10 @@
 //! Numbers by which a test chooses.
-ghost use Rattle.std.specs.Prelude.{◌≡◌, ◌≤◌, drop};
+ghost use Rattle.std.specs.Prelude.{◌≡◌, ◌≤◌, drop, IfOk, IfErr};
 ghost use Rattle.sled_disk.specs.Choices.{left_of, chosen_of};
+ghost use Rattle.sled_disk.specs.declared.disk.DiskError.TheVariants.{NoMemory};
+
+use crate::Result;
+use std::alloc::Global;
 
 /// Numbers, each of which chooses once, the first of them first. Where they are used up, 0 chooses.
 #[derive(Drop)]
@@ -20,6 +24,17 @@ impl Choices {
         ensures { left_of result ≡ numbers.items }
     {
         Choices { numbers, used: 0 }
+    }
+
+    // The numbers that have not chosen yet, as choices of their own.
+    pub(crate) fn copied(&self, alloc: Global) -> Result<Choices>
+        ensures ok { IfOk result (λ copy. left_of copy ≡ left_of self.now) }
+        ensures err { IfErr result (λ e. e ≡ NoMemory) }
+    {
+        match self.numbers.get(self.used..) {
+            Some(left) => Ok(Choices::new(left.to_vec(alloc)?)),
+            None => Ok(Choices::new(Vec::new(alloc))),
+        }
     }
 
     /// A number up to this one: the next of the numbers, modulo what there is to choose from.

@@ -1,10 +1,13 @@
 //! A file in memory, for tests. It keeps what it was at first and each call that changed it.
-ghost use Rattle.std.specs.Prelude.{◌≡◌, ◌∷◌, [], ◌++◌, ◌+◌, ◌≤◌, length, take, drop, IfOk, IfErr, OnOk, OnErr, false, List, ℕ, refl};
+ghost use Rattle.std.specs.Prelude.{◌≡◌, ◌∷◌, [], ◌++◌, ◌+◌, ◌≤◌, ◌<◌, length, take, drop, IfOk, IfErr, OnOk, OnErr, true, false, if◌then◌else◌, nat_lt, min, List, ℕ, refl};
 ghost use Rattle.std.proofs.Common.{inl};
-ghost use Rattle.sled_disk.specs.declared.disk.DiskError.TheVariants.{NoMemory};
-ghost use Rattle.sled_disk.specs.Disk.{written, Torn, Shortened, is_caused, HasCause};
-ghost use Rattle.sled_disk.specs.theory.Memory.{is_named};
-ghost use Rattle.sled_disk.specs.Calls.{seen_after_all, seen_after, may_become, MayLeave, LeftSince};
+ghost use Rattle.sled_disk.specs.declared.disk.DiskError.TheVariants.{NoMemory, Full, Failed};
+ghost use Rattle.sled_disk.specs.Disk.{written, is_caused, HasCause};
+ghost use Rattle.sled_disk.specs.Refusals.{last_number, is_refused, refusal_of};
+ghost use Rattle.sled_disk.specs.Calls.{seen_after_all, seen_after};
+ghost use Rattle.sled_disk.specs.Choices.{left_of};
+ghost use Rattle.sled_disk.specs.Chosen.{byte_by, bytes_by, count_by, several_by, torn_by, numbers_of_write, shortened_by, made_by, numbers_of, is_sync};
+ghost use Rattle.std.specs.List.{list_any};
 
 use crate::choices::Choices;
 use crate::{Disk, DiskError, Result};
@@ -21,6 +24,14 @@ enum Call {
     Sync,
 }
 
+impl Call {
+    fn is_sync(&self) -> bool
+        ensures { result ≡ is_sync self.now }
+    {
+        matches!(self, Call::Sync)
+    }
+}
+
 /// A file in memory, for tests: it can be told to refuse calls, and what a crash leaves of it is for the test to choose. It keeps
 /// each write since it was made.
 #[derive(Drop)]
@@ -35,33 +46,42 @@ pub struct MemoryDisk {
     ghost replayed: { bytes.items ≡ seen_after_all calls.items first.items },
 }
 
-// A fault of the disk, while faults can be counted.
-fn fault(faults: &mut u64, is_full: bool) -> DiskError
-    ensures { is_caused faults.old faults.new result }
+// The fault of a write, or of another call.
+fn fault_of(is_write: bool) -> DiskError
+    ensures { result ≡ (if is_write then Full else Failed) }
 {
-    if *faults == u64::MAX {
-        return DiskError::NoMemory;
-    }
-    *faults += 1;
-    if is_full {
+    if is_write {
         DiskError::Full
     } else {
         DiskError::Failed
     }
 }
 
+// Counts a fault. Where no more can be counted there is none.
+fn fault(faults: &mut u64, is_write: bool) -> DiskError
+    ensures caused { is_caused faults.old faults.new result }
+    ensures is { result ≡ (if nat_lt faults.old last_number then (if is_write then Full else Failed) else NoMemory) }
+{
+    if *faults == u64::MAX {
+        return DiskError::NoMemory;
+    }
+    *faults += 1;
+    fault_of(is_write)
+}
+
 // Counts a call, which is refused where its number was named.
-fn count_call(made: &mut u64, faults: &mut u64, refused: &[u64], is_full: bool) -> Result<()>
+fn count_call(made: &mut u64, faults: &mut u64, refused: &[u64], is_write: bool) -> Result<()>
     ensures cause { HasCause faults.old faults.new result }
-    ensures counted { OnOk result (made.new ≡ made.old + 1) }
-    ensures named { OnOk result (is_named (made.old + 1) refused.now ≡ false) }
+    ensures counted { made.new ≡ min (made.old + 1) last_number }
+    ensures done { OnOk result (is_refused made.old refused.now ≡ false) }
+    ensures refused { IfErr result (λ e. e ≡ refusal_of (if is_write then Full else Failed) made.old refused.now faults.old) }
 {
     if *made == u64::MAX {
-        return Err(fault(faults, is_full));
+        return Err(fault(faults, is_write));
     }
     *made += 1;
     if refused.contains(&*made) {
-        return Err(fault(faults, is_full));
+        return Err(fault(faults, is_write));
     }
     Ok(())
 }
@@ -113,21 +133,16 @@ fn seen_by(alloc: Global, call: &Call, seen: &[u8]) -> Result<Vec<u8>>
     }
 }
 
-// What a crash makes of a call, of what was left so far.
-fn left_by(
-    alloc: Global,
-    call: &Call,
-    seen: &[u8],
-    left: &[u8],
-    choices: &mut Choices,
-) -> Result<Vec<u8>>
-    ensures ok { IfOk result (λ next. may_become call.now seen.now left.now next.items) }
+// What a crash makes of a call that no sync followed.
+fn made_by(alloc: Global, call: &Call, file: &[u8], choices: &mut Choices) -> Result<Vec<u8>>
+    ensures ok { IfOk result (λ next. next.items ≡ made_by call.now (left_of choices.old) file.now) }
+    ensures left { OnOk result (left_of choices.new ≡ drop (numbers_of call.now (left_of choices.old) file.now) (left_of choices.old)) }
     ensures err { IfErr result (λ e. e ≡ NoMemory) }
 {
     match call {
-        Call::Write(at, bytes) => torn(alloc, left, *at, bytes, choices),
-        Call::Cut(len) => shortened(alloc, left, *len, choices),
-        Call::Sync => Ok(seen.to_vec(alloc)?),
+        Call::Write(at, bytes) => torn(alloc, file, *at, bytes, choices),
+        Call::Cut(len) => shortened(alloc, file, *len, choices),
+        Call::Sync => Ok(file.to_vec(alloc)?),
     }
 }
 
@@ -139,7 +154,8 @@ fn torn(
     bytes: &[u8],
     choices: &mut Choices,
 ) -> Result<Vec<u8>>
-    ensures ok { IfOk result (λ next. Torn at bytes.now file.now next.items) }
+    ensures ok { IfOk result (λ next. next.items ≡ torn_by (left_of choices.old) at bytes.now file.now) }
+    ensures left { OnOk result (left_of choices.new ≡ drop (numbers_of_write (left_of choices.old) at bytes.now file.now) (left_of choices.old)) }
     ensures err { IfErr result (λ e. e ≡ NoMemory) }
 {
     if file.len() < at {
@@ -152,8 +168,24 @@ fn torn(
             Ok(file.to_vec(alloc)?)
         };
     }
-    let least = (file.len() - at).min(bytes.len());
-    let count = least + choices.up_to(bytes.len() - least);
+    several(alloc, file, at, bytes, choices)
+}
+
+// The same of several bytes, or of those that come to be past the end.
+fn several(
+    alloc: Global,
+    file: &[u8],
+    at: usize,
+    bytes: &[u8],
+    choices: &mut Choices,
+) -> Result<Vec<u8>>
+    requires { at ≤ length file.now }
+    ensures ok { IfOk result (λ next. next.items ≡ several_by (left_of choices.old) at bytes.now file.now) }
+    ensures left { OnOk result (left_of choices.new ≡ drop (1 + count_by (left_of choices.old) at bytes.now file.now) (left_of choices.old)) }
+    ensures err { IfErr result (λ e. e ≡ NoMemory) }
+{
+    let within = (file.len() - at).min(bytes.len());
+    let count = within + choices.up_to(bytes.len() - within);
     let mut next = file[..at].to_vec(alloc)?;
     let chosen = chosen(alloc, &file[at..], bytes, count, choices)?;
     next.extend_from_slice(&chosen)?;
@@ -172,27 +204,34 @@ fn chosen(
     choices: &mut Choices,
 ) -> Result<Vec<u8>>
     requires { count ≤ length new.now }
-    ensures ok { IfOk result (λ bytes. length bytes.items ≡ count) }
+    ensures ok { IfOk result (λ bytes. bytes.items ≡ bytes_by (left_of choices.old) count old.now new.now) }
+    ensures left { OnOk result (left_of choices.new ≡ drop count (left_of choices.old)) }
     ensures err { IfErr result (λ e. e ≡ NoMemory) }
 {
     let mut bytes = Vec::new(alloc);
     for i in 0..count {
-        let byte = match choices.up_to(257) {
-            0 => new[i],
-            1 => match old.get(i) {
-                Some(byte) => *byte,
-                None => 0,
-            },
-            n => (n - 2) as u8,
-        };
-        bytes.push(byte)?;
+        let number = choices.up_to(257);
+        bytes.push(byte_by(number, old.get(i).copied().unwrap_or(0), new[i]))?;
     }
     Ok(bytes)
 }
 
+// A byte of a write, by a number.
+fn byte_by(number: usize, old: u8, new: u8) -> u8
+    requires { number ≤ 257 }
+    ensures { result ≡ byte_by number old new }
+{
+    match number {
+        0 => new,
+        1 => old,
+        _ => (number - 2) as u8,
+    }
+}
+
 // A cut that is lost, or some length between.
 fn shortened(alloc: Global, file: &[u8], len: usize, choices: &mut Choices) -> Result<Vec<u8>>
-    ensures ok { IfOk result (λ next. Shortened len file.now next.items) }
+    ensures ok { IfOk result (λ next. next.items ≡ shortened_by (left_of choices.old) len file.now) }
+    ensures left { left_of choices.new ≡ drop 1 (left_of choices.old) }
     ensures err { IfErr result (λ e. e ≡ NoMemory) }
 {
     let least = len.min(file.len());
@@ -200,8 +239,21 @@ fn shortened(alloc: Global, file: &[u8], len: usize, choices: &mut Choices) -> R
     Ok(file[..kept].to_vec(alloc)?)
 }
 
+// How many calls there are up to the last sync.
+fn synced(calls: &[Call]) -> usize
+    ensures within { result ≤ length calls.now }
+    ensures followed { (i : ℕ) → i < result → list_any is_sync (drop i calls.now) ≡ true }
+    ensures none { (i : ℕ) → result ≤ i → list_any is_sync (drop i calls.now) ≡ false }
+{
+    let mut count = calls.len();
+    while count > 0 && !calls[count - 1].is_sync() {
+        count -= 1;
+    }
+    count
+}
+
 impl MemoryDisk {
-    ghost use Rattle.sled_disk.specs.Memory.{bytes_of, history_of, outcomes_of, calls_refused, faults_of};
+    ghost use Rattle.sled_disk.specs.Memory.{bytes_of, history_of, outcomes_of, left_by_choices, choices_left, calls_made, calls_refused, faults_of};
     ghost use Rattle.sled_disk.specs.Disk.{Only};
 
     /// A file with these bytes, all of them on the disk. It refuses no call. Refused with `NoMemory` alone.
@@ -214,6 +266,7 @@ impl MemoryDisk {
         ensures bytes { IfOk result (λ disk. bytes_of disk ≡ bytes.items) }
         ensures durable { IfOk result (λ disk. Only (bytes_of disk) (outcomes_of disk)) }
         ensures named { IfOk result (λ disk. calls_refused disk ≡ []) }
+        ensures made { IfOk result (λ disk. calls_made disk ≡ 0) }
         ensures unfailing { IfOk result (λ disk. faults_of disk ≡ 0) }
         ensures err { IfErr result (λ e. e ≡ NoMemory) }
     {
@@ -231,8 +284,9 @@ impl MemoryDisk {
     /// What a crash leaves: a file of its own, all of it on the disk, which refuses no call. The numbers choose among all that the
     /// disk may leave. Of each write since the last sync, the first of them first: of a single byte within the file whether it is
     /// lost (1) or not (0); else how many bytes of it come to be past the old end, and then of each byte whether it is the new
-    /// one (0), the old one (1) or any other (2 more than that one). Of a cut how many bytes it leaves of those to be cut off.
-    /// Refused with `NoMemory` alone.
+    /// one (0), the old one (1) or any other (2 more than that one). Of a cut how many bytes it leaves of those to be cut off. A
+    /// write behind the end of what is left is lost, and no number chooses. Refused with `NoMemory` alone, and then no number
+    /// has chosen.
     ///
     /// ```
     /// let mut choices = Choices::new(Vec::new(alloc)); // Numbers that are used up choose 0.
@@ -240,19 +294,37 @@ impl MemoryDisk {
     /// ```
     pub fn crash(&self, choices: &mut Choices) -> Result<MemoryDisk>
         ensures left { IfOk result (λ disk. outcomes_of self.now (bytes_of disk)) }
+        ensures chosen { IfOk result (λ disk. bytes_of disk ≡ left_by_choices self.now (left_of choices.old)) }
+        ensures numbers { OnOk result (left_of choices.new ≡ choices_left self.now (left_of choices.old)) }
         ensures durable { IfOk result (λ disk. Only (bytes_of disk) (outcomes_of disk)) }
         ensures named { IfOk result (λ disk. calls_refused disk ≡ []) }
+        ensures made { IfOk result (λ disk. calls_made disk ≡ 0) }
         ensures unfailing { IfOk result (λ disk. faults_of disk ≡ 0) }
+        ensures kept { OnErr result (left_of choices.new ≡ left_of choices.old) }
         ensures err { IfErr result (λ e. e ≡ NoMemory) }
     {
-        let mut seen = self.first.to_vec(self.alloc)?;
+        let mut numbers = choices.copied(self.alloc)?;
+        let left = self.left_by(&mut numbers)?;
+        let disk = MemoryDisk::new(self.alloc, left)?;
+        *choices = numbers;
+        Ok(disk)
+    }
+
+    // The bytes that a crash leaves.
+    fn left_by(&self, choices: &mut Choices) -> Result<Vec<u8>>
+        ensures chosen { IfOk result (λ left. left.items ≡ left_by_choices self.now (left_of choices.old)) }
+        ensures numbers { OnOk result (left_of choices.new ≡ choices_left self.now (left_of choices.old)) }
+        ensures err { IfErr result (λ e. e ≡ NoMemory) }
+    {
+        let synced = synced(&self.calls);
         let mut left = self.first.to_vec(self.alloc)?;
-        for call in &self.calls {
-            let next = left_by(self.alloc, call, &seen, &left, choices)?;
-            seen = seen_by(self.alloc, call, &seen)?;
-            left = next;
+        'synced: for call in &self.calls[..synced] {
+            left = seen_by(self.alloc, call, &left)?;
         }
-        MemoryDisk::new(self.alloc, left)
+        'others: for call in &self.calls[synced..] {
+            left = made_by(self.alloc, call, &left, choices)?;
+        }
+        Ok(left)
     }
 
     /// The calls of these numbers will be refused, and no others. The calls are those of `Disk`, counted from 1 in the order made. Of
@@ -265,6 +337,7 @@ impl MemoryDisk {
     pub fn refuse_at(&mut self, calls: &[u64]) -> Result<()>
         ensures bytes { bytes_of self.new ≡ bytes_of self.old }
         ensures history { history_of self.new ≡ history_of self.old }
+        ensures made { calls_made self.new ≡ calls_made self.old }
         ensures faults { faults_of self.new ≡ faults_of self.old }
         ensures named { OnOk result (calls_refused self.new ≡ calls.now) }
         ensures kept { OnErr result (calls_refused self.new ≡ calls_refused self.old) }
@@ -287,15 +360,19 @@ impl MemoryDisk {
 }
 
 impl Disk for MemoryDisk {
-    ghost seen = { λ m. m.bytes.items };
+    ghost use Rattle.sled_disk.specs.Disk.{Torn, Shortened, Follows, NoMore, Only, Elapses, HasCause};
+    ghost use Rattle.sled_disk.specs.declared.memory.Call.TheVariants.{Cut, Sync};
+    ghost use Rattle.sled_disk.specs.Memory.{bytes_of, history_of, with_call, outcomes_of, left_since_of, moment_of, faults_of, IsWritten, IsCall};
 
-    ghost may_leave = { λ m. MayLeave m.first.items m.calls.items };
+    ghost seen = { bytes_of };
 
-    ghost moment = { λ m. length m.calls.items };
+    ghost may_leave = { outcomes_of };
 
-    ghost left_since = { λ m. LeftSince m.first.items m.calls.items };
+    ghost moment = { moment_of };
 
-    ghost faults = { λ m. m.faults };
+    ghost left_since = { left_since_of };
+
+    ghost faults = { faults_of };
 
     ghost use Rattle.sled_disk.specs.Laws.{counts_now as counts, only_now as only};
 
@@ -305,7 +382,15 @@ impl Disk for MemoryDisk {
 
     ghost may_stay = { λ m. inl m.replayed };
 
-    fn len(&mut self) -> Result<usize> {
+    fn len(&mut self) -> Result<usize>
+        ensures bytes { IfOk result (λ len. len ≡ length (bytes_of self.old)) }
+        ensures seen { bytes_of self.new ≡ bytes_of self.old }
+        ensures history { history_of self.new ≡ history_of self.old }
+        ensures crash { NoMore (outcomes_of self.old) (outcomes_of self.new) }
+        ensures time { Elapses (moment_of self.old) (moment_of self.new) (left_since_of self.old) (left_since_of self.new) (outcomes_of self.new) }
+        ensures cause { HasCause (faults_of self.old) (faults_of self.new) result }
+        ensures call { IsCall Failed self.old self.new result }
+    {
         count_call(
             &mut self.made,
             &mut self.faults,
@@ -315,7 +400,16 @@ impl Disk for MemoryDisk {
         Ok(self.bytes.len())
     }
 
-    fn read(&mut self, alloc: Global, at: usize, count: usize) -> Result<Vec<u8>> {
+    fn read(&mut self, alloc: Global, at: usize, count: usize) -> Result<Vec<u8>>
+        requires { at + count ≤ length (bytes_of self.old) }
+        ensures bytes { IfOk result (λ bytes. bytes.items ≡ take count (drop at (bytes_of self.old))) }
+        ensures seen { bytes_of self.new ≡ bytes_of self.old }
+        ensures history { history_of self.new ≡ history_of self.old }
+        ensures crash { NoMore (outcomes_of self.old) (outcomes_of self.new) }
+        ensures time { Elapses (moment_of self.old) (moment_of self.new) (left_since_of self.old) (left_since_of self.new) (outcomes_of self.new) }
+        ensures cause { HasCause (faults_of self.old) (faults_of self.new) result }
+        ensures call { IsCall Failed self.old self.new result }
+    {
         count_call(
             &mut self.made,
             &mut self.faults,
@@ -325,7 +419,15 @@ impl Disk for MemoryDisk {
         Ok(self.bytes[at..at + count].to_vec(alloc)?)
     }
 
-    fn write_at(&mut self, at: usize, bytes: &[u8]) -> Result<()> {
+    fn write_at(&mut self, at: usize, bytes: &[u8]) -> Result<()>
+        requires { at ≤ length (bytes_of self.old) }
+        ensures written { OnOk result (bytes_of self.new ≡ written at bytes.now (bytes_of self.old)) }
+        ensures history { OnOk result (IsWritten at bytes.now self.old self.new) }
+        ensures crash { Follows (Torn at bytes.now) (outcomes_of self.old) (outcomes_of self.new) }
+        ensures time { Elapses (moment_of self.old) (moment_of self.new) (left_since_of self.old) (left_since_of self.new) (outcomes_of self.new) }
+        ensures cause { HasCause (faults_of self.old) (faults_of self.new) result }
+        ensures call { IsCall Full self.old self.new result }
+    {
         count_call(
             &mut self.made,
             &mut self.faults,
@@ -339,7 +441,15 @@ impl Disk for MemoryDisk {
         Ok(())
     }
 
-    fn cut(&mut self, len: usize) -> Result<()> {
+    fn cut(&mut self, len: usize) -> Result<()>
+        requires { len ≤ length (bytes_of self.old) }
+        ensures cut { OnOk result (bytes_of self.new ≡ take len (bytes_of self.old)) }
+        ensures history { OnOk result (history_of self.new ≡ with_call (Cut len) (history_of self.old)) }
+        ensures crash { Follows (Shortened len) (outcomes_of self.old) (outcomes_of self.new) }
+        ensures time { Elapses (moment_of self.old) (moment_of self.new) (left_since_of self.old) (left_since_of self.new) (outcomes_of self.new) }
+        ensures cause { HasCause (faults_of self.old) (faults_of self.new) result }
+        ensures call { IsCall Failed self.old self.new result }
+    {
         count_call(
             &mut self.made,
             &mut self.faults,
@@ -352,7 +462,15 @@ impl Disk for MemoryDisk {
         Ok(())
     }
 
-    fn sync(&mut self) -> Result<()> {
+    fn sync(&mut self) -> Result<()>
+        ensures durable { OnOk result (Only (bytes_of self.old) (outcomes_of self.new)) }
+        ensures seen { bytes_of self.new ≡ bytes_of self.old }
+        ensures history { OnOk result (history_of self.new ≡ with_call Sync (history_of self.old)) }
+        ensures crash { NoMore (outcomes_of self.old) (outcomes_of self.new) }
+        ensures time { Elapses (moment_of self.old) (moment_of self.new) (left_since_of self.old) (left_since_of self.new) (outcomes_of self.new) }
+        ensures cause { HasCause (faults_of self.old) (faults_of self.new) result }
+        ensures call { IsCall Failed self.old self.new result }
+    {
         count_call(
             &mut self.made,
             &mut self.faults,

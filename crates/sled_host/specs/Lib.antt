@@ -1,0 +1,7 @@
+pub mod Event
+pub mod Outcomes
+pub mod Laws
+pub mod Stops
+pub mod Host
+pub mod theory
+pub use Rattle.sled_disk.specs as sled_disk

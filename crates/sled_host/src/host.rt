@@ -1,0 +1,155 @@
+//! A file of the operating system as a store sees it.
+ghost use Rattle.std.specs.Prelude.{◌≡◌, ◌≤◌, ◌+◌, ℕ, [], ◌∷◌, List, length, true, false, OnOk, OnErr, is_ok};
+ghost use Rattle.std.specs.Option.{ForSome};
+ghost use Rattle.std.proofs.Common.{inl, refl};
+ghost use Rattle.sled_disk.specs.Disk.{Only, is_caused, HasCause};
+ghost use Rattle.sled_host.specs.Event.{opened};
+ghost use Rattle.sled_host.specs.Outcomes.{seen_after_all, MayLeave, LeftSince};
+ghost use Rattle.sled_host.specs.Stops.{has_failed, has_stopped};
+
+use crate::system::SystemFile;
+use sled_disk::{Disk, DiskError, Result};
+use std::alloc::Global;
+use std::io::{self, ErrorKind};
+
+/// A file of the operating system. It can be read until its first change: what it had at its opening is kept in memory until then,
+/// and a later read is refused with `Failed`. After a call was refused that writes, cuts or syncs, each later one is refused with
+/// `Failed`, and nothing more is asked of the file.
+#[derive(Drop)]
+pub struct HostFile {
+    system: SystemFile,
+    kept: Option<Vec<u8>>,
+    len: usize,
+    is_failed: bool,
+    faults: u64,
+    ghost counted: { len ≡ length (seen_after_all system.record.events) },
+    ghost agrees: { ForSome kept (λ bytes. bytes.items ≡ seen_after_all system.record.events) },
+    ghost fails: { is_failed ≡ has_failed system.record.events },
+    ghost stops: { has_stopped system.record.events ≡ true },
+}
+
+impl HostFile {
+    ghost use Rattle.sled_host.specs.Host.{bytes_of, outcomes_of, faults_of};
+
+    /// A file of which this was read.
+    pub(crate) fn new(system: SystemFile, bytes: Vec<u8>) -> HostFile
+        requires { system.record.events ≡ opened bytes.items ∷ [] }
+        ensures bytes { bytes_of result ≡ bytes.items }
+        ensures durable { Only (bytes_of result) (outcomes_of result) }
+        ensures unfailing { faults_of result ≡ 0 }
+    {
+        HostFile {
+            system,
+            len: bytes.len(),
+            kept: Some(bytes),
+            is_failed: false,
+            faults: 0,
+        }
+    }
+}
+
+// A fault of the disk, while faults can be counted.
+fn fault(faults: &mut u64, is_full: bool) -> DiskError
+    ensures { is_caused faults.old faults.new result }
+{
+    if *faults == u64::MAX {
+        return DiskError::NoMemory;
+    }
+    *faults += 1;
+    if is_full {
+        DiskError::Full
+    } else {
+        DiskError::Failed
+    }
+}
+
+// Refuses a call after one that the system did not do.
+fn go_on(is_failed: bool, faults: &mut u64) -> Result<()>
+    ensures ok { OnOk result (is_failed ≡ false) }
+    ensures err { OnErr result (is_failed ≡ true) }
+    ensures cause { HasCause faults.old faults.new result }
+{
+    if is_failed {
+        Err(fault(faults, false))
+    } else {
+        Ok(())
+    }
+}
+
+// What the system answered to a call that changes a file, where a refusal is counted.
+fn counted(faults: &mut u64, answer: io::Result<()>) -> Result<()>
+    ensures cause { HasCause faults.old faults.new result }
+    ensures same { is_ok result ≡ is_ok answer }
+{
+    match answer {
+        Ok(()) => Ok(()),
+        Err(e) => Err(fault(faults, is_no_room(e.kind()))),
+    }
+}
+
+fn is_no_room(kind: ErrorKind) -> bool {
+    matches!(kind, ErrorKind::StorageFull | ErrorKind::QuotaExceeded)
+}
+
+impl Disk for HostFile {
+    ghost use Rattle.sled_host.specs.Laws.{counts_now as counts, only_now as only};
+
+    ghost seen = { λ f. seen_after_all f.system.record.events };
+
+    ghost may_leave = { λ f. MayLeave f.system.record.events };
+
+    ghost moment = { λ f. length f.system.record.events };
+
+    ghost left_since = { λ f. LeftSince f.system.record.events };
+
+    ghost faults = { λ f. f.faults };
+
+    ghost counts_now = { λ f t c le left. counts f.system.record.events t c le left };
+
+    ghost only_now = { λ f c left. only f.system.record.events c left };
+
+    ghost may_stay = { λ f. inl refl };
+
+    fn len(&mut self) -> Result<usize> {
+        Ok(self.len)
+    }
+
+    fn read(&mut self, alloc: Global, at: usize, count: usize) -> Result<Vec<u8>> {
+        match &self.kept {
+            Some(bytes) => Ok(bytes[at..at + count].to_vec(alloc)?),
+            None => Err(fault(&mut self.faults, false)),
+        }
+    }
+
+    fn write_at(&mut self, at: usize, bytes: &[u8]) -> Result<()> {
+        let Some(end) = at.checked_add(bytes.len()) else {
+            return Err(fault(&mut self.faults, false));
+        };
+        go_on(self.is_failed, &mut self.faults)?;
+        self.kept = None;
+        let answer = self.system.write(at, bytes);
+        self.is_failed = answer.is_err();
+        if answer.is_ok() {
+            self.len = self.len.max(end);
+        }
+        counted(&mut self.faults, answer)
+    }
+
+    fn cut(&mut self, len: usize) -> Result<()> {
+        go_on(self.is_failed, &mut self.faults)?;
+        self.kept = None;
+        let answer = self.system.cut(len);
+        self.is_failed = answer.is_err();
+        if answer.is_ok() {
+            self.len = len;
+        }
+        counted(&mut self.faults, answer)
+    }
+
+    fn sync(&mut self) -> Result<()> {
+        go_on(self.is_failed, &mut self.faults)?;
+        let answer = self.system.sync();
+        self.is_failed = answer.is_err();
+        counted(&mut self.faults, answer)
+    }
+}

@@ -1,0 +1,32 @@
+//! A file of the operating system as a store sees it (`HostFile`), and the two files of a store in its folder (`open_pair`).
+//!
+//! A `HostFile` keeps a record of its calls and of what the system answered. The record takes no memory: clauses alone read it. What a
+//! read returns and what a crash may leave are read off that record (specs/Outcomes.antt), so `HostFile` meets all clauses of `Disk`,
+//! whatever the system answers. A read is answered from memory, with what the opening read; so no answer of a read is taken on trust
+//! after it, and a file is read until its first change. What has to be believed for the clauses to speak of a real disk:
+//!
+//! 1. Each method of `SystemFile` (src/system.rt) makes the call that it notes. A body that notes a sync and makes none would be proved
+//!    too, so these few lines have to be read.
+//! 2. The opening reads what the disk has: a sync of the file goes before the read. If an earlier process had a failed sync, the
+//!    system may still show bytes in its memory that the disk does not have; std has no call that lets them go.
+//! 3. The disk is honest (`IsHonest` in specs/Host.antt): what the next opening reads is what the calls of this one may have left. So a
+//!    sync that was answered keeps all, a write changes no byte outside of its range, a write of one byte within the file
+//!    leaves the old byte or the new one, a cut leaves a beginning, and the disk does not decay. A call under way when the machine stops
+//!    counts as one that failed.
+//! 4. No one else changes the files: the lock keeps out those who ask for it, and no others.
+//!
+//! Nothing is proved of the opening but that a file has what was read: that the files are made, locked and regular, and that the folder
+//! is brought to the disk, is tested or read from the code alone.
+#![tactic(auto)]
+
+mod host;
+mod laws;
+mod pair;
+mod record;
+mod system;
+#[cfg(test)]
+mod tests;
+
+pub use host::HostFile;
+pub use laws::law_honest;
+pub use pair::{HostError, Opening, Pair, open_pair};

@@ -1,0 +1,220 @@
+//! The two files of a store, in a folder: made where they are not there, locked, and opened.
+ghost use Rattle.std.specs.Prelude.{◌≡◌, IfOk};
+ghost use Rattle.sled_disk.specs.Disk.{Only};
+ghost use Rattle.sled_host.specs.Host.{bytes_of, outcomes_of, faults_of};
+
+use crate::host::HostFile;
+use crate::system::SystemFile;
+use std::fmt::{self, Display, Formatter, Write};
+use std::fs::{self, File, OpenOptions, TryLockError};
+use std::io::{self, ErrorKind};
+use std::os::fd::AsRawFd;
+use std::os::unix::fs::MetadataExt;
+use std::path::PathBuf;
+
+/// The name of the first file.
+const FIRST: &str = "log.0";
+
+/// The name of the second file.
+const SECOND: &str = "log.1";
+
+/// How the files of a store are opened.
+#[derive(Clone, Copy, Debug, PartialEq, Eq)]
+pub struct Opening {
+    /// Makes the folder and the files that are not there; else they are refused with `Io` of the kind `NotFound`.
+    pub creates: bool,
+    /// Refuses a file system without locks; else `Pair::is_locked` tells of it.
+    pub needs_lock: bool,
+}
+
+/// The two files of a store, each of them locked as long as its value lives, where `is_locked`.
+#[derive(Drop)]
+pub struct Pair {
+    /// `log.0` in the folder.
+    pub first: HostFile,
+    /// `log.1` in the folder.
+    pub second: HostFile,
+    /// Whether no other process can open them. Where it is false, the user has to see to it.
+    pub is_locked: bool,
+}
+
+/// Why the files of a store were not opened.
+#[derive(Clone, Copy, Debug)]
+pub enum HostError {
+    /// There was no memory for what the files have.
+    NoMemory,
+    /// Another process, or another value in this one, has the store open.
+    Locked,
+    /// The file system has no locks.
+    NoLocks(io::Error),
+    /// At the path of the store stands something else than a folder.
+    NotAFolder,
+    /// At the name of a file stands something else than a regular file, or it was put there as the file was opened.
+    NotAFile,
+    /// A call of the system failed.
+    Io(io::Error),
+}
+
+impl From<io::Error> for HostError {
+    fn from(error: io::Error) -> HostError {
+        if error.kind() == ErrorKind::OutOfMemory {
+            HostError::NoMemory
+        } else {
+            HostError::Io(error)
+        }
+    }
+}
+
+impl From<std::alloc::AllocError> for HostError {
+    fn from(_: std::alloc::AllocError) -> HostError {
+        HostError::NoMemory
+    }
+}
+
+impl Display for HostError {
+    fn fmt<W: Write>(&self, f: &mut Formatter<W>) -> fmt::Result {
+        match self {
+            HostError::NoMemory => f.write_str("no memory"),
+            HostError::Locked => f.write_str("the store is open elsewhere"),
+            HostError::NoLocks(error) => write!(f, "the files cannot be locked: {error}"),
+            HostError::NotAFolder => f.write_str("the path of the store is no folder"),
+            HostError::NotAFile => f.write_str("a file of the store is no regular file"),
+            HostError::Io(error) => write!(f, "{error}"),
+        }
+    }
+}
+
+impl std::error::Error for HostError {}
+
+/// Opens the files `log.0` and `log.1` in the folder of this path, each of them with all that it has brought to the disk. A folder is
+/// made in one that is there. What is made is on the disk with its name. A refusal may leave a folder or files that were made.
+///
+/// ```
+/// let pair = open_pair(&rt, "people.db", Opening { creates: true, needs_lock: true })?;
+/// ```
+pub fn open_pair(rt: &HostRuntime, path: &str, opening: Opening) -> Result<Pair, HostError>
+    ensures first { IfOk result (λ pair. Only (bytes_of pair.first) (outcomes_of pair.first)) }
+    ensures second { IfOk result (λ pair. Only (bytes_of pair.second) (outcomes_of pair.second)) }
+    ensures unfailing { IfOk result (λ pair. (faults_of pair.first ≡ 0) × (faults_of pair.second ≡ 0)) }
+{
+    let is_new = opening.creates && make_folder(rt, path)?;
+    let folder = folder_at(rt, path)?;
+    let (first, is_first_locked) = open_file(rt, &folder, FIRST, opening)?;
+    let (second, is_second_locked) = open_file(rt, &folder, SECOND, opening)?;
+    sync_folder(rt, folder.as_str())?;
+    sync_parent(rt, folder, is_new)?;
+    Ok(Pair {
+        first,
+        second,
+        is_locked: is_first_locked && is_second_locked,
+    })
+}
+
+// Makes a folder, and says whether there was nothing at the path.
+fn make_folder(rt: &HostRuntime, path: &str) -> io::Result<bool> {
+    match fs::create_dir(rt, path) {
+        Ok(()) => Ok(true),
+        Err(error) if error.kind() == ErrorKind::AlreadyExists => Ok(false),
+        Err(error) => Err(error),
+    }
+}
+
+// The folder of a path, with no link in it.
+fn folder_at(rt: &HostRuntime, path: &str) -> Result<PathBuf, HostError> {
+    if fs::metadata(rt, path)?.is_dir() {
+        Ok(fs::canonicalize(rt, path)?)
+    } else {
+        Err(HostError::NotAFolder)
+    }
+}
+
+// A file of a folder, opened and locked, and whether it could be locked.
+fn open_file(
+    rt: &HostRuntime,
+    folder: &PathBuf,
+    name: &str,
+    opening: Opening,
+) -> Result<(HostFile, bool), HostError>
+    ensures durable { IfOk result (λ it. Only (bytes_of it.0) (outcomes_of it.0)) }
+    ensures unfailing { IfOk result (λ it. faults_of it.0 ≡ 0) }
+{
+    let path = folder.join(rt.alloc(), name)?;
+    let file = open_or_make(rt, path.as_str(), opening.creates)?;
+    let is_locked = lock(&file, opening.needs_lock)?;
+    if !is_named(rt, &file, path.as_str())? {
+        return Err(HostError::NotAFile);
+    }
+    let (system, bytes) = SystemFile::settle(rt.alloc(), file)?;
+    Ok((HostFile::new(system, bytes), is_locked))
+}
+
+// A regular file, which is made where nothing is at the path.
+fn open_or_make(rt: &HostRuntime, path: &str, creates: bool) -> Result<File, HostError> {
+    let file = match open_new(rt, path, creates)? {
+        Some(file) => file,
+        None => open_old(rt, path)?,
+    };
+    // What is meant for a standard stream that was closed must not land in a store.
+    if file.as_raw_fd() <= 2 {
+        Ok(file.try_clone()?)
+    } else {
+        Ok(file)
+    }
+}
+
+// A new file, unless something is at the path or none is to be made.
+fn open_new(rt: &HostRuntime, path: &str, creates: bool) -> io::Result<Option<File>> {
+    if !creates {
+        return Ok(None);
+    }
+    match File::create_new(rt, path) {
+        Ok(file) => Ok(Some(file)),
+        Err(error) if error.kind() == ErrorKind::AlreadyExists => Ok(None),
+        Err(error) => Err(error),
+    }
+}
+
+// The file that is at the path. A link, a pipe or a device is not opened.
+fn open_old(rt: &HostRuntime, path: &str) -> Result<File, HostError> {
+    if !fs::symlink_metadata(rt, path)?.is_file() {
+        return Err(HostError::NotAFile);
+    }
+    Ok(OpenOptions::new().read(true).write(true).open(rt, path)?)
+}
+
+// Locks a file for as long as it is open, and says whether that could be done.
+fn lock(file: &File, needs_lock: bool) -> Result<bool, HostError> {
+    match file.try_lock() {
+        Ok(()) => Ok(true),
+        Err(TryLockError::WouldBlock) => Err(HostError::Locked),
+        Err(TryLockError::Error(error)) => {
+            if needs_lock {
+                Err(HostError::NoLocks(error))
+            } else {
+                Ok(false)
+            }
+        }
+    }
+}
+
+// Whether the path still names the file that was opened.
+fn is_named(rt: &HostRuntime, file: &File, path: &str) -> io::Result<bool> {
+    let opened = file.metadata()?;
+    let named = fs::symlink_metadata(rt, path)?;
+    Ok(named.is_file() && opened.dev() == named.dev() && opened.ino() == named.ino())
+}
+
+fn sync_folder(rt: &HostRuntime, path: &str) -> io::Result<()> {
+    File::open(rt, path)?.sync_all()
+}
+
+// Brings the name of a folder to the disk. One that was there may stand in a folder that this process cannot read.
+fn sync_parent(rt: &HostRuntime, mut folder: PathBuf, is_new: bool) -> io::Result<()> {
+    if !folder.pop() {
+        return Ok(());
+    }
+    match sync_folder(rt, folder.as_str()) {
+        Err(error) if !is_new && error.kind() == ErrorKind::PermissionDenied => Ok(()),
+        outcome => outcome,
+    }
+}
