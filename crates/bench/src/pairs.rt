@@ -99,12 +99,26 @@ impl Pairs {
     }
 
     /// The key at a place.
+    #[inline(always)]
     pub fn key(&self, place: u64) -> Result<IVec> {
-        let number = scattered(self.seed.wrapping_add(place));
         match self.keys {
-            Keys::Scattered => IVec::from_slice(self.alloc, &number.to_be_bytes()),
-            Keys::Ascending => IVec::from_slice(self.alloc, &place.to_be_bytes()),
-            Keys::Rows => IVec::from_slice(self.alloc, &row(number)),
+            Keys::Scattered => {
+                let number = scattered(self.seed.wrapping_add(place));
+                IVec::from_slice(self.alloc, &number.to_be_bytes())
+            }
+            _ => self.other_key(place),
+        }
+    }
+
+    // The same of keys of another kind. It stands by itself, so that those that look random cost the program as little as they may.
+    #[inline(never)]
+    fn other_key(&self, place: u64) -> Result<IVec> {
+        match self.keys {
+            Keys::Rows => IVec::from_slice(
+                self.alloc,
+                &row(scattered(self.seed.wrapping_add(place))),
+            ),
+            _ => IVec::from_slice(self.alloc, &place.to_be_bytes()),
         }
     }
 

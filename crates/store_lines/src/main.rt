@@ -9,6 +9,7 @@ mod check;
 mod keys;
 mod line;
 mod nodes;
+mod rebuild;
 mod store;
 mod text;
 mod values;
@@ -52,6 +53,11 @@ refuse N ..                           done; the calls of these numbers will be r
 unreadable P                          done
 image-page P NODE, image-root K P     done; a page or a root of the next image
 image N                               done, with a store of the image, whose mark is N, and of which no version was met
+numbers                               page P versions N: the greatest page number that was given, and how many versions were
+make-page P N NODE, make-link P N LINK, make-free P, make-root K P    done, or barred; a page, a link, the end of a page, or a
+                                      root of the next store that is made so; N is a version, and P of a root may be -
+made N N N                            done, with that store: page numbers and versions below the first two count as given, and
+                                      the third is the mark; no version was met
 hold P, let-go                        done; the page as it is now is held until all are let go
 
 Nodes. CHILD is the merging child, MERGING is `merging` or -.
@@ -73,6 +79,7 @@ pointer NODE BOUND                    first P, or later P, or none
 pointer-before NODE P                 pointer P, or none
 successor NODE BOUND, predecessor NODE BOUND    pair K V, or none
 within NODE BOUND BOUND               pairs K V .., those within both bounds; with -back behind the word from the back
+up-to NODE BOUND                      number N of K V ..: how many pairs are within an upper bound, and all pairs
 
 Keys of several parts. PART is # and a number, or a byte string, in which a # in front is written %23. SHAPE has a letter for each
 part, n for a number and t for a byte string; it is % where there is none.

@@ -42,6 +42,7 @@ pub enum Search {
     Pointer,
     Pair(bool),
     Within(bool),
+    UpTo,
     Answer(Question),
 }
 
@@ -188,6 +189,7 @@ impl Nodes {
             Search::Pointer => find_pointer(node, line),
             Search::Pair(back) => find_pair(node, back, line),
             Search::Within(back) => find_within(node, back, line),
+            Search::UpTo => find_up_to(node, line),
             Search::Answer(question) => answer(question, node, line),
         }
     }
@@ -346,6 +348,29 @@ fn push_within(out: &mut Text, node: &Node, lo: Bound<&[u8]>, hi: Bound<&[u8]>, 
     for place in 0..usize::MAX {
         let found = out.kept(node.pair_within(lo, hi, back, place));
         let Some(pair) = found.flatten() else {
+            break;
+        };
+        out.push(" ");
+        pair.print(out);
+        drop(pair);
+    }
+}
+
+// Counts the pairs within an upper bound, and adds all pairs, place by place.
+fn find_up_to(node: &Node, line: &mut Line) {
+    let bound = Word::read(line);
+    if let Some(bound) = line.whole(bound) {
+        let count = node.count_up_to(lend_bound(&bound));
+        drop(bound);
+        line.out.push_numbered("number", count as u64);
+        push_pairs(&mut line.out, node);
+    }
+}
+
+fn push_pairs(out: &mut Text, node: &Node) {
+    out.push(" of");
+    for place in 0..usize::MAX {
+        let Some(pair) = out.kept(node.pair_at(place)).flatten() else {
             break;
         };
         out.push(" ");

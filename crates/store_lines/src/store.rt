@@ -2,6 +2,7 @@
 use crate::keys::{read_key, spell};
 use crate::line::{Line, Print, Word, push_kept};
 use crate::nodes::{Act, Nodes, Question, Search, push_node, read_link};
+use crate::rebuild::{self, Making};
 use crate::text::Text;
 use sled_nodes::{IVec, Node, Pid, Result, Version};
 use sled_pages::MemPages;
@@ -20,6 +21,7 @@ enum Alone {
     WasRecovered,
     New,
     LetGo,
+    Numbers,
 }
 
 // A call with a number.
@@ -56,9 +58,11 @@ enum Call {
     ImageRoot,
     Spell,
     Parts,
+    Make(rebuild::Act),
+    Made,
 }
 
-const CALLS: [(&str, Call); 49] = [
+const CALLS: [(&str, Call); 56] = [
     ("roots", Call::Alone(Alone::Roots)),
     ("begin", Call::Alone(Alone::Begin)),
     ("seal", Call::Alone(Alone::Seal)),
@@ -127,8 +131,15 @@ const CALLS: [(&str, Call); 49] = [
     ("predecessor", Call::Node(Act::Find(Search::Pair(true)))),
     ("within", Call::Node(Act::Find(Search::Within(false)))),
     ("within-back", Call::Node(Act::Find(Search::Within(true)))),
+    ("up-to", Call::Node(Act::Find(Search::UpTo))),
     ("spell", Call::Spell),
     ("parts", Call::Parts),
+    ("numbers", Call::Alone(Alone::Numbers)),
+    ("make-page", Call::Make(rebuild::Act::Put)),
+    ("make-link", Call::Make(rebuild::Act::Link)),
+    ("make-free", Call::Make(rebuild::Act::Free)),
+    ("make-root", Call::Make(rebuild::Act::Root)),
+    ("made", Call::Made),
 ];
 
 /// A store, and what lines made beside it.
@@ -142,6 +153,8 @@ pub struct Store {
     // The pages and roots of the next image.
     image_pages: Vec<(Pid, Node)>,
     image_roots: Vec<(IVec, Pid)>,
+    // The next store that lines make page by page.
+    making: Making,
     // Pages as they were read, which share their nodes with the store.
     held: Vec<View>,
 }
@@ -155,6 +168,7 @@ impl Store {
             versions: Vec::new(alloc),
             image_pages: Vec::new(alloc),
             image_roots: Vec::new(alloc),
+            making: Making::new(alloc),
             held: Vec::new(alloc),
         }
     }
@@ -183,12 +197,14 @@ impl Store {
             Call::Read => return self.read(line),
             Call::Swap => return self.swap(line),
             Call::Refuse => return self.refuse(line),
+            Call::Make(act) => return self.making.run(act, &mut self.nodes, line),
             Call::Root => self.root(line),
             Call::ImagePage => self.image_page(line),
             Call::ImageRoot => self.image_root(line),
             Call::Node(act) => self.nodes.run(act, line),
             Call::Spell => spell(line),
             Call::Parts => read_key(line),
+            Call::Made => self.made(line),
         }
         Ok(())
     }
@@ -209,6 +225,11 @@ impl Store {
                 self.put(Ok(MemPages::new(self.alloc)), out);
             }
             Alone::LetGo => self.held.clear(),
+            Alone::Numbers => {
+                let (greatest, versions) = self.pages.numbers_given();
+                out.push_numbered("page", greatest.0);
+                out.push_numbered(" versions", versions);
+            }
         }
         Ok(())
     }
@@ -443,6 +464,13 @@ impl Store {
         let made = MemPages::from_image(self.alloc, pages, roots, mark);
         self.versions.clear();
         self.put(made, out);
+    }
+
+    fn made(&mut self, line: &mut Line) {
+        if let Some(pages) = self.making.finish(line) {
+            self.versions.clear();
+            self.put(Ok(pages), &mut line.out);
+        }
     }
 }
 
