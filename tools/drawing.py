@@ -6,7 +6,7 @@ import textwrap
 
 # What tells such a picture from other files.
 HEAD = '<svg xmlns="http://www.w3.org/2000/svg" data-of="donnaveku"'
-LINE = re.compile(r"(leaf|index) (\d+)(?: under \d+)? from (\S+) to (\S+?)(?: next (\d+))?( merging)?(?: merging-child (\d+))?( no-pointer)?:((?: \S+)*)")
+LINE = re.compile(r"(leaf|index) (\d+)(?: under \d+)? from (\S+) to (\S+?)(?: next (\d+))?( merging)?(?: merging-child (\d+))?( no-pointer)?(?: base (\d+) links (\d+))?:((?: \S+)*)")
 # Sizes in pixels: of a letter, of the room at the sides, of a page's two rows, and between pages and levels.
 LETTER, MARGIN, HEADER, CELLS, BESIDE, BELOW = 7.3, 16, 20, 24, 48, 44
 # A tree that is wider has the first and the last pair of each leaf.
@@ -37,14 +37,20 @@ class Page:
     """A page as a line of a drawing tells of it, and where it stands."""
 
     def __init__(self, line):
-        self.kind, self.number, self.low, self.high, self.next, merging, self.child, late, entries = LINE.fullmatch(line).groups()
+        self.kind, self.number, self.low, self.high, self.next, merging, self.child, late, self.base, self.links, entries = LINE.fullmatch(line).groups()
         self.entries = entries.split()
         self.texts = [shortened(entry.split("->")[0] if self.kind == "index" else entry) for entry in self.entries]
         self.marks = [mark for mark, is_so in [("merging", merging), ("no pointer yet", late), (f"merging child {self.child}", self.child)] if is_so]
         self.classes = " ".join([self.kind, *["merging"] * bool(merging), *["late"] * bool(late)])
         self.header = f"{self.kind} {self.number}  from {shortened(self.low)} to {shortened(self.high)}"
         self.x = self.y = 0
+        # How tall it is, and where `next` leaves it.
+        self.tall, self.middle = HEADER + CELLS, HEADER + CELLS / 2
         self.measure()
+
+    @property
+    def bottom(self):
+        return self.y + self.tall
 
     def measure(self):
         self.cells = [len(text) * LETTER + 10 for text in self.texts]
@@ -58,7 +64,7 @@ class Page:
 
     def drawn(self):
         """The box of the page: what it is, and its entries."""
-        yield f'<g class="{self.classes}"><rect class="page" x="{self.x:.0f}" y="{self.y}" width="{self.wide:.0f}" height="{HEADER + CELLS}" rx="4"/>'
+        yield f'<g class="{self.classes}"><rect class="page" x="{self.x:.0f}" y="{self.y}" width="{self.wide:.0f}" height="{self.tall}" rx="4"/>'
         yield f'<rect class="strip" x="{self.x + 1.5:.1f}" y="{self.y + 1.5}" width="{self.wide - 3:.1f}" height="{HEADER - 2}" rx="3"/>'
         yield written(self.x + 7, self.y + 14, self.header, "s")
         right = self.x + self.wide - 5
@@ -90,14 +96,14 @@ def written(x, y, text, style=""):
     return f'<text x="{x:.0f}" y="{y:.0f}"{f" class={chr(34)}{style}{chr(34)}" if style else ""} xml:space="preserve">{html.escape(text)}</text>'
 
 
-def levels_of(lines):
+def levels_of(lines, page=Page):
     """The pages of a drawing, level by level."""
     levels = []
     for line in lines:
         if line.startswith("level "):
             levels.append([])
         else:
-            levels[-1].append(Page(line))
+            levels[-1].append(page(line))
     return levels
 
 
@@ -116,7 +122,7 @@ def placed(levels, top):
         for page in level:
             page.x, page.y = x, top
             x += page.wide + BESIDE
-        top += HEADER + CELLS + BELOW
+        top = max(page.bottom for page in level) + BELOW
     return wide, top - BELOW
 
 
@@ -124,7 +130,7 @@ def arrows(levels):
     """What leads down from an index, and to the page to the right."""
     pages = {page.number: page for level in levels for page in level}
     for page in pages.values():
-        bottom = page.y + HEADER + CELLS
+        bottom = page.bottom
         for x, number in page.pointers():
             if child := pages.get(number):
                 to = min(max(x, child.x + 24), child.x + child.wide - 24)
@@ -134,7 +140,7 @@ def arrows(levels):
                 yield f'<path class="down" d="M{x:.0f},{bottom}v9m-4,0h8"/>'
                 yield written(x + 8, bottom + 12, number, "s")
         if other := pages.get(page.next):
-            y = page.y + HEADER + CELLS / 2
+            y = page.y + page.middle
             yield f'<path class="next" marker-end="url(#head)" d="M{page.x + page.wide + 1:.0f},{y:.0f}H{other.x - 1:.0f}"/>'
             yield written(page.x + page.wide + 10, y - 4, "next", "s")
 

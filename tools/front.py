@@ -4,77 +4,18 @@ import contextlib
 import glob
 import os
 import pathlib
-import pty
 import readline
 import re
-import select
-import signal
 import subprocess
 import sys
-import tty
 
 from drawing import HEAD, drawings_of, picture
+from engine import Shell
 from feed import write
+from spelling import PLAIN, Mistyped, meant_by, spelled, words_of
 
-PROMPT = b"> "
 MOST_LINES = 2000
-# The bytes that stand for themselves in a word whose bytes are all spelled.
-PLAIN = set(range(33, 127)) - {ord("%")}
-PIECE = re.compile(r'"((?:[^"\\]|\\.)*)"|([^" ]+)|( +)')
 HELP = {"draw svg": "draw svg [FILE]: adds a picture of the tree to those of this session in FILE, which is tree.svg if none is named"}
-
-
-class Shell:
-    """The shell, as a child at a terminal that neither echoes nor changes what goes by."""
-
-    def __init__(self, path):
-        self.child, self.end = pty.fork()
-        if not self.child:
-            tty.setraw(0)
-            os.execv(path, [path])
-        self.is_there = True
-
-    def answer(self):
-        """What the shell prints up to its next prompt, or up to its end, part by part."""
-        held = b""
-        while self.is_there and (held != PROMPT or select.select([self.end], [], [], 0)[0]):
-            try:
-                part = os.read(self.end, 65536)
-            except OSError:
-                part = b""
-            self.is_there = bool(part)
-            # No line that it prints begins as its prompt.
-            lines, end, held = (held + part).rpartition(b"\n")
-            yield lines + end
-        if not self.is_there:
-            yield held
-
-    def ask(self, line):
-        with contextlib.suppress(OSError):
-            write(self.end, line.encode(errors="surrogateescape") + b"\n")
-        yield from self.answer()
-
-    def status(self):
-        """Its exit status, of which a line that could not be read is no part."""
-        os.close(self.end)
-        code = os.waitstatus_to_exitcode(os.waitpid(self.child, 0)[1])
-        return 0 if code == 1 else 128 - code if code < 0 else code
-
-
-class Mistyped(Exception):
-    """Why a line is not handed to the shell."""
-
-
-def spelled(text, plain):
-    """Text as a word of the shell has it, in which the bytes of `plain` stand for themselves."""
-    return "".join(chr(byte) if byte in plain else f"%{byte:02x}" for byte in text.encode(errors="surrogateescape"))
-
-
-def meant_by(word):
-    """The text that a word of the shell spells."""
-    if word == "%":
-        return ""
-    return re.sub(b"%([0-9a-f]{2})", lambda it: bytes([int(it[1], 16)]), word.encode(errors="surrogateescape")).decode(errors="surrogateescape")
 
 
 def paths_of(word):
@@ -86,29 +27,6 @@ def paths_of(word):
     plain = PLAIN - {ord('"')}
     words = ("%2d" if path == "-" else spelled(path, plain) for path in found)
     return [it for it in words if it.startswith(spelled(begun, plain) + rest)]
-
-
-def words_of(line):
-    """The words of a line, each as it was meant and as the shell spells it."""
-    words, meant, spells, is_quoted, at = [], "", "", False, 0
-    line = line.strip() + " "
-    while at < len(line):
-        piece = PIECE.match(line, at)
-        if not piece:
-            raise Mistyped('a " is open; the byte itself is %22')
-        at = piece.end()
-        if piece[3]:
-            # Nothing between quotes is the empty string, also behind the bracket of a bound.
-            empty = "%" if is_quoted and spells in ("", "[", "(") else ""
-            words.append((meant, spells + empty))
-            meant, spells, is_quoted = "", "", False
-        elif piece[2]:
-            meant, spells = meant + piece[2], spells + spelled(piece[2], range(33, 127))
-        else:
-            text = re.sub(r'\\(["\\])', r"\1", piece[1])
-            plain = PLAIN - ({ord(text)} if text in ("-", ";") else set())
-            meant, spells, is_quoted = meant + text, spells + spelled(text, plain), True
-    return words
 
 
 def listed(path):
@@ -271,7 +189,7 @@ def talk(path):
     try:
         converse(shell, listed(path))
     except (KeyboardInterrupt, SystemExit):
-        os.kill(shell.child, signal.SIGTERM)
+        shell.process.terminate()
         shell.status()
         raise
     return shell.status()

@@ -174,6 +174,7 @@ class Store:
         self.base, self.recent = ({}, {}, {}), []           # at the last flush; the actions since: (what, where, new)
         self.pids = self.versions = self.mark = 0
         self.recovered = False
+        self.seen = None                                    # the page that was read or changed last
         self.notes = Counter()
         self.forget()
 
@@ -192,6 +193,7 @@ class Store:
         """Does a changing action."""
         self.recent.append((what, where, new))
         self.apply((self.pages, self.roots, self.group), self.recent[-1])
+        self.seen = (new and where, new, None)[what]
 
     @staticmethod
     def apply(state, action):
@@ -203,6 +205,7 @@ class Store:
 
     def read(self, pid):
         self.reads += 1
+        self.seen = pid
         if pid in self.unreadable:
             raise Refused(4, '2')
         return self.pages.get(pid)

@@ -1,0 +1,438 @@
+// The page: it posts lines, and shows what comes back.
+"use strict";
+
+const $ = (id) => document.getElementById(id);
+const TOKEN = document.querySelector("meta[name=token]").content;
+const DEFAULT = "__sled__default";
+let scenes = [];
+let state = null;
+// Whether a request is on its way, and which crash was asked for last.
+let busy = false;
+let wanted = null;
+
+// An element with its text or its children.
+function make(name, inside = [], attributes = {}) {
+  const it = document.createElement(name);
+  it.append(...[inside].flat());
+  for (const [key, value] of Object.entries(attributes)) it.setAttribute(key, value);
+  return it;
+}
+
+function fill(id, children) {
+  $(id).replaceChildren(...children);
+}
+
+function count(number, what) {
+  return `${number} ${what}${number === 1 ? "" : "s"}`;
+}
+
+// Text in which `this` is code.
+function coded(text) {
+  return text.split(/`([^`]*)`/).map((piece, at) => (at % 2 ? make("code", piece) : piece));
+}
+
+function tell(why) {
+  $("why").hidden = !why;
+  fill("why", coded(why || ""));
+}
+
+const isNarrow = () => window.innerWidth < 700;
+
+async function post(path, asked) {
+  const value = { ...asked, narrow: isNarrow() };
+  const answer = await fetch(path, { method: "POST", headers: { "Content-Type": "application/json", "X-Token": TOKEN }, body: JSON.stringify(value) });
+  const told = await answer.json();
+  if (!answer.ok) throw new Error(told.why);
+  return told;
+}
+
+// Posts what changes something, one request after the other, and shows what comes of it.
+async function act(path, value) {
+  if (busy) return;
+  busy = true;
+  document.body.setAttribute("aria-busy", "true");
+  try {
+    state = await post(path, value);
+    show();
+    tell(state.why);
+  } catch (fault) {
+    tell(fault instanceof TypeError ? "The page does not answer: was ./run --page ended?" : fault.message);
+  }
+  busy = false;
+  document.body.removeAttribute("aria-busy");
+}
+
+const run = (...lines) => act("/run", { lines });
+const type = (line) => act("/type", { lines: [line] });
+const start = (lines) => act("/start", { lines });
+const texts = () => state.lines.map((it) => it.line);
+const isComment = (line) => line.startsWith("#");
+// Text as a word of the shell, which may hold any bytes between quotes.
+const quoted = (text) => `"${text.replace(/["\\]/g, "\\$&")}"`;
+
+// Scenes. Where one is, is said by the lines alone: they are a beginning of its own.
+
+function place() {
+  const lines = texts();
+  for (const scene of scenes) {
+    const all = scene.parts.flat();
+    if (lines.length && lines.length <= all.length && lines.every((line, at) => line === all[at])) {
+      let end = 0;
+      const part = scene.parts.findIndex((part) => (end += part.length) >= lines.length);
+      return { scene, part, end, all, isWhole: end === lines.length };
+    }
+  }
+  return null;
+}
+
+function begin(scene) {
+  remembered(scene.name);
+  start(scene.parts[0]);
+}
+
+function remembered(name) {
+  if (name) sessionStorage.setItem("scene", name);
+  return scenes.find((scene) => scene.name === sessionStorage.getItem("scene"));
+}
+
+function next() {
+  const here = place();
+  if (!here) return;
+  const till = here.isWhole ? here.end + (here.scene.parts[here.part + 1] || []).length : here.end;
+  if (till > state.lines.length) run(...here.all.slice(state.lines.length, till));
+}
+
+function back() {
+  const here = place();
+  if (!here) {
+    if (remembered()) begin(remembered());
+  } else if (here.part > 0 || !here.isWhole) {
+    start(here.scene.parts.slice(0, Math.max(here.part, 1)).flat());
+  }
+}
+
+// The text of a part, in which "this" is set apart.
+function saying(part) {
+  const text = part.filter(isComment).map((line) => line.replace(/^#\s*/, "")).join(" ");
+  return text.split(/"([^"]*)"/).map((piece, at) => (at % 2 ? make("b", piece) : piece));
+}
+
+function showStory() {
+  const here = place();
+  const scene = here ? here.scene : remembered();
+  for (const button of $("scenes").querySelectorAll("button")) {
+    if (here && button.dataset.name === scene.name) button.setAttribute("aria-current", "true");
+    else button.removeAttribute("aria-current");
+  }
+  $("story-title").textContent = here ? here.scene.title : "On your own";
+  fill("story-text", here ? saying(here.scene.parts[here.part]) : ["You left the scene, and the machine is yours: begin calls, step them in any order, flush, crash. " + (scene ? "Back begins the scene again." : "")]);
+  $("back").disabled = here ? here.part === 0 && here.isWhole : !scene;
+  const isLast = here && here.isWhole && here.part === here.scene.parts.length - 1;
+  $("next").disabled = !here || isLast;
+  $("story-place").textContent = here ? `Part ${here.part + 1} of ${here.scene.parts.length}` + (isLast ? ": the end. Try another scene, or go on by yourself." : here.isWhole ? "" : ", not to its end") : "";
+}
+
+// The tree.
+
+function svg(text, into) {
+  into.replaceChildren();
+  if (!text) return;
+  const it = document.importNode(new DOMParser().parseFromString(text, "image/svg+xml").documentElement, true);
+  const wide = Number(it.getAttribute("width"));
+  into.append(it);
+  // It has what room there is, but not so little that it cannot be read.
+  const room = into.clientWidth || wide;
+  it.style.width = `${Math.max(Math.min(wide * 1.25, room), wide * 0.75)}px`;
+  if (it.clientWidth <= room) {
+    into.removeAttribute("tabindex");
+    return;
+  }
+  // What is wider is scrolled to where something goes on.
+  into.tabIndex = 0;
+  const { left, width } = it.querySelector(".call, .changed, .name").getBoundingClientRect();
+  into.scrollLeft = left + width / 2 - it.getBoundingClientRect().left - room / 2;
+}
+
+// What the lines that were run last answered, and what they changed.
+function did() {
+  const lines = state.lines.slice(state.first).filter((it) => !isComment(it.line));
+  if (!lines.length) return [];
+  const some = lines.slice(-3);
+  const inside = some.flatMap((it) => [make("code", shortened(it.line)), " → ", make("code", it.said.length > 6 ? `${it.said.slice(0, 4).join(", ")} …` : it.said.join(", ") || "nothing"), make("br")]);
+  if (lines.length > some.length) inside.unshift(`${count(lines.length - some.length, "line")}, and then `);
+  const texts = lines.flatMap((it) => it.did);
+  const means = lines.map((it) => it.means).filter(Boolean).pop();
+  if (texts.length > 4) texts.splice(3, texts.length, "and more");
+  if (lines[lines.length - 1].said.length > 6) inside.push(make("pre", lines[lines.length - 1].said.join("\n")));
+  if (means) inside.push(make("b", "What is wrong: "), `${means}.`);
+  else inside.push(make("b", "Changed: "), `${texts.join("; ") || "no page"}.`);
+  return [make("p", inside, { class: "did" })];
+}
+
+function shortened(text) {
+  return text.length > 90 ? `${text.slice(0, 88)}…` : text;
+}
+
+function showTrees() {
+  const parts = state.trees.filter((tree, at) => at === 0 || !(tree.name === DEFAULT && !state.maps[DEFAULT])).map((tree, at) => {
+    const name = tree.name === DEFAULT ? "The tree" : tree.name ? `The tree ${tree.name}` : "No database is open";
+    const other = state.trees.length > 1 && at > 0 ? [" ", make("button", "make it current", { type: "button", "data-line": `tree ${tree.name}` })] : [];
+    const drawing = make("div", [], { class: "drawing" });
+    drawing.dataset.svg = tree.svg;
+    const notes = make("ul", tree.notes.map((note) => make("li", note)), { class: "notes" });
+    const text = make("details", [make("summary", "The same as text"), make("pre", tree.text.join("\n"))]);
+    return make("div", [make("h2", [name, ...other]), ...(at === 0 ? did() : []), drawing, ...(tree.notes.length ? [notes] : []), text], { class: "one-tree" });
+  });
+  const legend = make("details", [
+    make("summary", "How to read this"),
+    make("p", "Pairs lie in leaves, the boxes at the bottom. An index above says by its pointers (arrows down) in which page a key is. Each page also knows the page to its right, its next (dotted arrow). A dashed box has no pointer yet; a hatched box is merging. What the last lines brought is framed. A dark label is a call in flight, at the page that it read or changed last."),
+    make("p", "“base 9 + 1 link”: the store keeps a page as a base and at most 8 small changes over it; the ninth makes a new base."),
+  ], { class: "what" });
+  fill("trees", [make("div", parts, { class: "all-trees" }), legend]);
+  for (const drawing of $("trees").querySelectorAll(".drawing")) svg(drawing.dataset.svg, drawing);
+}
+
+// Calls, decided calls, subscribers, maps, lines.
+
+function button(text, line, label) {
+  return make("button", text, { type: "button", "data-line": line, "aria-label": label });
+}
+
+function showCalls() {
+  fill("calls", state.calls.map((call) => make("li", [
+    make("p", [make("b", `${call.slot}: ${call.call}`), call.tree === DEFAULT ? "" : ` on ${call.tree}`, ` · ${call.where}`]),
+    make("p", [make("i", "Next step: "), ...coded(`${call.next}.`)]),
+    make("div", [
+      button(["Step ", make("kbd", String(call.slot))], `step ${call.slot}`, `Step of call ${call.slot}`),
+      button("Finish", `finish ${call.slot}`, `Finish call ${call.slot}`),
+      button("Abandon", `abandon ${call.slot}`, `Abandon call ${call.slot}`),
+    ], { class: "row" }),
+  ])));
+}
+
+// What a crash that keeps so many actions does to a decided call.
+function fate(entry, keep) {
+  if (entry.lost) return "lost";
+  if (entry.kind === "read" || entry.from === entry.to) return "";
+  if (entry.to <= keep) return "kept";
+  return entry.kind === "parts" && entry.from < keep ? "in part" : "lost";
+}
+
+function showHistory() {
+  const flushed = state.history.map((it) => Boolean(it.mark)).lastIndexOf(true);
+  const keep = Number($("keep").value);
+  fill("history", state.history.map((entry, at) => {
+    if (entry.mark) return make("li", entry.text, { class: "mark" });
+    const is = at <= flushed ? (entry.lost ? "lost" : "durable") : fate(entry, keep);
+    const tree = entry.tree && entry.tree !== DEFAULT ? ` on ${entry.tree}` : "";
+    const said = { kept: "✓ a crash keeps it", lost: at <= flushed ? "✗ lost" : "✗ a crash loses it", "in part": "◐ kept in part", durable: "✓ durable" }[is] || "changes nothing";
+    const style = { kept: "is-kept", lost: "is-lost", "in part": "is-kept" }[is] || "";
+    return make("li", [make("span", `${entry.slot ? `${entry.slot}: ` : ""}${shortened(entry.call)}${tree} → ${entry.answer}`, { class: "call" }), make("span", said, { class: "fate" })], { class: style });
+  }));
+  $("history").scrollTop = $("history").scrollHeight;
+}
+
+function showSubscribers() {
+  $("subscribers").hidden = !state.subscribers.length;
+  fill("queues", state.subscribers.map((it, at) => make("li", [
+    make("p", [make("b", `${at + 1}: ${it.prefix === "%" ? "all keys" : `${it.prefix}…`}`), it.tree === DEFAULT ? "" : ` on ${it.tree}`, ` · ${count(it.count, "event")} wait${it.count === 1 ? "s" : ""}`, it.missed ? ` · ${it.missed} missed, which it hears first` : ""]),
+    make("ol", [...it.events.map((event) => make("li", event)), ...(it.count > it.events.length ? [make("li", `… and ${it.count - it.events.length} more`)] : [])], { class: "pairs" }),
+    make("div", [button("Next event", `next ${at + 1}`, `Next event of subscriber ${at + 1}`), button("Give up", `unwatch ${at + 1}`, `Give subscriber ${at + 1} up`)], { class: "row" }),
+  ])));
+}
+
+function nameOf(name) {
+  return name === DEFAULT ? "" : name;
+}
+
+// The pairs of maps; where others are given, with what of these is lost or is another there.
+function pairs(maps, now) {
+  const names = [...new Set([...Object.keys(now || {}), ...Object.keys(maps)])];
+  if (!names.length) return [make("p", "No pairs.", { class: "what" })];
+  return names.flatMap((name) => {
+    const there = new Map(maps[name] || []);
+    const keys = [...new Set([...there.keys(), ...((now && now[name]) || []).map(([key]) => key)])].sort();
+    const before = new Map((now && now[name]) || []);
+    const items = keys.map((key) => {
+      if (!there.has(key)) return make("li", [make("span", "lost: ", { class: "hidden" }), make("del", `${key}=${before.get(key)}`)], { class: "is-lost" });
+      const isOther = now && before.get(key) !== there.get(key);
+      return make("li", `${key}=${there.get(key)}${isOther ? (before.has(key) ? ` (not ${before.get(key)})` : " (again)") : ""}`, isOther ? { class: "is-other" } : {});
+    });
+    return [...(nameOf(name) || names.length > 1 ? [make("p", name, { class: "map-name" })] : []), make("ul", items, { class: "pairs" })];
+  });
+}
+
+function showLog() {
+  fill("log", state.lines.map((it) => (isComment(it.line) ? make("li", it.line, { class: "comment" }) : make("li", [make("span", it.line), make("span", it.said.slice(0, 60).join("\n"), { class: "said" })]))));
+  $("log").scrollTop = $("log").scrollHeight;
+}
+
+// The crash that the slider asks for.
+
+function showCrash() {
+  const all = state.actions.length;
+  $("crash-some").hidden = !all;
+  $("crash-none").hidden = Boolean(all);
+  $("keep").max = all;
+  $("keep").value = all;
+  fill("actions", state.actions.map((it) => make("li", [make("span", "", { class: "fate" }), make("span", it.text)])));
+  if (all) showKept();
+}
+
+// How many of so many actions that are kept a crash leaves: of writes that go together none, where their end is not kept.
+function leftOf(keep) {
+  const kept = state.actions.slice(0, keep).map((it) => it.edge);
+  const begun = kept.lastIndexOf("begin");
+  return begun > kept.lastIndexOf("end") ? begun : keep;
+}
+
+async function showKept() {
+  const keep = Number($("keep").value);
+  const all = state.actions.length;
+  $("keep-said").textContent = `the first ${keep} of ${count(all, "action")}` + (keep === 0 ? ", so what was flushed alone" : keep === all ? ", so all" : "");
+  $("keep").setAttribute("aria-valuetext", $("keep-said").textContent);
+  [...$("actions").children].forEach((it, at) => {
+    it.className = at < leftOf(keep) ? "is-kept" : "is-lost";
+    it.firstChild.textContent = at < leftOf(keep) ? "✓ kept" : at < keep ? "✗ no end" : "✗ undone";
+  });
+  const edge = $("actions").children[Math.max(keep - 1, 0)];
+  if (edge) $("actions").scrollTop = edge.offsetTop - $("actions").offsetTop - 60;
+  $("crash-here").textContent = `Crash here, and keep ${keep}`;
+  showHistory();
+  $("crash-some").classList.add("waits");
+  $("left-said").textContent = "The lines are run again, up to this crash …";
+  wanted = { keep, state };
+  const asked = wanted;
+  await new Promise((done) => setTimeout(done, 60));
+  if (asked !== wanted) return;
+  try {
+    const told = await post("/crash", { keep });
+    if (asked === wanted && asked.state === state) showLeft(told);
+  } catch (fault) {
+    tell(fault.message);
+  }
+}
+
+// After how many of the decided calls since the flush the maps are as a crash leaves them.
+function showLeft(left) {
+  const flushed = state.history.map((it) => Boolean(it.mark)).lastIndexOf(true);
+  const calls = state.history.slice(flushed + 1).filter((it) => it.kind && it.kind !== "read" && it.from !== it.to);
+  const kept = calls.filter((it) => fate(it, left.keep) === "kept");
+  const changes = calls.length === 1 ? "the one change" : `the ${calls.length} changes`;
+  const said = !calls.length ? "as the maps were at the flush: no change was decided since"
+    : kept.length === calls.length ? `with ${calls.length === 1 ? "" : "all of "}${changes} decided since the flush`
+      : kept.length ? `with the first ${kept.length} of ${changes} decided since the flush, and not even a part of the others`
+        : `as the maps were at the flush: of ${changes} decided since then there is nothing, not even a part`;
+  const isPart = calls.some((it) => fate(it, left.keep) === "in part");
+  $("crash-some").classList.remove("waits");
+  $("left-said").textContent = `This crash leaves ${left.verified === "sound" ? "a sound tree" : left.verified}, ${isPart ? "with the first keys of what is made key by key" : said}.`;
+  fill("left-maps", pairs(left.maps, state.maps));
+  $("left-tree").dataset.svg = left.svg;
+  svg(left.svg, $("left-tree"));
+  fill("left-notes", left.notes.map((note) => make("li", note)));
+}
+
+function show() {
+  showStory();
+  showTrees();
+  showCalls();
+  showCrash();
+  showHistory();
+  showSubscribers();
+  fill("maps", state.is_open ? pairs(state.maps) : [make("p", "No database is open.", { class: "what" })]);
+  showLog();
+  if (state.fault) tell(`From here on it is not known where calls are: ${state.fault}`);
+}
+
+// What is pressed and typed.
+
+function operands() {
+  const names = { K: "key", V: "value", OLD: "old, or -", NEW: "new, or -", LO: "from: .. or [K", HI: "to: .. or [K" };
+  fill("operands", $("kind").value.split(" ").slice(1).map((word) => make("input", [], { "data-kind": word, placeholder: names[word], "aria-label": names[word], autocomplete: "off", autocapitalize: "off", spellcheck: "false" })));
+}
+
+function beginCall() {
+  const words = [...$("operands").children].map((it) => {
+    if (it.dataset.kind === "LO" || it.dataset.kind === "HI") return it.value.trim() || "..";
+    return it.value === "-" && it.dataset.kind !== "K" && it.dataset.kind !== "V" ? "-" : quoted(it.value);
+  });
+  type(["begin", $("kind").value.split(" ")[0], ...words].join(" "));
+}
+
+function undo() {
+  const lines = texts();
+  while (lines.length && isComment(lines[lines.length - 1])) lines.pop();
+  lines.pop();
+  start(lines);
+}
+
+function save() {
+  const link = make("a", "", { href: URL.createObjectURL(new Blob([texts().map((line) => `${line}\n`).join("")], { type: "text/plain" })), download: "machine.lines" });
+  link.click();
+  URL.revokeObjectURL(link.href);
+}
+
+async function open() {
+  const [file] = $("open").files;
+  $("open").value = "";
+  if (file) start((await file.text()).split(/\r?\n/));
+}
+
+const atRandom = () => act("/random", { count: Number($("count").value), seed: Number($("seed").value) });
+const PRESSED = {
+  next, back, undo, save,
+  flush: () => run("flush"),
+  verify: () => run("verify"),
+  new: () => start([]),
+  "fill-do": () => run(`fill ${$("fill").value}`),
+  random: atRandom,
+  "crash-here": () => run(`crash ${$("keep").value}`),
+};
+const KEYS = { n: next, b: back, u: undo, f: PRESSED.flush, r: atRandom, "/": () => $("line").focus() };
+
+function listen() {
+  for (const [id, does] of Object.entries(PRESSED)) $(id).addEventListener("click", does);
+  document.body.addEventListener("click", (event) => {
+    const pressed = event.target.closest("[data-line]");
+    if (pressed) run(pressed.dataset.line);
+  });
+  $("kind").addEventListener("change", operands);
+  $("keep").addEventListener("input", showKept);
+  $("open").addEventListener("change", open);
+  document.querySelector("#crash details").addEventListener("toggle", () => svg($("left-tree").dataset.svg, $("left-tree")));
+  $("begin").addEventListener("submit", (event) => {
+    event.preventDefault();
+    beginCall();
+  });
+  $("line-form").addEventListener("submit", async (event) => {
+    event.preventDefault();
+    await type($("line").value);
+    if ($("why").hidden) $("line").value = "";
+  });
+  document.addEventListener("keydown", (event) => {
+    if (event.ctrlKey || event.altKey || event.metaKey || event.target.matches("input, select, textarea")) return;
+    const does = KEYS[event.key] || (state.calls.some((call) => String(call.slot) === event.key) && (() => run(`step ${event.key}`)));
+    if (does) {
+      event.preventDefault();
+      does();
+    }
+  });
+  window.addEventListener("resize", () => {
+    for (const drawing of document.querySelectorAll(".drawing")) svg(drawing.dataset.svg, drawing);
+  });
+}
+
+async function main() {
+  scenes = await (await fetch("/scenes")).json();
+  fill("scenes", scenes.map((scene) => {
+    const it = make("button", scene.title, { type: "button", "data-name": scene.name });
+    it.addEventListener("click", () => begin(scene));
+    return make("li", it);
+  }));
+  operands();
+  listen();
+  await run();
+  if (!state.lines.length) begin(scenes[0]);
+}
+
+main();
