@@ -172,9 +172,12 @@ impl Rebuild {
     /// rebuild.free(Pid(1));
     /// ```
     pub fn free(&mut self, pid: Pid)
-        requires { 0 < pid }
         ensures { rebuilt_of self.new ≡ without_page pid (rebuilt_of self.old) }
     {
+        // Numbers begin at 1.
+        if pid.0 == 0 {
+            return;
+        }
         let place = place_of(pid);
         let before = take_at(&mut self.pages, place);
         drop(before);
