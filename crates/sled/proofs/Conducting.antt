@@ -1,5 +1,5 @@
 -- Calls that are made at once, in no slot.
-use Rattle.std.proofs.Common.{◌≡◌, ℕ, zero, suc, ◌+◌, ◌<◌, ◌⊎◌, Bool, true, false, List, [], ◌∷◌, ◌++◌, length, Option, Some, None, sym, refl, ap, ◌∙◌, subst, inl, inr, arith, ◌≢◌}
+use Rattle.std.proofs.Common.{◌≡◌, ℕ, zero, suc, ◌+◌, ◌<◌, ◌⊎◌, Bool, true, false, List, [], ◌∷◌, ◌++◌, length, Option, Some, None, Result, Ok, Err, IfOk, IfErr, sym, refl, ap, ◌∙◌, subst, inl, inr, arith, ◌≢◌}
 use Rattle.std.proofs.lemmas.Bool.{cases_lt}
 use Rattle.sled_nodes.proofs.Basics.{none_some, some_is}
 use Rattle.sled_nodes.specs.Order.{Key}
@@ -34,7 +34,7 @@ use Rattle.sled.specs.Calls.{MustBeRefused, must_be_refused_as}
 use Rattle.tree_groups.specs.Writes.{PagesLast, ActsOften, NoAction}
 use Rattle.tree_groups.proofs.Writing.{often_then, often_once, number_given}
 use Rattle.sled.specs.Flights.{call_in_flight_of, maps_added, KeepsTreePages, effect_of_step, IsStepRefused, DbStepContract, DbSteps, Ends, GoesOn, DbRunsToEnd}
-use Rattle.sled.specs.Direct.{effects_until, StaysInChainOrWent, KeepsOrFreesTreePages, Conducts, begun_flight, PointDecided, PointRefused, LeavesAll}
+use Rattle.sled.specs.Direct.{effects_until, StaysInChainOrWent, KeepsOrFreesTreePages, Conducts, begun_flight, PointDecided, PointRefused, RunsAtOnce, LeavesAll}
 use Rattle.sled.proofs.Operating.{fails_first, passes_plain}
 use Rattle.sled.proofs.Testing.{untold_fault, untold_turns}
 use Rattle.sled.proofs.Flying.{loses_nothing, quiet_untold, everywhere, moved_state}
@@ -271,6 +271,15 @@ module _ {P M : Type 0} (store : P → Store) (meant : M → Merge) where
 
       pub point_refused : (e : Error) → IsOnKey call → (went : Went) → went ≡ Refused e → DbRunsToEnd store meant old f went new g → PointRefused store meant old tree call e new
       point_refused e on_key went out flies = begun_refused e on_key (subst (λ z. DbRunsToEnd store meant old z (Refused e) new g) begun (subst (λ z. DbRunsToEnd store meant old f z new g) out flies))
+
+  -- .. and of one that was made at once
+  pub at_once_decided : (old new : DbValue P M) (tree : Tree) (call : Call) (made : Result Reply Error) → RunsAtOnce store meant old tree call made new → IfOk made (λ reply. PointDecided store meant old tree call reply new)
+  at_once_decided old new tree call (Ok reply) r = begun_decided old new tree call r.last reply r.steps
+  at_once_decided old new tree call (Err e) r = tt
+
+  pub at_once_refused : (old new : DbValue P M) (tree : Tree) (call : Call) → IsOnKey call → (made : Result Reply Error) → RunsAtOnce store meant old tree call made new → IfErr made (λ e. PointRefused store meant old tree call e new)
+  at_once_refused old new tree call on_key (Ok reply) r = tt
+  at_once_refused old new tree call on_key (Err e) r = begun_refused old new tree call r.last e on_key r.steps
 
 -- ---- a call that is refused before its first step
 

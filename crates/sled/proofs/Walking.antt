@@ -1,13 +1,25 @@
 -- The steps of a walk, one after the other.
-use Rattle.std.proofs.Common.{◌≡◌, ◌≢◌, ◌-◌, ◌<◌, ◌≤◌, None, Option, Some, option_map, sym, refl, ap, ◌∙◌, subst, arith}
+use Rattle.std.proofs.Common.{◌≡◌, ◌≢◌, ◌-◌, ◌<◌, ◌≤◌, false, None, Option, Some, IfSome, IfNone, Result, Ok, Err, option_map, sym, refl, ap, ◌∙◌, subst, arith}
 use Rattle.std.specs.FinMap.Entries.{find}
 use Rattle.std.specs.Ordering.{nat_cmp}
+use Rattle.sled_nodes.specs.Node.{value_at}
+use Rattle.sled_nodes.specs.declared.error.Error.{Error}
 use Rattle.sled_store.specs.Store.{Store}
+use Rattle.sled_store.specs.declared.page.View.{View}
+use Rattle.sled_model.specs.Answer.{key_of}
 use Rattle.sled_model.specs.Maps.{Merge}
 use Rattle.sled_model.specs.State.{IsOnKey, range_of}
-use Rattle.sled_model.specs.Refusal.{must_refuse, ToStep}
+use Rattle.sled_model.specs.Refusal.{must_refuse, ToStep, ToPoint}
+use Rattle.sled_model.specs.declared.call.Call.{Call}
+use Rattle.sled_model.specs.declared.reply.Reply.{Reply}
+use Rattle.sled_model.specs.declared.tree.Tree.{Tree}
 use Rattle.sled_model.specs.declared.TheConstants.{MAX_LOOPS}
+use Rattle.sled_queues.specs.Tells.{IsUnwatched}
+use Rattle.sled_queues.specs.Values.{queue_at}
 use Rattle.tree_laws.specs.declared.flight.Stage.TheVariants as stage
+use Rattle.sled_tree.specs.Change.{reply_at}
+use Rattle.sled_tree.specs.Course.{course_of}
+use Rattle.sled_tree.specs.Stages.{changes_at}
 use Rattle.sled_tree.specs.Known.{IsKnown}
 use Rattle.sled_tree.specs.declared.flight.InFlight.{InFlight}
 use Rattle.sled_tree.specs.declared.flight.Job.{Job}
@@ -18,12 +30,17 @@ use Rattle.sled_tree.specs.theory.Stages.{IsOffWalk}
 use Rattle.sled_tree.specs.theory.Walking.{WalkStep, WalksTo, WalksDown}
 use Rattle.sled_tree.specs.theory.Walking as tree
 use Rattle.sled_tree.proofs.Facts.{flies_by_these}
+use Rattle.sled_tree.proofs.Known.{known_new}
+use Rattle.tree_quick.specs.Outcomes.{went_of}
+use Rattle.tree_quick.specs.theory.Quick.{RunsStraight}
 use Rattle.sled.specs.Values.{DbValue, db_state, snapshot_of_db}
 use Rattle.sled.specs.Sound.{IsDb}
 use Rattle.sled.specs.Flights.{call_in_flight_of, DbStepContract}
-use Rattle.tree_steps.specs.theory.Watched.{steps_over_as}
+use Rattle.sled.specs.Direct.{begun_flight, RunsAtOnce}
+use Rattle.sled.specs.theory.Direct.{TellsNobody}
+use Rattle.tree_steps.specs.theory.Watched.{links_watched_as, steps_over_as, StepsOver}
 use Rattle.sled.specs.theory.Walking.{DbWalksTo, Stays, GoesOn, DbWalksDown}
-use Rattle.sled.proofs.Flying.{IsFlying, going_more, still_tested, turn_taken}
+use Rattle.sled.proofs.Flying.{IsFlying, going_first, going_more, going_ends, still_tested, turn_taken}
 use Rattle.tree_steps.proofs.Watching.{alone}
 use Rattle.sled.proofs.Yielding.{flown_as}
 
@@ -46,9 +63,10 @@ module _ {P M : Type 0} (store : P → Store) (meant : M → Merge) (db : DbValu
     pub on_key : IsOnKey g.job.call
     pub known : IsKnown (snapshot_of_db store db) g
     pub tested : must_refuse (db_state store meant db) (ToStep (call_in_flight_of g)) ≡ None
+    pub job : g.job ≡ f.job
 
   walked : (f g : InFlight) → IsOnKey f.job.call → IsKnown (snapshot_of_db store db) f → must_refuse (db_state store meant db) (ToStep (call_in_flight_of f)) ≡ None → WalksTo (store db.pages) f g → Walked f g
-  walked f g on_key known tested tree.Stays = record { walks = Stays; on_key = on_key; known = known; tested = tested }
+  walked f g on_key known tested tree.Stays = record { walks = Stays; on_key = on_key; known = known; tested = tested; job = refl }
   walked f g on_key known tested (tree.GoesOn {g = mid} walks step) =
       let w = walked f mid on_key known tested walks in
       let d = one_step mid g Moved w.on_key w.known w.tested step in
@@ -57,6 +75,7 @@ module _ {P M : Type 0} (store : P → Store) (meant : M → Merge) (db : DbValu
         on_key = ap (λ (j : Job). range_of j.call) (d.knows.goes_on tt).0 ∙ w.on_key;
         known = (d.knows.goes_on tt).1;
         tested = still_tested store meant db db mid g d w.tested;
+        job = (d.knows.goes_on tt).0 ∙ w.job;
       }
 
   module _ (f g : InFlight) (on_key : IsOnKey f.job.call) (known : IsKnown (snapshot_of_db store db) f) (tested : must_refuse (db_state store meant db) (ToStep (call_in_flight_of f)) ≡ None) where
@@ -97,3 +116,64 @@ module _ {P M : Type 0} (store : P → Store) (meant : M → Merge) (old : DbVal
   -- the measure of a walk and the step after it
   pub fewer_after : (h k m : InFlight) → DbWalksTo store meant db h k → MAX_LOOPS - m.turns < MAX_LOOPS - k.turns → MAX_LOOPS - m.turns < MAX_LOOPS - h.turns
   fewer_after h k m walks less = let t = walk_turns h k walks in omega arith
+
+-- a call that walks straight to its last step is made at once
+module _ {P M : Type 0} (store : P → Store) (meant : M → Merge) (db : DbValue P M) (sound : IsDb store db) (tree : Tree) (call : Call) (on_key : IsOnKey call) (tested : must_refuse (db_state store meant db) (ToPoint tree call) ≡ None) (quiet : TellsNobody (queue_at db.queues) tree.number call) where
+  -- what it links at its last step tells nobody
+  untold : (last : InFlight) → last.job ≡ record { tree = tree; call = call } → IsKnown (snapshot_of_db store db) last → links_watched_as db.queues last false
+  untold last job known view here =
+      let leaf : changes_at (course_of last) (stage.Act view) = subst (changes_at (course_of last)) here (known.is sound.forest sound.is).1 in
+      subst (λ (j : Job). IsUnwatched j.tree.number (key_of j.call) (queue_at db.queues)) (sym job)
+      (quiet.is (value_at view.node.content (key_of call)) (ap (λ (j : Job). reply_at j.call view.node.content) (sym job) ∙ leaf))
+
+  module _ (q : P) (made : Result Reply Error) (r : RunsStraight (option_map meant (find nat_cmp tree.number db.operators)) (store db.pages) (begun_flight tree call) made (store q)) where
+    abbrev new : DbValue P M
+    new = record db { pages = q; queues = db.queues }
+
+    last_known : Walked store meant db sound (begun_flight tree call) r.last
+    last_known = walked store meant db sound (begun_flight tree call) r.last on_key (known_new (snapshot_of_db store db) tree call) tested r.walks
+
+    last_step : DbStepContract store meant db r.last (went_of made) new r.last × IsDb store new
+    last_step =
+        let operator = option_map meant (find nat_cmp tree.number db.operators) in
+        let over = alone operator (store db.pages) (store q) r.last r.last db.queues sound.calm (untold r.last last_known.job last_known.known) (went_of made) r.ends in
+        flown_as store meant db db refl sound r.last q db.queues r.has_turns (went_of made) r.last last_known.tested last_known.known
+        (subst (λ (j : Job). StepsOver (option_map meant (find nat_cmp j.tree.number db.operators)) (store db.pages) db.queues r.last (went_of made) (store q) db.queues r.last) (sym last_known.job)
+        (record { is = subst (λ o. steps_over_as o operator (store db.pages) db.queues r.last (went_of made) (store q) db.queues r.last) (sym last_known.on_key) over }))
+
+    ended : (made : Result Reply Error) → went_of made ≢ Moved
+    ended (Ok reply) e = cc
+    ended (Err e) is = cc
+
+    straight : RunsAtOnce store meant db tree call made new × IsDb store new
+    straight = (
+      record {
+        last = r.last;
+        steps = going_ends store meant db (begun_flight tree call) db new r.last r.last (went_of made)
+            (going_walk store meant db (begun_flight tree call) db sound (begun_flight tree call) r.last (going_first store meant db (begun_flight tree call) (known_new (snapshot_of_db store db) tree call) tested) last_known.walks)
+            last_step.0 (ended made);
+      },
+      last_step.1,
+    )
+
+-- what comes of it, where a method knows the database by its fields
+pub record Quickly {P M : Type 0} (store : P → Store) (meant : M → Merge) (old : DbValue P M) (tree : Tree) (call : Call) (made : Option (Result Reply Error)) (new : DbValue P M) : Type 0 where
+  pub steps : IfSome made (λ made. RunsAtOnce store meant old tree call made new)
+  pub nothing : IfNone made (new ≡ old)
+  pub sound : IsDb store new
+
+module _ {P M : Type 0} (store : P → Store) (meant : M → Merge) (inside : DbValue P M) (db : IsDb store inside) (tree : Tree) (call : Call) (on_key : IsOnKey call) (quiet : TellsNobody (queue_at inside.queues) tree.number call) where
+  quickly : (q : P) (made : Option (Result Reply Error)) → must_refuse (db_state store meant inside) (ToPoint tree call) ≡ None
+      → IfSome made (λ made. RunsStraight (option_map meant (find nat_cmp tree.number inside.operators)) (store inside.pages) (begun_flight tree call) made (store q)) → IfNone made (q ≡ inside.pages)
+      → Quickly store meant inside tree call made (record inside { pages = q; queues = inside.queues })
+  quickly q None tested r none = record { steps = tt; nothing = same; sound = subst (λ z. IsDb store z) (sym same) db }
+    where
+      same : record inside { pages = q; queues = inside.queues } ≡ inside
+      same = ap (λ p. record inside { pages = p; queues = inside.queues }) none
+  quickly q (Some made) tested r none = let s = straight store meant inside db tree call on_key tested quiet q made r in record { steps = s.0; nothing = tt; sound = s.1 }
+
+  pub quickly_as : (old : DbValue P M) (e : inside ≡ old) (q : P) (made : Option (Result Reply Error)) → must_refuse (db_state store meant old) (ToPoint tree call) ≡ None
+      → IfSome made (λ made. RunsStraight (option_map meant (find nat_cmp tree.number inside.operators)) (store inside.pages) (begun_flight tree call) made (store q)) → IfNone made (q ≡ inside.pages)
+      → Quickly store meant old tree call made (record inside { pages = q; queues = inside.queues })
+  quickly_as old e q made tested r none =
+      subst (λ (z : DbValue P M). must_refuse (db_state store meant z) (ToPoint tree call) ≡ None → Quickly store meant z tree call made (record inside { pages = q; queues = inside.queues })) e (λ tested. quickly q made tested r none) tested

@@ -1,5 +1,5 @@
 -- Calls that are made at once, in no slot.
-use Rattle.std.specs.Prelude.{◌≡◌, ◌≢◌, ℕ, ◌≤◌, ◌⊎◌, true, List, [], ◌∷◌, length, Option, Some, None}
+use Rattle.std.specs.Prelude.{◌≡◌, ◌≢◌, ℕ, ◌≤◌, ◌⊎◌, true, List, [], ◌∷◌, length, Option, Some, None, Result}
 use Rattle.sled_store.specs.In.{In}
 use Rattle.std.specs.declared.ops.Bound.TheVariants.{Included}
 use Rattle.sled_nodes.specs.Order.{Key}
@@ -33,6 +33,7 @@ use Rattle.sled_tree.specs.declared.flight.InFlight.{InFlight}
 use Rattle.sled_tree.specs.declared.flight.Went.TheVariants.{Decided, Refused}
 use Rattle.tree_groups.specs.Writes.{ActsOften, PagesLast}
 use Rattle.tree_groups.specs.Groups.{ActsInside}
+use Rattle.tree_quick.specs.Outcomes.{went_of}
 use Rattle.sled.specs.Values.{DbValue, db_state, state_of, configuration_of, snapshot_of_db}
 use Rattle.sled.specs.Sound.{IsDb}
 use Rattle.sled.specs.Flights.{IsStepRefused, DbRunsToEnd}
@@ -174,6 +175,11 @@ module _ {P M : Type 0} (store : P → Store) (meant : M → Merge) where
     pub conducts : Conducts store [] (Some e) old new
     pub steps : (StopsAtFirst old tree call e × (new ≡ old)) ⊎ ((last : InFlight) × DbRunsToEnd store meant old (begun_flight tree call) (Refused e) new last)
     pub turns : TellsTurns e → (path : List ℕ) → IsClean (now (store old.pages)) tree.name (Included (key_of call)) path → turns_limit ≤ length path
+
+  -- A call on a key of a tree was made at once, by the steps of one in flight from its begin to its end
+  pub record RunsAtOnce (old : DbValue P M) (tree : Tree) (call : Call) (made : Result Reply Error) (new : DbValue P M) : Type 0 where
+    pub last : InFlight
+    pub steps : DbRunsToEnd store meant old (begun_flight tree call) (went_of made) new last
 
   -- A whole call was decided, in whatever machine the database is
   pub record WholeDecided (old : DbValue P M) (whole : Whole) (reply : Reply) (new : DbValue P M) : Type 0 where

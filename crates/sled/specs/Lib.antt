@@ -34,5 +34,6 @@ pub use Rattle.sled_tree.specs as sled_tree
 pub use Rattle.tree_scans.specs as tree_scans
 pub use Rattle.tree_groups.specs as tree_groups
 pub use Rattle.tree_pages.specs as tree_pages
+pub use Rattle.tree_quick.specs as tree_quick
 pub use Rattle.tree_steps.specs as tree_steps
 pub use Rattle.tree_transactions.specs as tree_transactions

@@ -1,15 +1,18 @@
 //! The database.
-ghost use Rattle.std.specs.Prelude.{◌≡◌, ◌≢◌, IfOk, IfErr, OnOk, false, true, Some, None, [], ◌∷◌};
+ghost use Rattle.std.specs.Prelude.{◌≡◌, ◌≢◌, IfOk, IfErr, OnOk, IfSome, IfNone, false, true, Some, None, [], ◌∷◌};
 ghost use Rattle.sled_nodes.specs.declared.error.Error.TheVariants.{NoMemory};
 ghost use Rattle.sled_store.specs.Store.{now};
 ghost use Rattle.tree_laws.specs.Crashes.{IsValid, IsCrashConsistent};
 ghost use Rattle.sled_model.specs.Refusal.{must_refuse, must_refuse_of, needs_operator, ToPoint, ToStep};
+ghost use Rattle.sled_model.specs.State.{IsOnKey};
 ghost use Rattle.sled_model.specs.declared.call.Call.{Call};
+ghost use Rattle.sled_queues.specs.Values.{queue_at};
 ghost use Rattle.sled_tree.specs.declared.flight.Went.TheVariants.{Moved};
 ghost use Rattle.sled.specs.Calls.{IsHandle, RefusesHandle, MustBeRefused};
+ghost use Rattle.sled.specs.theory.Direct.{TellsNobody};
 
 use crate::DEFAULT_TREE;
-use sled_model::{Call, MAX_LOOPS, MergeOperator, Tree};
+use sled_model::{Call, MAX_LOOPS, MergeOperator, Reply, Tree};
 use sled_nodes::texts::{HANDLE_OF_ANOTHER_DATABASE, NO_MERGE_OPERATOR, WALK_PASSED_TURNS};
 use sled_nodes::{Error, IVec, Result};
 use sled_queues::Queues;
@@ -18,6 +21,7 @@ use sled_tree::{InFlight, Went, walk_down};
 use std::alloc::Global;
 use std::marker::Model;
 use tree_pages::{number_of, operator_of};
+use tree_quick::make_quick;
 use tree_steps::advance_over;
 
 // Whether the call goes on.
@@ -29,6 +33,17 @@ fn goes_on(went: &Went) -> bool
         Went::Moved => true,
         _ => false,
     }
+}
+
+// Whether a call tells nobody what it does: it links nothing, or nobody waits for what happens to its key.
+#[inline(always)]
+fn tells_nobody(queues: &Queues, tree: &Tree, call: &Call) -> bool
+    ensures { result ≡ true → TellsNobody (queue_at queues.now) tree.now.number call.now }
+{
+    if let Call::Get(_) = call {
+        return true;
+    }
+    !queues.is_watched(tree.number, call.key())
 }
 
 /// A database: named trees over a store of pages.
@@ -85,6 +100,7 @@ impl<P: Pages, M: MergeOperator> Db<P, M> {
     ghost use Rattle.sled_tree.specs.Known.{IsKnown};
     ghost use Rattle.sled.specs.Flights.{DbStep, DbSound, DbActs, DbFollows, DbPasses, DbLeaksNoPage, DbKnows, KeepsTreePages, DbStepContract, DbRunsToEnd, call_in_flight_of};
     ghost use Rattle.sled.specs.theory.Walking.{DbWalksDown};
+    ghost use Rattle.sled.specs.Direct.{RunsAtOnce};
     ghost use Rattle.sled.specs.Flush.{FlushesDb, RefusesFlush};
     ghost use Rattle.sled.specs.Operators.{without_operators};
     ghost use Rattle.sled_queues.specs.Queues.{AreQueues};
@@ -374,6 +390,30 @@ impl<P: Pages, M: MergeOperator> Db<P, M> {
                 went => return went,
             }
         }
+    }
+
+    /// A call on a key that passed the tests, made at once where nothing is to be repaired on the way to its leaf and nobody waits for what
+    /// happens to its key, by the steps of a call in flight from its begin to its end. Else it does nothing, and answers `None`.
+    ///
+    /// ```
+    /// db.check_call(&tree, &call)?; // The tests, which `make_quick` does not repeat.
+    /// match db.make_quick(&tree, &call) {
+    ///     Some(made) => (), // It was decided or refused.
+    ///     None => (), // It is to be made in flight.
+    /// }
+    /// ```
+    #[inline(always)]
+    pub fn make_quick(&mut self, tree: &Tree, call: &Call) -> Option<Result<Reply>>
+        requires on_key { IsOnKey call.now }
+        requires tested { must_refuse (db_state P.store M.meant self.old) (ToPoint tree.now call.now) ≡ None }
+        ensures made { IfSome result (λ made. RunsAtOnce P.store M.meant self.old tree.now call.now made self.new) }
+        ensures nothing { IfNone result (self.new ≡ self.old) }
+    {
+        if !tells_nobody(&self.queues, tree, call) {
+            return None;
+        }
+        let operator = operator_of(self.operators.as_slice(), tree.number);
+        make_quick(&mut self.pages, self.alloc, operator, tree, call)
     }
 
     /// Makes all that was decided durable. The number that it answers is the store's.

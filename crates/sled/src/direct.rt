@@ -1,6 +1,7 @@
 //! Calls on one key of a tree that are made at once, in no slot.
 //!
-//! They make the same steps as a call in flight, one after the other, repairs included.
+//! They make the same steps as a call in flight, one after the other, repairs included. Where nothing is to be repaired on the way, and
+//! nobody is told, the steps are made at once, without a call in flight.
 ghost use Rattle.std.specs.Prelude.{◌≡◌, IfOk, IfErr, None};
 ghost use Rattle.std.specs.Option.{option_copied};
 ghost use Rattle.sled_model.specs.State.{IsOnKey};
@@ -60,6 +61,23 @@ impl<P: Pages, M: MergeOperator> Db<P, M> {
 
     // The same of a call that passed the tests.
     pub(crate) fn make(&mut self, tree: &Tree, call: Call) -> Result<Reply>
+        requires on_key { IsOnKey call }
+        requires tested { must_refuse (db_state P.store M.meant self.old) (ToPoint tree.now call) ≡ None }
+        ensures ok { IfOk result (λ reply. PointDecided P.store M.meant self.old tree.now call reply self.new) }
+        ensures err { IfErr result (λ e. PointRefused P.store M.meant self.old tree.now call e self.new) }
+    {
+        match self.make_quick(tree, &call) {
+            Some(made) => {
+                drop(call);
+                made
+            }
+            None => self.make_in_flight(tree, call),
+        }
+    }
+
+    // Makes a call that passed the tests as one in flight, step by step.
+    #[inline(never)]
+    fn make_in_flight(&mut self, tree: &Tree, call: Call) -> Result<Reply>
         requires on_key { IsOnKey call }
         requires tested { must_refuse (db_state P.store M.meant self.old) (ToPoint tree.now call) ≡ None }
         ensures ok { IfOk result (λ reply. PointDecided P.store M.meant self.old tree.now call reply self.new) }
