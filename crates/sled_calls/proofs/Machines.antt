@@ -487,6 +487,10 @@ module _ {P M : Type 0} (store : P → Store) (number : P → ℕ) (meant : M �
   pub memory_as : (tree : Tree) (call : Call) (r : Error) → must_refuse (db_state store meant inside.db) (ToBegin tree call) ≡ None → r ≡ Rattle.sled_nodes.specs.declared.error.Error.TheVariants.NoMemory → MachineStepContract store number meant old (step.Begin tree call) (outcome.Refused r) old
   memory_as tree call r must m = subst (λ x. MachineStepContract store number meant old (step.Begin tree call) (outcome.Refused x) old) (sym m) (caused_as tree call Rattle.sled_nodes.specs.declared.error.Error.TheVariants.NoMemory must tt)
 
+  -- .. of a call that passed the tests before
+  pub short_as : (tree : Tree) (call : Call) (r : Error) → must_refuse (db_state store meant old.db) (ToBegin tree call) ≡ None → r ≡ Rattle.sled_nodes.specs.declared.error.Error.TheVariants.NoMemory → MachineStepContract store number meant old (step.Begin tree call) (outcome.Refused r) old
+  short_as tree call r must m = memory_as tree call r (tested_inside tree call must) m
+
   pub room_as : (tree : Tree) (call : Call) (r : Error) → must_refuse (db_state store meant old.db) (ToBegin tree call) ≡ None → r ≡ Rattle.sled_nodes.specs.declared.error.Error.TheVariants.NoMemory → (gs : List (ℕ × InFlight)) → gs ≡ inside.flights
       → MachineStepContract store number meant old (step.Begin tree call) (outcome.Refused r) (record inside { flights = gs })
-  room_as tree call r must m gs g = subst (λ z. MachineStepContract store number meant old (step.Begin tree call) (outcome.Refused r) z) (sym e ∙ ap (λ z. record inside { flights = z }) (sym g)) (memory_as tree call r (tested_inside tree call must) m)
+  room_as tree call r must m gs g = subst (λ z. MachineStepContract store number meant old (step.Begin tree call) (outcome.Refused r) z) (sym e ∙ ap (λ z. record inside { flights = z }) (sym g)) (short_as tree call r must m)

@@ -19,6 +19,7 @@ pub use Rattle.tree_laws.specs as tree_laws
 pub use Rattle.scan_laws.specs as scan_laws
 pub use Rattle.tree_reads.specs as tree_reads
 pub use Rattle.sled_tree.specs as sled_tree
+pub use Rattle.tree_quick.specs as tree_quick
 pub use Rattle.tree_steps.specs as tree_steps
 pub use Rattle.tree_transactions.specs as tree_transactions
 pub use Rattle.sled.specs as sled

@@ -7,6 +7,7 @@ ghost use Rattle.sled_nodes.specs.declared.error.Error.TheVariants.{NoMemory};
 ghost use Rattle.sled_store.specs.Update.{put_at};
 ghost use Rattle.sled.specs.Values.{snapshot_of_db};
 ghost use Rattle.sled_tree.specs.Known.{IsKnown};
+ghost use Rattle.tree_quick.specs.Outcomes.{went_of};
 ghost use Rattle.tree_steps.specs.Outcomes.{outcome_of, kept_of};
 ghost use Rattle.sled.specs.Flights.{DbStepContract, DbRunsToEnd};
 ghost use Rattle.sled_tree.specs.declared.flight.InFlight.{InFlight};
@@ -29,6 +30,16 @@ pub(crate) fn outcome_of(went: Went) -> Outcome
         Went::Yielded(key, value) => Outcome::Yielded(key, value),
         Went::Decided(reply) => Outcome::Decided(reply),
         Went::Refused(e) => Outcome::Refused(e),
+    }
+}
+
+// How a call came out that was made at once.
+pub(crate) fn outcome_at_once(made: Result<Reply>) -> Outcome
+    ensures { result ≡ outcome_of (went_of made) }
+{
+    match made {
+        Ok(reply) => Outcome::Decided(reply),
+        Err(e) => Outcome::Refused(e),
     }
 }
 

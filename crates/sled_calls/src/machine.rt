@@ -1,5 +1,5 @@
 //! The machine.
-ghost use Rattle.std.specs.Prelude.{◌≡◌, ◌<◌, IfOk, IfErr, OnOk, OnErr, None, [], Option};
+ghost use Rattle.std.specs.Prelude.{◌≡◌, ◌<◌, IfOk, IfErr, OnOk, OnErr, IfSome, IfNone, None, [], Option};
 ghost use Rattle.std.specs.Option.{option_map, option_copied};
 ghost use Rattle.sled_nodes.specs.Order.{Key};
 ghost use Rattle.sled_nodes.specs.declared.error.Error.TheVariants.{NoMemory};
@@ -9,7 +9,9 @@ ghost use Rattle.sled_model.specs.declared.call.Call.{Call};
 ghost use Rattle.sled_model.specs.declared.outcome.Outcome.TheVariants as outcome;
 ghost use Rattle.sled_model.specs.declared.outcome.Step.TheVariants as step;
 
-use crate::flights::{add, finish_in, job_in, outcome_of, remove, step_in, turns_in};
+use crate::flights::{
+    add, finish_in, job_in, outcome_at_once, outcome_of, remove, step_in, turns_in,
+};
 use sled::{Db, TransactionAnswer, TransactionalTree, TransactionalTrees};
 use sled_batch::Batch;
 use sled_model::{
@@ -232,9 +234,8 @@ impl<P: Pages, M: MergeOperator> Machine<P, M> {
         self.db.transaction_all(trees, f)
     }
 
-    // The tests that come before a call on a tree begins, and a copy of the tree.
-    fn admit(&self, tree: &Tree, call: &Call) -> Result<Tree>
-        ensures ok { IfOk result (λ copy. copy ≡ tree.now) }
+    // The tests that come before a call on a tree begins.
+    fn check_begin(&self, tree: &Tree, call: &Call) -> Result<()>
         ensures tested { OnOk result (must_refuse (db_state P.store M.meant self.now.db) (ToBegin tree.now call.now) ≡ None) }
         ensures room { OnOk result (self.now.slots_given < u64.MAX) }
         ensures err { IfErr result (λ e. MachineStepContract P.store P.flush_number M.meant self.now (step.Begin tree.now call.now) (outcome.Refused e) self.now) }
@@ -245,6 +246,20 @@ impl<P: Pages, M: MergeOperator> Machine<P, M> {
         if self.slots_given == u64::MAX {
             return Err(Error::Unsupported(NUMBERS_USED_UP));
         }
+        Ok(())
+    }
+
+    // The same tests, and a copy of the tree.
+    fn admit(&self, tree: &Tree, call: &Call) -> Result<Tree>
+        ensures ok { IfOk result (λ copy. copy ≡ tree.now) }
+        ensures tested { OnOk result (must_refuse (db_state P.store M.meant self.now.db) (ToBegin tree.now call.now) ≡ None) }
+        ensures room { OnOk result (self.now.slots_given < u64.MAX) }
+        ensures err { IfErr result (λ e. MachineStepContract P.store P.flush_number M.meant self.now (step.Begin tree.now call.now) (outcome.Refused e) self.now) }
+    {
+        if let Err(e) = self.check_begin(tree, call) {
+            return Err(e);
+        }
+        self.db.audit();
         tree.clone()
     }
 
@@ -517,7 +532,47 @@ impl<P: Pages, M: MergeOperator> Machine<P, M> {
         requires { IsOnKey call }
         ensures { Completes P.store P.flush_number M.meant self.old tree.now call result self.new }
     {
-        let tree = match self.admit(tree, &call) {
+        if let Err(e) = self.check_begin(tree, &call) {
+            drop(call);
+            return Outcome::Refused(e);
+        }
+        match self.complete_quick(tree, &call) {
+            Some(outcome) => {
+                drop(call);
+                outcome
+            }
+            None => self.complete_in_flight(tree, call),
+        }
+    }
+
+    // Does a call that passed the tests at once, where nothing is to be repaired on the way to its leaf and nobody is told.
+    #[inline(always)]
+    fn complete_quick(&mut self, tree: &Tree, call: &Call) -> Option<Outcome>
+        requires on_key { IsOnKey call.now }
+        requires tested { must_refuse (db_state P.store M.meant self.old.db) (ToBegin tree.now call.now) ≡ None }
+        requires room { self.old.slots_given < u64.MAX }
+        ensures done { IfSome result (λ o. Completes P.store P.flush_number M.meant self.old tree.now call.now o self.new) }
+        ensures nothing { IfNone result (self.new ≡ self.old) }
+    {
+        match self.db.make_quick(tree, call) {
+            None => None,
+            Some(made) => {
+                self.slots_given += 1;
+                Some(outcome_at_once(made))
+            }
+        }
+    }
+
+    // Does a call that passed the tests as one in flight, step by step.
+    #[inline(never)]
+    fn complete_in_flight(&mut self, tree: &Tree, call: Call) -> Outcome
+        requires on_key { IsOnKey call }
+        requires tested { must_refuse (db_state P.store M.meant self.old.db) (ToBegin tree.now call) ≡ None }
+        requires room { self.old.slots_given < u64.MAX }
+        ensures { Completes P.store P.flush_number M.meant self.old tree.now call result self.new }
+    {
+        self.db.audit();
+        let tree = match tree.clone() {
             Ok(tree) => tree,
             Err(e) => {
                 drop(call);

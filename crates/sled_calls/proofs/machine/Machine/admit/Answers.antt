@@ -1,13 +1,6 @@
-use Rattle.std.proofs.Common.{refl}
 use Rattle.sled_nodes.proofs.Basics.{err_weaker}
-use Rattle.sled_calls.proofs.Machines.{untested_as, caused_as, memory_as}
+use Rattle.sled_calls.proofs.Machines.{short_as}
 use Rattle.sled_calls.proofs.machine.Machine.admit.Goals as goal
 
-pub returns-in-Err-clause-err : goal.returns-in-Err-clause-err
-returns-in-Err-clause-err g c = untested_as g.P.Pages.store g.P.Pages.flush_number g.M.MergeOperator.meant _ _ c.self.view_is c.self.invariant _ _ _ c.in-Err.ensures.err
-
-pub returns-then-self-clause-err : goal.returns-then-self-clause-err
-returns-then-self-clause-err g c = caused_as g.P.Pages.store g.P.Pages.flush_number g.M.MergeOperator.meant _ _ c.self.view_is c.self.invariant _ _ _ c.in_default.ensures.ok (refl, c.if-self.true)
-
 pub returns-clause-err : goal.returns-clause-err
-returns-clause-err g c = err_weaker _ _ (λ e m. memory_as g.P.Pages.store g.P.Pages.flush_number g.M.MergeOperator.meant _ _ c.self.view_is c.self.invariant _ _ e c.in_default.ensures.ok m) c.clone.result c.clone.ensures.err
+returns-clause-err g c = err_weaker _ _ (λ e m. short_as g.P.Pages.store g.P.Pages.flush_number g.M.MergeOperator.meant _ _ c.self.view_is c.self.invariant _ _ e c.in_default.ensures.tested m) c.clone.result c.clone.ensures.err

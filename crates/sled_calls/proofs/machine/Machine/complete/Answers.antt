@@ -1,16 +1,5 @@
-use Rattle.std.proofs.Common.{inl, refl, ◌+◌}
-use Rattle.sled_calls.proofs.Finishing.{completed_as, completed_machine}
+use Rattle.std.proofs.Common.{inl, refl}
 use Rattle.sled_calls.proofs.machine.Machine.complete.Goals as goal
 
 pub returns-in-Err : goal.returns-in-Err
 returns-in-Err g c = inl (record { error = c.in-Err.e; is = refl; reaches = c.in-Err.ensures.err })
-
-pub invariant_of-self : goal.invariant_of-self
-invariant_of-self g c =
-    let slot = c.self.inside.slots_given + 1 in
-    completed_machine g.P.Pages.store g.P.Pages.flush_number g.M.MergeOperator.meant _ _ c.self.view_is c.self.invariant c.args.tree.now c.in-Ok.tree c.args.call c.in-Ok.ensures.ok c.in-Ok.ensures.tested c.new-flight.result c.new-flight.ensures c.requires slot refl c.advance_on-went.new.self _ _ c.advance_on-went.ensures
-
-pub returns : goal.returns
-returns g c =
-    let slot = c.self.inside.slots_given + 1 in
-    completed_as g.P.Pages.store g.P.Pages.flush_number g.M.MergeOperator.meant _ _ c.self.view_is c.self.invariant c.args.tree.now c.in-Ok.tree c.args.call c.in-Ok.ensures.ok c.in-Ok.ensures.tested c.new-flight.result c.new-flight.ensures c.requires slot refl c.advance_on-went.new.self _ _ c.outcome_of.result c.outcome_of.ensures c.advance_on-went.ensures
