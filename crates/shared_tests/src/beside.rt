@@ -1,15 +1,19 @@
 //! Callers of a database that is shared, each in a thread of its own.
-ghost use Rattle.std.specs.Prelude.{◌≡◌, ◌+◌, ◌<◌};
+ghost use Rattle.std.specs.Prelude.{◌≡◌, ◌+◌, ◌<◌, false};
+ghost use Rattle.sled_pages.specs.Memory.{store_of};
+ghost use Rattle.sled_store.specs.Store.{now};
+ghost use Rattle.tree_laws.specs.Crashes.{IsValid};
 
+use crate::asking::{Ask, Told, told_of};
 use crate::caller::{Caller, Seat};
 use crate::replay::{Plain, has_just, replayed};
 use crate::state_tests::begin_and_abandon;
 use crate::trial::{Start, Trial};
 use example_parts::Adds;
-use sled::{Db, MemPages, empty_pages};
-use sled_machine::shared::Blank;
+use sled::{Db, MemPages, crash_pages, empty_pages};
+use sled_machine::shared::{Blank, Entry, Made};
 use sled_machine::{Machine, shared};
-use sled_model::{Collection, Slot, Tree};
+use sled_model::{Collection, Slot, Tree, Whole};
 use std::alloc::Global;
 use std::marker::Brand;
 use std::process::Abort;
@@ -59,9 +63,12 @@ pub fn is_done<T: Drop, E: Drop>(came: Result<T, E>) -> bool {
     done
 }
 
-// A new database.
-fn new_database<R: Abort>(rt: &R, alloc: Global) -> Fresh {
-    match Db::open(alloc, empty_pages(alloc), b"shared") {
+// The database of these pages.
+fn database_of<R: Abort>(rt: &R, alloc: Global, pages: MemPages) -> Fresh
+    requires well { IsValid (now (store_of pages)) }
+    requires no_group { (now (store_of pages)).in_group ≡ false }
+{
+    match Db::open(alloc, pages, b"shared") {
         Ok(db) => db.with_operators(),
         Err(_) => panic!(rt; "not opened"),
     }
@@ -160,6 +167,18 @@ fn work_beside<L: Ledger + Send + Sync, R: Threads + Wait + Abort + Sync>(
     }
 }
 
+// The state, where these are all handles.
+fn gathered<L: Ledger, R: Wait + Abort>(
+    rt: &R,
+    shared: Shared<L>,
+    handles: Vec<Way<L>>,
+) -> Gathered<L> {
+    match shared.gather(rt, handles) {
+        Ok(state) => state,
+        Err(_) => panic!(rt; "not gathered"),
+    }
+}
+
 // The state, once the last handle is there too, before the others.
 fn gathered_with<L: Ledger, R: Wait + Abort>(
     rt: &R,
@@ -169,13 +188,10 @@ fn gathered_with<L: Ledger, R: Wait + Abort>(
 ) -> Gathered<L> {
     let mut handles = handles;
     require(rt, is_done(handles.insert(0, last)), "memory");
-    match shared.gather(rt, handles) {
-        Ok(state) => state,
-        Err(_) => panic!(rt; "not gathered"),
-    }
+    gathered(rt, shared, handles)
 }
 
-// The state: first without the last handle, when all is given back, and then with it.
+// The state: first without the last handle, when all is given back, and then with it. Where no handle was made none is wanted.
 fn gathered_late<L: Ledger, R: Wait + Abort>(
     rt: &R,
     shared: Shared<L>,
@@ -183,7 +199,7 @@ fn gathered_late<L: Ledger, R: Wait + Abort>(
 ) -> Gathered<L> {
     let mut handles = handles;
     let Some(last) = handles.pop() else {
-        panic!(rt; "no handle")
+        return gathered(rt, shared, handles);
     };
     match shared.gather(rt, handles) {
         Ok(_) => panic!(rt; "gathered too early"),
@@ -197,13 +213,41 @@ fn is_left(slot: &AtomicU64, machine: &Machine<MemPages, Adds>) -> bool {
     slot == 0 || matches!(machine.turns(Slot(slot)), Some(0))
 }
 
-// Whether there are as many trees as there were at the start, with as many pairs together.
-fn began_so(start: Start, opening: &[Collection]) -> bool {
+// How many pairs these have together.
+fn count_pairs(collections: &[Collection]) -> usize {
     let mut pairs = 0usize;
-    for collection in opening {
+    for collection in collections {
         pairs = pairs.wrapping_add(collection.2.len());
     }
-    opening.len() == start.trees && pairs == usize::from(start.keys.wrapping_sub(start.taken))
+    pairs
+}
+
+// Whether there are as many trees as there were at the start, with as many pairs together.
+fn began_so(start: Start, opening: &[Collection]) -> bool {
+    let pairs = usize::from(start.keys.wrapping_sub(start.taken));
+    opening.len() == start.trees && count_pairs(opening) == pairs
+}
+
+// Whether a flush was made.
+fn has_flush(history: &[Entry]) -> bool {
+    for entry in history {
+        if let Made::Whole(Whole::Flush, _) = &entry.made {
+            return true;
+        }
+    }
+    false
+}
+
+// Whether a crash that keeps nothing since the last flush leaves no pair. Nobody flushes the database before it is shared.
+fn is_unflushed<R: Abort>(rt: &R, alloc: Global, machine: Machine<MemPages, Adds>) -> bool {
+    machine.audit();
+    let left = crash_pages(machine.into_db().into_pages(), 0).expect(rt, "memory");
+    let db = database_of(rt, alloc, left);
+    let collections = db.export().expect(rt, "memory");
+    drop(db);
+    let none = count_pairs(collections.as_slice()) == 0;
+    drop(collections);
+    none
 }
 
 // Whether the database of the machine has just the pairs of a plain map.
@@ -238,12 +282,14 @@ fn look<L: Ledger, R: Abort>(rt: &R, scene: &Scene, trial: &Trial<'_>, state: Ga
         begin_and_abandon(rt, scene, &mut state);
     }
     let map = remade(rt, scene, trial, &state);
-    let machine = state.into_machine();
-    let same = is_left_so(rt, &machine, &map);
-    let left = is_left(&scene.before, &machine) && is_left(&scene.after, &machine);
+    let flushed = has_flush(state.history());
+    let machine = state.machine();
+    let same = is_left_so(rt, machine, &map);
+    let left = is_left(&scene.before, machine) && is_left(&scene.after, machine);
     drop(map);
-    drop(machine);
     require(rt, same && left, "the same pairs, and unstepped calls");
+    let unflushed = is_unflushed(rt, scene.alloc, state.into_machine());
+    require(rt, flushed || unflushed, "no call but a flush flushes");
 }
 
 // Has so many callers work on a database.
@@ -267,12 +313,80 @@ where
     look(rt, scene, trial, state);
 }
 
+// The database, once its handles were lost.
+fn reclaimed<L: Ledger, R: Wait + Abort>(rt: &R, shared: Shared<L>) -> Gathered<L> {
+    match shared.reclaim(rt) {
+        Ok(state) => state,
+        Err(_) => panic!(rt; "not reclaimed"),
+    }
+}
+
+// The database, since some handle is left.
+fn kept<L: Ledger, R: Wait + Abort>(rt: &R, shared: Shared<L>) -> Shared<L> {
+    match shared.reclaim(rt) {
+        Ok(_) => panic!(rt; "reclaimed too early"),
+        Err(shared) => shared,
+    }
+}
+
+// A caller inserts its number, and its handle is lost then.
+fn lose<L: Ledger, R: Wait + Abort>(
+    rt: &R,
+    scene: &Scene,
+    shared: Shared<L>,
+    handle: Way<L>,
+) -> Shared<L> {
+    let mut handle = handle;
+    let key = handle.number().to_be_bytes();
+    let told = told_of(rt, scene, &mut handle, Ask::Insert(&key, &key));
+    require(rt, told == Told::NoValue, "a new key");
+    let shared = kept(rt, shared);
+    drop(handle);
+    shared
+}
+
+// Has two callers insert on a database, each of which loses its handle then. The state can be taken once both are lost.
+fn lose_among<L: Ledger, R: Wait + Abort>(
+    rt: &R,
+    scene: &Scene,
+    db: Fresh,
+    blank: Blank,
+    trial: &Trial<'_>,
+)
+where
+    requires name { blank.name ≡ L.name }
+    requires parts { blank.parts ≡ L.parts }
+    requires each { blank.parts ≡ 3 }
+{
+    let mut shared = share::<L, R>(rt, scene.alloc, db, blank, 2);
+    let mut handles = handles_of(rt, scene.alloc, &mut shared, 2);
+    let (Some(one), Some(other)) = (handles.pop(), handles.pop()) else {
+        panic!(rt; "no handle")
+    };
+    drop(handles);
+    let shared = lose(rt, scene, shared, one);
+    let shared = lose(rt, scene, shared, other);
+    look(rt, scene, trial, reclaimed(rt, shared));
+}
+
+/// Has two callers insert, each of which loses its handle then, and looks at what comes of it.
+pub fn lose_all<R: Wait + Abort>(rt: &R, alloc: Global, trial: &Trial<'_>) {
+    let mut db = database_of(rt, alloc, empty_pages(alloc));
+    let tree = tree_of(rt, &mut db, trial.start.name);
+    let scene = new_scene(alloc, tree, 0);
+    lose_among::<Brand, _>(rt, &scene, db, Blank::new(3), trial);
+    drop(scene);
+}
+
 /// Makes the trial: has its callers work on a database, each in a thread, and looks at what comes of it.
 pub fn try_out<R: Threads + Wait + Abort + Sync>(rt: &R, alloc: Global, trial: &Trial<'_>) {
-    let mut db = new_database(rt, alloc);
+    let mut db = database_of(rt, alloc, empty_pages(alloc));
     let start = trial.start;
     let tree = tree_of(rt, &mut db, start.name);
     fill(rt, &mut db, &tree, start.keys, start.taken);
+    if start.watched {
+        drop(db.watch_prefix(&tree, b"").expect(rt, "a subscriber"));
+    }
     let scene = new_scene(alloc, tree, trial.moves);
     let callers = u64::from(trial.callers);
     let blank = Blank::new(callers + 1);

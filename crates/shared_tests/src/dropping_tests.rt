@@ -1,4 +1,4 @@
-//! A thread that inserts into a tree until another one drops it.
+//! A thread that inserts into a tree until another one drops it, and calls on a tree that is gone.
 use crate::asking::{Ask, Told};
 use crate::beside::try_out;
 use crate::trial::{EMPTY, Start, TWO_CALLERS, Trial, Wanted};
@@ -30,4 +30,29 @@ const TRIAL: Trial<'static> = Trial {
 #[test]
 fn an_insert_finds_its_tree_dropped(rt: HostRuntime) {
     try_out(&rt, rt.alloc(), &TRIAL);
+}
+
+// Once the tree is dropped, each call on it tells so.
+const GONE: [Turn<'static>; 4] = [
+    Turn::Ask(Ask::DropTree, Told::Dropped),
+    Turn::Ask(Ask::PopMin, Told::NoSuchTree),
+    Turn::Ask(Ask::Clear, Told::NoSuchTree),
+    Turn::Ask(Ask::Get(b"a"), Told::NoSuchTree),
+];
+
+const DROPPED: Trial<'static> = Trial {
+    start: Start {
+        name: b"t",
+        trees: 2,
+        ..EMPTY
+    },
+    callers: 1,
+    first: &GONE,
+    wanted: Wanted::Calls(1, &[]),
+    ..TWO_CALLERS
+};
+
+#[test]
+fn a_pop_finds_its_tree_dropped(rt: HostRuntime) {
+    try_out(&rt, rt.alloc(), &DROPPED);
 }

@@ -1,4 +1,4 @@
-//! Two threads at one key: the second makes its call while the first stands between two steps, with the lock free.
+//! Two threads at one key: the second makes its call while the first stands between two steps, with the lock free; once, or often.
 use crate::asking::{Ask, Told};
 use crate::beside::try_out;
 use crate::trial::{TWO_CALLERS, Trial, Wanted};
@@ -55,4 +55,26 @@ const ENDED: Trial<'static> = Trial {
 #[test]
 fn a_call_whose_slot_another_ends(rt: HostRuntime) {
     try_out(&rt, rt.alloc(), &ENDED);
+}
+
+// A call that the second thread holds up, so often, is made all the same.
+const OFTEN: u64 = 60;
+
+const HELD: [Turn<'static>; 2] = [
+    Turn::HeldUp(b"a", &[1], Told::Value(OFTEN), OFTEN),
+    Turn::Made(1),
+];
+
+const HOLDING: [Turn<'static>; 2] = [Turn::HoldUp(b"a", OFTEN), Turn::Made(OFTEN as usize)];
+
+const HELD_UP: Trial<'static> = Trial {
+    first: &HELD,
+    others: &HOLDING,
+    wanted: Wanted::Calls(OFTEN as usize + 1, &[]),
+    ..TWO_CALLERS
+};
+
+#[test]
+fn a_call_that_is_held_up(rt: HostRuntime) {
+    try_out(&rt, rt.alloc(), &HELD_UP);
 }

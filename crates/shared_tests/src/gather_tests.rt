@@ -22,6 +22,18 @@ const TRIAL: Trial<'static> = Trial {
     ..TWO_CALLERS
 };
 
+// Where no handle was made none is wanted.
+const NO_CALLER: Trial<'static> = Trial {
+    callers: 0,
+    wanted: Wanted::Calls(0, &[]),
+    ..TWO_CALLERS
+};
+
+#[test]
+fn a_state_without_callers(rt: HostRuntime) {
+    try_out(&rt, rt.alloc(), &NO_CALLER);
+}
+
 #[test]
 fn a_state_waits_for_all_handles(rt: HostRuntime) {
     try_out(&rt, rt.alloc(), &TRIAL);

@@ -15,6 +15,10 @@ mod counter_tests;
 #[cfg(test)]
 mod dropping_tests;
 #[cfg(test)]
+mod early_tests;
+#[cfg(test)]
+mod ending_tests;
+#[cfg(test)]
 mod gate_tests;
 #[cfg(test)]
 mod gather_tests;
@@ -24,6 +28,8 @@ mod handover_tests;
 mod lagging_tests;
 #[cfg(test)]
 mod queue_tests;
+#[cfg(test)]
+mod reclaim_tests;
 #[cfg(test)]
 mod replay;
 #[cfg(test)]

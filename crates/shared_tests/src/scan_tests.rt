@@ -1,8 +1,9 @@
-//! A scan that two threads step: the first takes one pair of it, and the second the others. Nothing is noted of it.
+//! A scan that two threads step: the first takes one pair of it, and the second the others. And one of several leaves. Nothing is noted of
+//! them.
 use crate::asking::{Ask, Told};
 use crate::beside::try_out;
 use crate::trial::{EMPTY, Start, TWO_CALLERS, Trial, Wanted};
-use crate::turns::{Signal, Turn};
+use crate::turns::{Place, Signal, Turn};
 
 // One step reads the leaf that is the root. Then each gives a pair.
 const FIRST: [Turn<'static>; 5] = [
@@ -33,4 +34,25 @@ const TRIAL: Trial<'static> = Trial {
 #[test]
 fn a_scan_is_stepped_by_two_threads(rt: HostRuntime) {
     try_out(&rt, rt.alloc(), &TRIAL);
+}
+
+// So many pairs do not fit one leaf. Their keys are numbers of eight bytes.
+const PAIRS: u64 = 100;
+
+const ALL: [Turn<'static>; 3] = [
+    Turn::Put(Place::Itself, PAIRS),
+    Turn::Begin(Ask::Scan, Signal::Slot),
+    Turn::ScanOn(PAIRS),
+];
+
+const LONG: Trial<'static> = Trial {
+    callers: 1,
+    first: &ALL,
+    wanted: Wanted::Calls(PAIRS as usize, &[]),
+    ..TWO_CALLERS
+};
+
+#[test]
+fn a_scan_gives_each_pair(rt: HostRuntime) {
+    try_out(&rt, rt.alloc(), &LONG);
 }

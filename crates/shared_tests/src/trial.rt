@@ -10,13 +10,14 @@ use std::sync::atomic::Ordering;
 const DEFAULT: &[u8] = b"__sled__default";
 
 /// A database with one tree, of this name, into which so many keys were put, from 0 up, and so many of the last taken out again. With the
-/// tree that is there from the beginning it has so many.
+/// tree that is there from the beginning it has so many. It may have a subscriber to that tree.
 #[derive(Clone, Copy)]
 pub struct Start {
     pub name: &'static [u8],
     pub trees: usize,
     pub keys: u8,
     pub taken: u8,
+    pub watched: bool,
 }
 
 /// A database with nothing in it.
@@ -25,6 +26,7 @@ pub const EMPTY: Start = Start {
     trees: 1,
     keys: 0,
     taken: 0,
+    watched: false,
 };
 
 /// What the history has, once all callers are done.

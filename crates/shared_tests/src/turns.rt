@@ -48,6 +48,10 @@ pub enum Turn<'a> {
     Ask(Ask<'a>, Told),
     /// Inserts this value at this key, of which that has to come, after it went on so often. After its first step the others make their call.
     Meet(&'a [u8], &'a [u8], Told, u64),
+    /// Inserts this value at this key, of which that has to come. After each of so many steps that went on another caller makes a call.
+    HeldUp(&'a [u8], &'a [u8], Told, u64),
+    /// Holds up so many steps of the call of another caller, each by an insert of its number at this key.
+    HoldUp(&'a [u8], u64),
     /// Puts the numbers from 1 on there, so many, or until the tree is not there any more.
     Put(Place<'a>, u64),
     /// Makes a call so often that tells a number. Each is greater than the one before.
@@ -60,8 +64,12 @@ pub enum Turn<'a> {
     GoOnTo(u64),
     /// One step of that call, which tells this.
     Step(Told),
+    /// Steps that call, a scan, to its end. It gives the pairs with the numbers from 1 on as their keys, so many.
+    ScanOn(u64),
     /// Gives that call up.
     Abandon,
+    /// Begins so many calls, one after the other, and gives each up. Its slot is gone then.
+    GiveUp(u64),
     /// Subscribes to all keys.
     Watch,
     /// Makes a call that takes what others put, an event or a job, until so many are told or missed.
@@ -100,17 +108,21 @@ fn wait_for_more<C: Caller>(caller: &C, number: &AtomicU64, than: u64) {
     caller.require(is_more(number, than), "the other thread did something");
 }
 
-// A gate at which the others make their calls, when it is passed for the first time: the leaf is read then.
+// A gate at which the others make their calls, when it is passed for the first times, so often. At the first one the leaf is read.
 #[derive(Clone, Copy)]
 struct Meets<'a> {
     scene: &'a Scene,
+    often: u64,
 }
 
 impl Gate for Meets<'_> {
     fn between(&self) {
-        if self.scene.count.fetch_add(1, Ordering::SeqCst) == 0 {
-            self.scene.ready.store(1, Ordering::SeqCst);
-            if !is_more(&self.scene.answered, 0) {
+        let before = self.scene.count.fetch_add(1, Ordering::SeqCst);
+        if before < self.often {
+            self.scene
+                .ready
+                .store(before.wrapping_add(1), Ordering::SeqCst);
+            if !is_more(&self.scene.answered, before) {
                 self.scene.vain.fetch_add(1, Ordering::SeqCst);
             }
         }
@@ -125,13 +137,43 @@ fn meet<C: Caller>(
     wanted: Told,
     times: u64,
 ) {
-    let told = caller.insert_past(key, value, &Meets { scene });
+    let told = caller.insert_past(key, value, &Meets { scene, often: 1 });
     let passed = scene.count.load(Ordering::SeqCst);
     let came = scene.vain.load(Ordering::SeqCst) == 0;
     caller.require(
         told == wanted && passed == times && came,
         "the others' call between",
     );
+}
+
+// An insert that is held up so often, and tells this.
+fn held_up<C: Caller>(
+    scene: &Scene,
+    caller: &mut C,
+    (key, value): (&[u8], &[u8]),
+    wanted: Told,
+    often: u64,
+) {
+    let told = caller.insert_past(key, value, &Meets { scene, often });
+    let passed = scene.count.load(Ordering::SeqCst);
+    let came = scene.vain.load(Ordering::SeqCst) == 0;
+    caller.require(
+        told == wanted && passed > often && came,
+        "the call goes on however often it is held up",
+    );
+}
+
+fn hold_up<C: Caller>(scene: &Scene, caller: &mut C, key: &[u8], often: u64) {
+    for number in 0..often {
+        wait_for_more(caller, &scene.ready, number);
+        let next = number.wrapping_add(1);
+        let told = caller.ask(Ask::Insert(key, &next.to_be_bytes()));
+        caller.require(
+            told == Told::NoValue || told == Told::Value(number),
+            "the number before",
+        );
+        scene.answered.store(next, Ordering::SeqCst);
+    }
 }
 
 // The call that puts these bytes there.
@@ -175,6 +217,37 @@ fn go_on<C: Caller>(scene: &Scene, caller: &mut C, from: u64, to: u64) {
     for _ in from..to {
         let told = caller.ask(Ask::Step(slot));
         caller.require(told == Told::Moved, "the call goes on");
+    }
+}
+
+// A scan takes so many steps at most.
+const STEPS: u64 = 10_000;
+
+fn scan_on<C: Caller>(scene: &Scene, caller: &mut C, pairs: u64) {
+    let slot = scene.slot.load(Ordering::SeqCst);
+    let (mut last, mut ended) = (0u64, false);
+    for _ in 0..STEPS {
+        match caller.ask(Ask::Step(slot)) {
+            Told::Moved => (),
+            Told::Pair(number) if number == last.wrapping_add(1) => last = number,
+            told => {
+                ended = told == Told::End;
+                break;
+            }
+        }
+    }
+    caller.require(ended && last == pairs, "each pair, in order, and the end");
+}
+
+fn give_up<C: Caller>(caller: &mut C, times: u64) {
+    for _ in 0..times {
+        let slot = caller.begin(Ask::Get(b"a"));
+        let told = caller.ask(Ask::Abandon(slot));
+        let gone = caller.ask(Ask::Step(slot));
+        caller.require(
+            told == Told::Abandoned && gone == Told::NoSuchSlot,
+            "the call is given up, and its slot is gone",
+        );
     }
 }
 
@@ -261,6 +334,8 @@ fn begin_or_wait<C: Caller>(scene: &Scene, caller: &mut C, turn: Turn<'_>) {
             let told = caller.ask(Ask::Abandon(scene.slot.load(Ordering::SeqCst)));
             caller.require(told == Told::Abandoned, "the call is given up");
         }
+        Turn::ScanOn(pairs) => scan_on(scene, caller, pairs),
+        Turn::GiveUp(times) => give_up(caller, times),
         Turn::Made(count) => caller.require(caller.made().len() == count, "its own calls"),
         Turn::MadeInsert(key) => caller.require(is_insert(caller.made(), key), "its own insert"),
         Turn::Wait(signal) => wait_for_more(caller, number_of(scene, signal), 0),
@@ -276,6 +351,8 @@ fn take_turn<C: Caller>(scene: &Scene, caller: &mut C, turn: Turn<'_>) {
             caller.require(told == wanted, "what the call is to tell");
         }
         Turn::Meet(key, value, wanted, times) => meet(scene, caller, (key, value), wanted, times),
+        Turn::HeldUp(key, value, told, often) => held_up(scene, caller, (key, value), told, often),
+        Turn::HoldUp(key, often) => hold_up(scene, caller, key, often),
         Turn::Put(place, times) => put_on(scene, caller, place, times),
         Turn::Count(ask, times) => count_on(caller, ask, times),
         Turn::GoOn => go_on(scene, caller, 0, scene.moves),

@@ -136,8 +136,8 @@ module _ {P M : Type 0} (store : P → Store) (number : P → ℕ) (meant : M �
   pub begin_state : (opening : List Content) (history : List EntryValue) (total : ℕ) (tree : Tree) (call : Call) (r : Result ℕ Error)
       → IfOk r (λ slot. MachineStepContract store number meant a (step.Begin tree call) (outcome.Begun slot) b) → IfErr r (λ e. MachineStepContract store number meant a (step.Begin tree call) (outcome.Refused e) b)
       → IsState store a opening history total → IsState store b opening history total
-  begin_state opening history total tree call (Ok slot) ok err h = record { legal = begun_legal opening history tree call slot _ ok.step.step.is h.legal; ids = begun_risen store number meant a b tree call (outcome.Begun slot) ok.step.maps history ok.step.step.is h.ids; counted = h.counted }
-  begin_state opening history total tree call (Err x) ok err h = record { legal = unbegun_legal opening history tree call x _ err.step.step.is h.legal; ids = begun_risen store number meant a b tree call (outcome.Refused x) err.step.maps history err.step.step.is h.ids; counted = h.counted }
+  begin_state opening history total tree call (Ok slot) ok err h = record { legal = begun_legal opening history tree call slot _ ok.step.step.is h.legal; leads = h.leads; ids = begun_risen store number meant a b tree call (outcome.Begun slot) ok.step.maps history ok.step.step.is h.ids; counted = h.counted }
+  begin_state opening history total tree call (Err x) ok err h = record { legal = unbegun_legal opening history tree call x _ err.step.step.is h.legal; leads = h.leads; ids = begun_risen store number meant a b tree call (outcome.Refused x) err.step.maps history err.step.step.is h.ids; counted = h.counted }
 
   -- and after a call was given up
   abandoned_legal : (opening : List Content) (history : List EntryValue) (slot : ℕ) (o : Outcome) (maps : List Maps)
@@ -149,12 +149,13 @@ module _ {P M : Type 0} (store : P → Store) (number : P → ℕ) (meant : M �
 
   pub abandon_state : (opening : List Content) (history : List EntryValue) (total slot : ℕ) (o : Outcome)
       → MachineStepContract store number meant a (step.Abandon slot) o b → IsState store a opening history total → IsState store b opening history total
-  abandon_state opening history total slot o c h = record { legal = abandoned_legal opening history slot o _ c.step.step.is h.legal; ids = abandoned_risen store number meant a b slot o c.step.maps history c.step.step.is h.ids; counted = h.counted }
+  abandon_state opening history total slot o c h = record { legal = abandoned_legal opening history slot o _ c.step.step.is h.legal; leads = h.leads; ids = abandoned_risen store number meant a b slot o c.step.maps history c.step.step.is h.ids; counted = h.counted }
 
 -- what holds of a state before anything was made
 pub first_is : {P M : Type 0} (store : P → Store) (m : MachineValue P M) (opening : List Content) (history : List EntryValue) (total : ℕ) → maps_from opening ≡ maps_now store m → history ≡ [] → total ≡ 0 → IsState store m opening history total
 first_is store m opening history total same none zero = record {
   legal = λ o. subst (λ l. IsLegal (maps_from opening) l (maps_now store m)) (sym none) (subst (λ x. IsLegal (maps_from opening) [] x) same NoEntries);
+  leads = record { last = maps_from opening; legal = subst (λ l. IsLegal (maps_from opening) l (maps_from opening)) (sym none) NoEntries };
   ids = none_risen m.db.greatest_id history none;
   counted = ap length none ∙ sym zero;
 }

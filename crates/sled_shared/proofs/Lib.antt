@@ -7,4 +7,5 @@ pub mod Equal
 pub mod WholeMakes
 pub mod WholeTests
 pub mod WholeLegal
+pub mod Leading
 pub mod WholeAdds

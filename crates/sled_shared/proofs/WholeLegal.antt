@@ -37,10 +37,10 @@ use Rattle.sled_shared.proofs.WholeMakes.{makes, stays_open, removes, removes_op
 told_none : (n : ℕ) → 0 ≡ told_parts n → n ≡ 0
 told_none n e = omega (arith, e)
 
-suc_zero : {n : ℕ} {P : Type 0} → suc n ≡ 0 → P
+pub suc_zero : {n : ℕ} {P : Type 0} → suc n ≡ 0 → P
 suc_zero e = cc
 
-removes_none : {tree : Tree} {a b : State} {n : ℕ} {maps : List Maps} → RemovesLeast tree a n b maps → n ≡ 0 → b ≡ a
+pub removes_none : {tree : Tree} {a b : State} {n : ℕ} {maps : List Maps} → RemovesLeast tree a n b maps → n ≡ 0 → b ≡ a
 removes_none RemovesNone e = refl
 removes_none (RemovesOne named pair rest there first more) e = suc_zero e
 

@@ -19,16 +19,26 @@ IsOpen store m = not (now (store m.db.pages)).in_group ≡ true
 abbrev pub maps_now : {P M : Type 0} → (P → Store) → MachineValue P M → Maps
 maps_now {P = P} {M = M} store m = maps_of (db_state store (λ (o : M) k value bytes. None) m.db)
 
--- While the database is open the history is legal, from the opening to the maps now. The ids in it rise, up to the greatest that was given;
--- and each entry is counted
+-- a history is legal, from the opening to some maps
+pub record Leads (opening : List Content) (history : List EntryValue) : Type 0 where
+  pub last : Maps
+  pub legal : IsLegal (maps_from opening) history last
+
+-- While the database is open the history is legal, from the opening to the maps now; open or closed, it is legal to some maps. The ids in it
+-- rise, up to the greatest that was given; and each entry is counted
 pub record IsState {P M : Type 0} (store : P → Store) (m : MachineValue P M) (opening : List Content) (history : List EntryValue) (total : ℕ) : Type 0 where
   pub legal : IsOpen store m → IsLegal (maps_from opening) history (maps_now store m)
+  pub leads : Leads opening history
   pub ids : RiseBetween 0 (ids_made history) m.db.greatest_id
   pub counted : length history ≡ total
 
 -- while the database of a state is open its history is legal, from the opening to the maps now
 abbrev pub HasLegalHistory : {P M : Type 0} → (P → Store) → StateValue P M → Type 0
 HasLegalHistory store s = IsOpen store s.machine → IsLegal (maps_from s.opening) s.history (maps_now store s.machine)
+
+-- open or closed, its history is legal, from the opening to some maps
+abbrev pub HasHistory : {P M : Type 0} → StateValue P M → Type 0
+HasHistory s = Leads s.opening s.history
 
 -- the ids in its history rise, up to the greatest that the database gave
 abbrev pub HasRisingIds : {P M : Type 0} → StateValue P M → Type 0

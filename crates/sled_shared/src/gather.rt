@@ -1,7 +1,7 @@
 //! The state, out of its lock.
 ghost use Rattle.std.specs.Prelude.{◌≡◌, true, All, IfOk, IfErr, IfSome, length, vec_len};
 ghost use Rattle.sled_model.specs.Collections.{contents_of};
-ghost use Rattle.sled_shared.specs.Sound.{HasLegalHistory, HasRisingIds};
+ghost use Rattle.sled_shared.specs.Sound.{HasHistory, HasLegalHistory, HasRisingIds};
 ghost use Rattle.sled_shared.specs.Gathered.{EachOnce, IsMadeIn, IsOfGiven};
 
 use crate::compare::{all_agree, are_all, are_same_collections, has_no_others};
@@ -10,8 +10,8 @@ use crate::handle::Handle;
 use crate::state::State;
 use sled_model::{Collection, MergeOperator};
 use sled_store::Pages;
-use std::sync::Wait;
 use std::sync::ledger::Ledger;
+use std::sync::{Arc, Wait};
 
 // Whether each list is that of its caller's entries, and there are no others.
 fn agrees_with<P: Pages, L: Ledger, M: MergeOperator>(
@@ -40,8 +40,8 @@ impl<P: Pages, L: Ledger, M: MergeOperator> Db<P, L, M> {
     /// Takes the state out, once all callers are done. All handles that were made must be handed in, in any order; where none was made the
     /// empty list is all. Each handle's list is compared with the history: it must be that of the entries with its number, in order, and
     /// the history must have no others; and what the state began with must be what the database had when it was shared. Where it is not
-    /// so, the database and the handles are given back, and the state stays under its lock. While its database is open the history of the
-    /// state is legal, and its ids rise.
+    /// so, the database and the handles are given back, and the state stays under its lock. The history of the state is legal, up to the maps
+    /// now while its database is open, and its ids rise.
     ///
     /// ```
     /// match shared.gather(rt, handles) {
@@ -60,6 +60,7 @@ impl<P: Pages, L: Ledger, M: MergeOperator> Db<P, L, M> {
         ensures others { IfOk result (λ s. All (IsOfGiven self.given) s.history) }
         ensures opening { IfOk result (λ s. s.opening ≡ self.opening) }
         ensures legal { IfOk result (HasLegalHistory P.store) }
+        ensures leads { IfOk result HasHistory }
         ensures ids { IfOk result HasRisingIds }
         ensures err { IfErr result (λ e. (e.0 ≡ self) × (e.1 ≡ handles)) }
     {
@@ -72,6 +73,44 @@ impl<P: Pages, L: Ledger, M: MergeOperator> Db<P, L, M> {
             }
             None => Err((self, handles)),
         }
+    }
+
+    /// Takes the state out though handles were lost, as with a thread that ended, where no handle is left: each was dropped. Else the
+    /// database is given back, and the state stays under its lock. With a handle the list of its caller is gone, so none is compared with
+    /// the history. That is legal, up to the maps now while the database of the state is open, and its ids rise.
+    ///
+    /// ```
+    /// match shared.reclaim(rt) {
+    ///     Ok(state) => drop(state.into_machine()),
+    ///     Err(shared) => drop(shared), // Some handle is left.
+    /// }
+    /// ```
+    pub fn reclaim(self, rt: &impl Wait) -> std::result::Result<State<P, L, M>, Db<P, L, M>>
+        ensures opening { IfOk result (λ s. s.opening ≡ self.opening) }
+        ensures legal { IfOk result (HasLegalHistory P.store) }
+        ensures leads { IfOk result HasHistory }
+        ensures ids { IfOk result HasRisingIds }
+        ensures err { IfErr result (λ d. d ≡ self) }
+    {
+        match self.take_left(rt) {
+            Some(state) => {
+                state.audit();
+                drop(self);
+                Ok(state)
+            }
+            None => Err(self),
+        }
+    }
+
+    // The state, where no handle is left; else it stays.
+    fn take_left(&self, rt: &impl Wait) -> Option<State<P, L, M>>
+        ensures { IfSome result (λ s. s.opening ≡ self.now.opening) }
+    {
+        if Arc::strong_count(&self.lock) != 1 {
+            return None;
+        }
+        let mut guard = self.lock.lock(rt);
+        take_begun(&mut *guard, self.opening.as_slice())
     }
 
     // The state, where all handles are there and agree with it; else it stays.
@@ -106,4 +145,18 @@ fn take_agreeing<P: Pages, L: Ledger, M: MergeOperator>(
         None => false,
     };
     if agrees { slot.take() } else { None }
+}
+
+// The state, where it began with these collections; else it stays.
+fn take_begun<P: Pages, L: Ledger, M: MergeOperator>(
+    slot: &mut Option<State<P, L, M>>,
+    opening: &[Collection],
+) -> Option<State<P, L, M>>
+    ensures { IfSome result (λ s. s.opening ≡ contents_of opening.now) }
+{
+    let begun = match slot {
+        Some(state) => began_with(state, opening),
+        None => false,
+    };
+    if begun { slot.take() } else { None }
 }

@@ -5,11 +5,11 @@
 //! end of the history, with the number of the caller whose step decided it, and at the end of that caller's own list. A `Clear` or an
 //! `Import` that is refused midway is noted with the parts that it did.
 //!
-//! Whenever the lock is free the history is legal, as long as no group was refused midway: from the collections that the database had when
-//! it was shared, each call replied and wrote what it would have, made alone at its place, and the maps after the last are the maps now
-//! (`specs/History`, `specs/Sound`). A merge wrote what its reply tells. A caller's list is as long as its share of the entries, which a
-//! ledger counts. At the end `gather` takes all handles back and compares: each list is that of its caller's entries, and the history has
-//! no others.
+//! Whenever the lock is free the history is legal: from the collections that the database had when it was shared, each call replied and
+//! wrote what it would have, made alone at its place. As long as no group was refused midway, which closes the database, the maps after the
+//! last are the maps now (`specs/History`, `specs/Sound`). A merge wrote what its reply tells. A caller's list is as long as its share of
+//! the entries, which a ledger counts. At the end `gather` takes all handles back and compares: each list is that of its caller's entries,
+//! and the history has no others. Where handles were lost `reclaim` takes the state without them.
 //!
 //! ```
 //! // For two callers: a ledger with a part for each, and one more. At `Err` the database is given back.

@@ -7,8 +7,8 @@ use std::marker::Model;
 use std::sync::Arc;
 use std::sync::ledger::{Book, Ledger};
 
-/// A machine, the collections that its database had when it was shared, and what callers made since, in order. As long as the database is open the
-/// history is legal, which `audit` tells.
+/// A machine, the collections that its database had when it was shared, and what callers made since, in order. This history is legal, which
+/// `audit` tells.
 pub struct State<P: Pages, L: Ledger, M = Box<dyn MergeOperator + Send>> {
     pub(crate) machine: Machine<P, M>,
     // shared with the database, which compares at the end
@@ -34,9 +34,20 @@ impl<P: Pages, L: Ledger, M> Model for State<P, L, M> {
 
 impl<P: Pages, L: Ledger, M: MergeOperator> State<P, L, M> {
     ghost use Rattle.std.specs.Prelude.{◌≡◌};
-    ghost use Rattle.sled_shared.specs.Sound.{HasLegalHistory, HasRisingIds};
+    ghost use Rattle.sled_shared.specs.Sound.{HasHistory, HasLegalHistory, HasRisingIds};
 
-    /// The machine. The history, which is legal while the database is open, is let go.
+    /// The machine, lent: its database, its pages and its calls in flight. So whoever holds a state can ask whether its database is open.
+    ///
+    /// ```
+    /// let is_open = !state.machine().db().pages().in_group(); // While it is, the history leads to the maps now.
+    /// ```
+    pub fn machine(&self) -> &Machine<P, M>
+        ensures { result.now ≡ self.now.machine }
+    {
+        &self.machine
+    }
+
+    /// The machine. The history, which is legal, is let go.
     ///
     /// ```
     /// let db = state.into_machine().into_db();
@@ -44,6 +55,7 @@ impl<P: Pages, L: Ledger, M: MergeOperator> State<P, L, M> {
     pub fn into_machine(self) -> Machine<P, M>
         ensures machine { result ≡ self.machine }
         ensures legal { HasLegalHistory P.store self }
+        ensures leads { HasHistory self }
         ensures ids { HasRisingIds self }
     {
         let Self {

@@ -9,7 +9,7 @@ ghost use Rattle.sled_calls.specs.Step.{MachineStepContract};
 ghost use Rattle.sled_calls.specs.Values.{slots_of, job_of_call};
 ghost use Rattle.sled_shared.specs.Made.{entry_values};
 ghost use Rattle.sled_shared.specs.Notes.{AddsStep, IsGivenUp, entries_of, noted_in, noted_of};
-ghost use Rattle.sled_shared.specs.Sound.{HasLegalHistory, HasRisingIds};
+ghost use Rattle.sled_shared.specs.Sound.{HasHistory, HasLegalHistory, HasRisingIds};
 ghost use Rattle.sled_shared.specs.Steps.{SlotStep};
 ghost use Rattle.sled_shared.specs.theory.Noting.{job_pair};
 ghost use Rattle.sled_shared.specs.WholeNotes.{AddsWhole, NotesWhole};
@@ -151,7 +151,7 @@ impl<P: Pages, L: Ledger, M: MergeOperator> State<P, L, M> {
         self.opening.as_slice()
     }
 
-    /// What callers made, in the order of the steps that decided it. While the database is open it is legal, as `audit` says.
+    /// What callers made, in the order of the steps that decided it. It is legal, as `audit` says.
     ///
     /// ```
     /// let made = state.history().len(); // As many as all callers made.
@@ -159,20 +159,22 @@ impl<P: Pages, L: Ledger, M: MergeOperator> State<P, L, M> {
     pub fn history(&self) -> &[Entry]
         ensures entries { entry_values result.now ≡ self.now.history }
         ensures legal { HasLegalHistory P.store self.now }
+        ensures leads { HasHistory self.now }
         ensures ids { HasRisingIds self.now }
     {
         self.history.as_slice()
     }
 
-    /// What holds of every state: while its database is open, the history is legal. From the opening on each entry's call replied and wrote
-    /// what it would have, made alone at its place, and the maps after the last entry are the maps now. The ids in it rise, and none is
-    /// above the greatest that the database gave. It does nothing.
+    /// What holds of every state: the history is legal. From the opening on each entry's call replied and wrote what it would have, made alone
+    /// at its place, and while the database is open the maps after the last entry are the maps now. The ids in it rise, and none is above
+    /// the greatest that the database gave. It does nothing.
     ///
     /// ```
     /// state.audit(); // From here on a proof knows that the history is legal.
     /// ```
     pub fn audit(&self)
         ensures legal { HasLegalHistory P.store self.now }
+        ensures leads { HasHistory self.now }
         ensures ids { HasRisingIds self.now }
     {
         let _history = &self.history;

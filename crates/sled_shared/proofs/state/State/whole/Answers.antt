@@ -8,6 +8,7 @@ use Rattle.sled_shared.specs.theory.Noting.{first_noted}
 use Rattle.sled_model.specs.Collections.{contents_of}
 use Rattle.sled_shared.proofs.Ids.{whole_risen}
 use Rattle.sled_shared.proofs.WholeLegal.{whole_legal}
+use Rattle.sled_shared.proofs.Leading.{whole_leads}
 use Rattle.sled_shared.proofs.state.State.whole.Goals as goal
 
 pub returns-clause-whole : goal.returns-clause-whole
@@ -31,6 +32,7 @@ invariant_of-self g c =
     } in
     record {
       legal = whole_legal g.P.Pages.store g.P.Pages.flush_number g.M.MergeOperator.meant c.self.inside.machine c.whole_noting-outcome.new.machine (contents_of c.self.inside.opening.value.items) c.me.inside.number _ _ _ _ _ _ notes c.self.invariant.legal;
+      leads = whole_leads g.P.Pages.store g.P.Pages.flush_number g.M.MergeOperator.meant c.self.inside.machine c.whole_noting-outcome.new.machine (contents_of c.self.inside.opening.value.items) c.me.inside.number _ _ _ _ _ _ notes c.self.invariant.legal c.self.invariant.leads;
       ids = whole_risen g.P.Pages.store g.P.Pages.flush_number g.M.MergeOperator.meant c.self.inside.machine c.whole_noting-outcome.new.machine c.me.inside.number _ _ _ _ _ _ notes c.self.invariant.ids;
       counted = length-map c.note_and_count.new.history.items entry_value ∙ c.note_and_count.ensures.counted;
     }
