@@ -6,6 +6,5 @@ pub mod Once
 pub mod Equal
 pub mod WholeMakes
 pub mod WholeTests
-pub mod WholeLegal
 pub mod Leading
 pub mod WholeAdds

@@ -49,10 +49,10 @@ put_maps trees name t q = go (bytes_eq q name) t (trees q)
     go true t o = refl
     go false t o = refl
 
-after_maps : (s : State) (name : Key) (t : NamedTree) (a : Answer) → maps_of (after_decision_on s name t a) ≡ put_name (maps_of s) name (Some a.map)
+pub after_maps : (s : State) (name : Key) (t : NamedTree) (a : Answer) → maps_of (after_decision_on s name t a) ≡ put_name (maps_of s) name (Some a.map)
 after_maps s name t a = fun_ext (λ q. put_maps s.trees name (Some (record t { map = a.map })) q)
 
-there_map : (s : State) (name : Key) (t : NamedTree) → s.trees name ≡ Some t → maps_of s name ≡ Some t.map
+pub there_map : (s : State) (name : Key) (t : NamedTree) → s.trees name ≡ Some t → maps_of s name ≡ Some t.map
 there_map s name t e = ap (λ o. option_map (λ (t : NamedTree). t.map) o) e
 
 -- pops
@@ -127,7 +127,7 @@ has_map None = refl
 has_map (Some t) = refl
 
 -- imports
-part : (a : State) (p : Part) (b : State) (maps : List Maps) → does_part_as a p b maps → makes_part_as (maps_of a) p (maps_of b)
+pub part : (a : State) (p : Part) (b : State) (maps : List Maps) → does_part_as a p b maps → makes_part_as (maps_of a) p (maps_of b)
 part a (OpensName name) b maps d = ap maps_of d.0 ∙ opened (a.trees name) a name
 part a (Puts name key value) b maps d = record {
   map = d.named.map;

@@ -3,6 +3,7 @@ pub mod Made
 pub mod Values
 pub mod WholeMade
 pub mod History
+pub mod Crashes
 pub mod Sound
 pub mod Steps
 pub mod Notes

@@ -1,13 +1,15 @@
 -- What holds whenever the lock is free, beside what holds of the machine.
-use Rattle.std.specs.Prelude.{◌≡◌, ℕ, ◌+◌, ◌≤◌, true, not, List, length, None}
+use Rattle.std.specs.Prelude.{◌≡◌, ℕ, ◌+◌, ◌≤◌, true, not, List, [], ◌∷◌, ◌++◌, length, None}
 use Rattle.sled_store.specs.Store.{Store, now}
 use Rattle.sled_model.specs.Maps.{Maps}
 use Rattle.sled_model.specs.Collections.{Content}
 use Rattle.sled_model.specs.State.{maps_of}
 use Rattle.sled.specs.Values.{db_state}
+use Rattle.sled_calls.specs.CrashMaps.{AreCrashMaps}
 use Rattle.sled_calls.specs.Ids.{RiseBetween}
 use Rattle.sled_calls.specs.Values.{MachineValue}
 use Rattle.sled_shared.specs.Made.{EntryValue}
+use Rattle.sled_shared.specs.Crashes.{LeadsThrough}
 use Rattle.sled_shared.specs.History.{IsLegal, maps_from, ids_made}
 use Rattle.sled_shared.specs.Values.{StateValue}
 
@@ -24,11 +26,23 @@ pub record Leads (opening : List Content) (history : List EntryValue) : Type 0 w
   pub last : Maps
   pub legal : IsLegal (maps_from opening) history last
 
--- While the database is open the history is legal, from the opening to the maps now; open or closed, it is legal to some maps. The ids in it
--- rise, up to the greatest that was given; and each entry is counted
+-- A history leads from the opening to some maps, which are the maps now while the database is open. What a crash may leave are, in order: what
+-- it might have left as the database was shared, of which the opening is the last; and then the maps after each entry of the history, and
+-- after each of its parts. From the last flush in the history on it may leave those after it alone
+pub record CrashLeaves {P M : Type 0} (store : P → Store) (m : MachineValue P M) (opening : List Content) (history : List EntryValue) : Type 0 where
+  pub earlier : List Maps
+  pub last : Maps
+  pub left : List Maps
+  pub leads : LeadsThrough (maps_from opening) (earlier ++ maps_from opening ∷ []) history last left
+  pub now : IsOpen store m → last ≡ maps_now store m
+  pub leaves : AreCrashMaps (store m.db.pages) left
+
+-- While the database is open the history is legal, from the opening to the maps now; open or closed, it is legal to some maps, and so is what
+-- a crash may leave. The ids in it rise, up to the greatest that was given; and each entry is counted
 pub record IsState {P M : Type 0} (store : P → Store) (m : MachineValue P M) (opening : List Content) (history : List EntryValue) (total : ℕ) : Type 0 where
   pub legal : IsOpen store m → IsLegal (maps_from opening) history (maps_now store m)
   pub leads : Leads opening history
+  pub crashes : CrashLeaves store m opening history
   pub ids : RiseBetween 0 (ids_made history) m.db.greatest_id
   pub counted : length history ≡ total
 
@@ -39,6 +53,10 @@ HasLegalHistory store s = IsOpen store s.machine → IsLegal (maps_from s.openin
 -- open or closed, its history is legal, from the opening to some maps
 abbrev pub HasHistory : {P M : Type 0} → StateValue P M → Type 0
 HasHistory s = Leads s.opening s.history
+
+-- .. and what a crash may leave of its database goes along with it
+abbrev pub HasCrashMaps : {P M : Type 0} → (P → Store) → StateValue P M → Type 0
+HasCrashMaps store s = CrashLeaves store s.machine s.opening s.history
 
 -- the ids in its history rise, up to the greatest that the database gave
 abbrev pub HasRisingIds : {P M : Type 0} → StateValue P M → Type 0

@@ -5,9 +5,8 @@ ghost use Rattle.tree_laws.specs.Contents.{trees_of};
 ghost use Rattle.tree_pages.specs.Export.{collections};
 ghost use Rattle.sled.specs.Export.{RefusesExport};
 ghost use Rattle.sled_model.specs.Collections.{contents_of};
-ghost use Rattle.sled_shared.specs.History.{maps_from};
+ghost use Rattle.sled.specs.Sound.{IsDb};
 ghost use Rattle.sled_shared.specs.Gathered.{RefusesHandle};
-ghost use Rattle.sled_shared.specs.Sound.{maps_now};
 
 use crate::caller::Caller;
 use crate::handle::Handle;
@@ -100,7 +99,9 @@ fn first_state<P: Pages, L: Ledger, M: MergeOperator>(
     opening: Arc<Vec<Collection>>,
     calls: Book<L>,
 ) -> State<P, L, M>
-    requires opening { (machine : _) → machine.db ≡ db → maps_from (contents_of opening.value.items) ≡ maps_now P.store machine }
+    requires sound { IsDb P.store db }
+    requires open { (now (P.store db.pages)).in_group ≡ false }
+    requires opening { contents_of opening.value.items ≡ collections (trees_of (now (P.store db.pages))) db.trees }
     requires none { calls.total ≡ 0 }
 {
     let machine = Machine::new(db);

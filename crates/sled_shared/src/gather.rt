@@ -1,7 +1,7 @@
 //! The state, out of its lock.
 ghost use Rattle.std.specs.Prelude.{◌≡◌, true, All, IfOk, IfErr, IfSome, length, vec_len};
 ghost use Rattle.sled_model.specs.Collections.{contents_of};
-ghost use Rattle.sled_shared.specs.Sound.{HasHistory, HasLegalHistory, HasRisingIds};
+ghost use Rattle.sled_shared.specs.Sound.{HasCrashMaps, HasHistory, HasLegalHistory, HasRisingIds};
 ghost use Rattle.sled_shared.specs.Gathered.{EachOnce, IsMadeIn, IsOfGiven};
 
 use crate::compare::{all_agree, are_all, are_same_collections, has_no_others};
@@ -41,7 +41,7 @@ impl<P: Pages, L: Ledger, M: MergeOperator> Db<P, L, M> {
     /// empty list is all. Each handle's list is compared with the history: it must be that of the entries with its number, in order, and
     /// the history must have no others; and what the state began with must be what the database had when it was shared. Where it is not
     /// so, the database and the handles are given back, and the state stays under its lock. The history of the state is legal, up to the maps
-    /// now while its database is open, and its ids rise.
+    /// now while its database is open; a crash may leave the maps after each entry and part of it, from the last flush on; and its ids rise.
     ///
     /// ```
     /// match shared.gather(rt, handles) {
@@ -61,6 +61,7 @@ impl<P: Pages, L: Ledger, M: MergeOperator> Db<P, L, M> {
         ensures opening { IfOk result (λ s. s.opening ≡ self.opening) }
         ensures legal { IfOk result (HasLegalHistory P.store) }
         ensures leads { IfOk result HasHistory }
+        ensures crashes { IfOk result (HasCrashMaps P.store) }
         ensures ids { IfOk result HasRisingIds }
         ensures err { IfErr result (λ e. (e.0 ≡ self) × (e.1 ≡ handles)) }
     {
@@ -77,7 +78,7 @@ impl<P: Pages, L: Ledger, M: MergeOperator> Db<P, L, M> {
 
     /// Takes the state out though handles were lost, as with a thread that ended, where no handle is left: each was dropped. Else the
     /// database is given back, and the state stays under its lock. With a handle the list of its caller is gone, so none is compared with
-    /// the history. That is legal, up to the maps now while the database of the state is open, and its ids rise.
+    /// the history. Of that the same holds as of one that is gathered.
     ///
     /// ```
     /// match shared.reclaim(rt) {
@@ -89,6 +90,7 @@ impl<P: Pages, L: Ledger, M: MergeOperator> Db<P, L, M> {
         ensures opening { IfOk result (λ s. s.opening ≡ self.opening) }
         ensures legal { IfOk result (HasLegalHistory P.store) }
         ensures leads { IfOk result HasHistory }
+        ensures crashes { IfOk result (HasCrashMaps P.store) }
         ensures ids { IfOk result HasRisingIds }
         ensures err { IfErr result (λ d. d ≡ self) }
     {

@@ -7,9 +7,10 @@
 //!
 //! Whenever the lock is free the history is legal: from the collections that the database had when it was shared, each call replied and
 //! wrote what it would have, made alone at its place. As long as no group was refused midway, which closes the database, the maps after the
-//! last are the maps now (`specs/History`, `specs/Sound`). A merge wrote what its reply tells. A caller's list is as long as its share of
-//! the entries, which a ledger counts. At the end `gather` takes all handles back and compares: each list is that of its caller's entries,
-//! and the history has no others. Where handles were lost `reclaim` takes the state without them.
+//! last are the maps now (`specs/History`, `specs/Sound`). A merge wrote what its reply tells. What a crash may leave are the maps after each
+//! entry and part of the history, behind those that it might have left before; from the last flush on those alone (`specs/Crashes`). A
+//! caller's list is as long as its share of the entries, which a ledger counts. At the end `gather` takes all handles back and compares: each
+//! list is that of its caller's entries, and the history has no others. Where handles were lost `reclaim` takes the state without them.
 //!
 //! ```
 //! // For two callers: a ledger with a part for each, and one more. At `Err` the database is given back.

@@ -34,7 +34,7 @@ impl<P: Pages, L: Ledger, M> Model for State<P, L, M> {
 
 impl<P: Pages, L: Ledger, M: MergeOperator> State<P, L, M> {
     ghost use Rattle.std.specs.Prelude.{◌≡◌};
-    ghost use Rattle.sled_shared.specs.Sound.{HasHistory, HasLegalHistory, HasRisingIds};
+    ghost use Rattle.sled_shared.specs.Sound.{HasCrashMaps, HasHistory, HasLegalHistory, HasRisingIds};
 
     /// The machine, lent: its database, its pages and its calls in flight. So whoever holds a state can ask whether its database is open.
     ///
@@ -56,6 +56,7 @@ impl<P: Pages, L: Ledger, M: MergeOperator> State<P, L, M> {
         ensures machine { result ≡ self.machine }
         ensures legal { HasLegalHistory P.store self }
         ensures leads { HasHistory self }
+        ensures crashes { HasCrashMaps P.store self }
         ensures ids { HasRisingIds self }
     {
         let Self {

@@ -9,7 +9,7 @@ ghost use Rattle.sled_calls.specs.Step.{MachineStepContract};
 ghost use Rattle.sled_calls.specs.Values.{slots_of, job_of_call};
 ghost use Rattle.sled_shared.specs.Made.{entry_values};
 ghost use Rattle.sled_shared.specs.Notes.{AddsStep, IsGivenUp, entries_of, noted_in, noted_of};
-ghost use Rattle.sled_shared.specs.Sound.{HasHistory, HasLegalHistory, HasRisingIds};
+ghost use Rattle.sled_shared.specs.Sound.{HasCrashMaps, HasHistory, HasLegalHistory, HasRisingIds};
 ghost use Rattle.sled_shared.specs.Steps.{SlotStep};
 ghost use Rattle.sled_shared.specs.theory.Noting.{job_pair};
 ghost use Rattle.sled_shared.specs.WholeNotes.{AddsWhole, NotesWhole};
@@ -160,14 +160,16 @@ impl<P: Pages, L: Ledger, M: MergeOperator> State<P, L, M> {
         ensures entries { entry_values result.now ≡ self.now.history }
         ensures legal { HasLegalHistory P.store self.now }
         ensures leads { HasHistory self.now }
+        ensures crashes { HasCrashMaps P.store self.now }
         ensures ids { HasRisingIds self.now }
     {
         self.history.as_slice()
     }
 
     /// What holds of every state: the history is legal. From the opening on each entry's call replied and wrote what it would have, made alone
-    /// at its place, and while the database is open the maps after the last entry are the maps now. The ids in it rise, and none is above
-    /// the greatest that the database gave. It does nothing.
+    /// at its place, and while the database is open the maps after the last entry are the maps now. What a crash may leave are the maps after
+    /// each entry and part of it, from its last flush on. The ids in it rise, and none is above the greatest that the database gave. It does
+    /// nothing.
     ///
     /// ```
     /// state.audit(); // From here on a proof knows that the history is legal.
@@ -175,6 +177,7 @@ impl<P: Pages, L: Ledger, M: MergeOperator> State<P, L, M> {
     pub fn audit(&self)
         ensures legal { HasLegalHistory P.store self.now }
         ensures leads { HasHistory self.now }
+        ensures crashes { HasCrashMaps P.store self.now }
         ensures ids { HasRisingIds self.now }
     {
         let _history = &self.history;

@@ -1,8 +1,8 @@
 use Rattle.std.proofs.Common.{ap}
 use Rattle.sled_model.specs.Collections.{contents_of}
 use Rattle.sled_shared.specs.Made.{entry_values}
-use Rattle.sled_shared.proofs.Legal.{first_is}
+use Rattle.sled_shared.proofs.Leading.{first_is}
 use Rattle.sled_shared.proofs.db.first_state.Goals as goal
 
 pub invariant_of-result : goal.invariant_of-result
-invariant_of-result g c = first_is g.P.Pages.store c.new-machine.result (contents_of c.args.opening.value.items) (entry_values c.new.result.items) c.args.calls.total (c.requires.opening c.new-machine.result c.new-machine.ensures.db) (ap entry_values c.new.ensures.items) c.requires.none
+invariant_of-result g c = first_is g.P.Pages.store c.args.db c.new-machine.result (contents_of c.args.opening.value.items) (entry_values c.new.result.items) c.args.calls.total c.requires.sound c.requires.open c.requires.opening c.new-machine.ensures.db (ap entry_values c.new.ensures.items) c.requires.none

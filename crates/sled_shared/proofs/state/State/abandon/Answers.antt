@@ -1,5 +1,5 @@
 use Rattle.sled_model.specs.Collections.{contents_of}
-use Rattle.sled_shared.proofs.Legal.{abandon_state}
+use Rattle.sled_shared.proofs.Leading.{abandon_state}
 use Rattle.sled_shared.proofs.state.State.abandon.Goals as goal
 
 pub invariant_of-self : goal.invariant_of-self

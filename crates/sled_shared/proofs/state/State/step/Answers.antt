@@ -7,8 +7,7 @@ use Rattle.sled_shared.specs.Values.{CallerValue, StateValue}
 use Rattle.sled_shared.specs.theory.Noting.{first_noted}
 use Rattle.sled_model.specs.Collections.{contents_of}
 use Rattle.sled_shared.proofs.Ids.{step_risen}
-use Rattle.sled_shared.proofs.Legal.{stays_legal}
-use Rattle.sled_shared.proofs.Leading.{step_leads}
+use Rattle.sled_shared.proofs.Leading.{step_leaves, legal_of, leads_of}
 use Rattle.sled_shared.proofs.state.State.step.Goals as goal
 
 pub returns-clause-history : goal.returns-clause-history
@@ -26,9 +25,11 @@ returns-clause-made g c =
 pub invariant_of-self : goal.invariant_of-self
 invariant_of-self g c =
     let longer = c.note_and_count.ensures.history ∙ ap (λ es. entry_values es ++ entries_of c.me.inside.number (first_noted c.step_noting-outcome.result.1)) c.step_noting-outcome.ensures.history ∙ ap (λ m. entry_values c.self.inside.history.items ++ entries_of c.me.inside.number m) c.step_noting-outcome.ensures.noted in
+    let crashes = step_leaves g.P.Pages.store g.P.Pages.flush_number g.M.MergeOperator.meant c.self.inside.machine c.step_noting-outcome.new.machine (contents_of c.self.inside.opening.value.items) (entry_values c.self.inside.history.items) c.self.invariant.crashes c.me.inside.number c.args.slot _ _ c.step_noting-outcome.ensures.step.step longer in
     record {
-      legal = stays_legal g.P.Pages.store g.P.Pages.flush_number g.M.MergeOperator.meant c.self.inside.machine c.step_noting-outcome.new.machine (contents_of c.self.inside.opening.value.items) c.me.inside.number _ _ _ _ _ c.step_noting-outcome.ensures.step.step.step.is longer c.self.invariant.legal;
-      leads = step_leads g.P.Pages.store g.P.Pages.flush_number g.M.MergeOperator.meant c.self.inside.machine c.step_noting-outcome.new.machine (contents_of c.self.inside.opening.value.items) c.me.inside.number _ _ _ _ _ c.step_noting-outcome.ensures.step.step.step.is longer c.self.invariant.legal c.self.invariant.leads;
+      legal = legal_of crashes;
+      leads = leads_of crashes;
+      crashes = crashes;
       ids = step_risen g.P.Pages.store g.P.Pages.flush_number g.M.MergeOperator.meant c.self.inside.machine c.step_noting-outcome.new.machine c.me.inside.number _ _ _ _ _ c.step_noting-outcome.ensures.step.step.step.is longer c.self.invariant.ids;
       counted = length-map c.note_and_count.new.history.items entry_value ∙ c.note_and_count.ensures.counted;
     }

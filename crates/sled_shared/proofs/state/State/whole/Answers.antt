@@ -7,8 +7,7 @@ use Rattle.sled_shared.specs.WholeNotes.{NotesWhole}
 use Rattle.sled_shared.specs.theory.Noting.{first_noted}
 use Rattle.sled_model.specs.Collections.{contents_of}
 use Rattle.sled_shared.proofs.Ids.{whole_risen}
-use Rattle.sled_shared.proofs.WholeLegal.{whole_legal}
-use Rattle.sled_shared.proofs.Leading.{whole_leads}
+use Rattle.sled_shared.proofs.Leading.{whole_leaves, legal_of, leads_of}
 use Rattle.sled_shared.proofs.state.State.whole.Goals as goal
 
 pub returns-clause-whole : goal.returns-clause-whole
@@ -30,9 +29,11 @@ invariant_of-self g c =
       adds = c.note_and_count.ensures.history ∙ ap (λ es. entry_values es ++ entries_of c.me.inside.number (first_noted c.whole_noting-outcome.result.1)) c.whole_noting-outcome.ensures.history;
       adds_there = c.note_and_count.ensures.made ∙ ap (λ ms. made_values ms ++ first_noted c.whole_noting-outcome.result.1) c.whole_noting-outcome.ensures.made;
     } in
+    let crashes = whole_leaves g.P.Pages.store g.P.Pages.flush_number g.M.MergeOperator.meant c.self.inside.machine c.whole_noting-outcome.new.machine (contents_of c.self.inside.opening.value.items) (entry_values c.self.inside.history.items) c.self.invariant.crashes c.me.inside.number _ _ _ _ _ notes in
     record {
-      legal = whole_legal g.P.Pages.store g.P.Pages.flush_number g.M.MergeOperator.meant c.self.inside.machine c.whole_noting-outcome.new.machine (contents_of c.self.inside.opening.value.items) c.me.inside.number _ _ _ _ _ _ notes c.self.invariant.legal;
-      leads = whole_leads g.P.Pages.store g.P.Pages.flush_number g.M.MergeOperator.meant c.self.inside.machine c.whole_noting-outcome.new.machine (contents_of c.self.inside.opening.value.items) c.me.inside.number _ _ _ _ _ _ notes c.self.invariant.legal c.self.invariant.leads;
+      legal = legal_of crashes;
+      leads = leads_of crashes;
+      crashes = crashes;
       ids = whole_risen g.P.Pages.store g.P.Pages.flush_number g.M.MergeOperator.meant c.self.inside.machine c.whole_noting-outcome.new.machine c.me.inside.number _ _ _ _ _ _ notes c.self.invariant.ids;
       counted = length-map c.note_and_count.new.history.items entry_value ∙ c.note_and_count.ensures.counted;
     }
