@@ -9,3 +9,4 @@ pub mod Attempts
 pub mod Taking
 pub mod Remaining
 pub mod Noting
+pub mod Whole

@@ -4,9 +4,12 @@ pub mod Raising
 pub mod Queueing
 pub use Rattle.sled_nodes.specs as sled_nodes
 pub use Rattle.sled_store.specs as sled_store
+pub use Rattle.sled_pages.specs as sled_pages
 pub use Rattle.sled_model.specs as sled_model
 pub use Rattle.tree_laws.specs as tree_laws
+pub use Rattle.tree_pages.specs as tree_pages
 pub use Rattle.tree_steps.specs as tree_steps
+pub use Rattle.sled.specs as sled
 pub use Rattle.sled_shared.specs as sled_shared
 pub use Rattle.sled_machine.specs as sled_machine
 pub use Rattle.example_parts.specs as example_parts

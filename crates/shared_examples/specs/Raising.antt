@@ -1,8 +1,9 @@
 -- A number at a key that threads raise by one: each reads it, and swaps it for the next.
-use Rattle.std.specs.Prelude.{◌≡◌, ◌⊎◌, ℕ, ◌+◌, ◌≤◌, length, sum_by, List, [], ◌∷◌, ◌++◌, map, Option, Some, None, Ok, All, if◌then◌else◌}
+use Rattle.std.specs.Prelude.{◌≡◌, ◌⊎◌, ℕ, ◌+◌, ◌≤◌, length, sum_by, count_by, List, [], ◌∷◌, ◌++◌, map, Bool, true, false, Option, Some, None, Ok, All, if◌then◌else◌}
 use Rattle.std.specs.List.{AllByRecursion}
 use Rattle.std.specs.Option.{option_to_list}
 use Rattle.sled_nodes.specs.Order.{Key}
+use Rattle.sled_store.specs.Store.{Store}
 use Rattle.sled_model.specs.Maps.{Maps}
 use Rattle.sled_model.specs.declared.call.Call.TheVariants.{Get, CompareAndSwap}
 use Rattle.sled_model.specs.declared.outcome.Outcome.{Outcome}
@@ -10,9 +11,10 @@ use Rattle.sled_model.specs.declared.outcome.Outcome.TheVariants.{Decided}
 use Rattle.sled_model.specs.declared.reply.Reply.TheVariants.{Swapped}
 use Rattle.sled_model.specs.declared.tree.Tree.{Tree}
 use Rattle.sled_shared.specs.Gathered.{IsMadeIn, IsOfGiven, EachOnce}
-use Rattle.sled_shared.specs.History.{IsLegal}
+use Rattle.sled_shared.specs.History.{IsLegal, maps_from}
 use Rattle.sled_shared.specs.Made.{MadeValue, PointMade, EntryValue}
-use Rattle.sled_shared.specs.Values.{CallerValue}
+use Rattle.sled_shared.specs.Sound.{maps_now}
+use Rattle.sled_shared.specs.Values.{CallerValue, StateValue}
 use Rattle.example_parts.specs.Counters.{number_in}
 use Rattle.shared_examples.specs.Places.{value_at, made_in, is_at, Leaves}
 use Rattle.shared_examples.specs.declared.raising.Raised.{Raised}
@@ -105,3 +107,22 @@ abbrev pub overtaken_by : Outcome → Raised → Type 0
 overtaken_by (Decided reply) r = Unit {0}
 overtaken_by o Overtaken = ⊥
 overtaken_by o r = Unit {0}
+
+-- nothing but parts of raises came to a list
+pub record RaisesOn (tree : Tree) (key : Key) (made more : List MadeValue) : Type 0 where
+  pub added : List MadeValue
+  pub adds : more ≡ made ++ added
+  pub parts : AllByRecursion (is_part tree key) added
+
+-- a swap that succeeded
+abbrev pub has_written : MadeValue → Bool
+has_written (PointMade tree (CompareAndSwap key old new) (Swapped (Ok done))) = true
+has_written m = false
+
+-- so many swaps of a caller succeeded
+pub record HasWritten (times : ℕ) (c : CallerValue) : Type 0 where
+  pub is : count_by has_written c.made ≡ times
+
+-- the number at a key of a state's database stands by so much higher than it stood when the database was shared
+abbrev pub StandsHigher : {P M : Type 0} → (P → Store) → Tree → Key → ℕ → StateValue P M → Type 0
+StandsHigher store tree key n s = number_in (value_at (maps_now store s.machine) tree.name key) ≡ number_in (value_at (maps_from s.opening) tree.name key) + n

@@ -1,7 +1,8 @@
 //! Threads that share a database, proved from public contracts alone, as a user would write them. Each module has what one thread does by its
 //! handle, with what that adds to the handle's list, and laws of what all threads together come to, over every legal history: `counting` adds
 //! one to a number by a merge, `raising` reads a number and swaps it for the next, again where another thread came between, and `queueing` puts
-//! jobs into a tree and takes them out. `places` has the law of what leaves a key as it is, which the others ask for.
+//! jobs into a tree and takes them out. `places` has the law of what leaves a key as it is, which the others ask for. `way` goes the whole
+//! way: it shares a database, has threads raise a number, and takes the database back.
 //!
 //! Whoever has gathered a state knows that its history is legal, and that each handle's list is that of its entries. So what the laws say of a
 //! history they say of what the threads did.
@@ -11,8 +12,10 @@ mod counting;
 mod places;
 mod queueing;
 mod raising;
+mod way;
 
 pub use counting::{add_one, law_merges};
 pub use places::law_leaves;
 pub use queueing::{law_queue, push, take};
 pub use raising::{Raised, law_raised, law_raises, law_shares, law_swaps, raise};
+pub use way::raise_together;

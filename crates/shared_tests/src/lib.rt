@@ -43,4 +43,6 @@ mod trial;
 #[cfg(test)]
 mod turns;
 #[cfg(test)]
+mod way_tests;
+#[cfg(test)]
 mod whole_tests;

@@ -1,0 +1,68 @@
+//! The whole way of a number that three threads raise.
+use crate::beside::require;
+use shared_examples::raise_together;
+use sled::{Db, MemPages, empty_pages};
+use sled_machine::shared::{Blank, State};
+use sled_model::Tree;
+use std::alloc::Global;
+use std::marker::Brand;
+use std::process::Abort;
+use std::sync::Wait;
+use std::sync::ledger::Ledger;
+use std::thread::Threads;
+
+// So many threads raise the number, each so often.
+const CALLERS: u64 = 3;
+
+const TIMES: u64 = 40;
+
+// A new database.
+fn opened<R: Abort>(rt: &R, alloc: Global) -> Db<MemPages> {
+    match Db::open(alloc, empty_pages(alloc), b"shared") {
+        Ok(db) => db,
+        Err(_) => panic!(rt; "not opened"),
+    }
+}
+
+// Looks at the number.
+fn look<L: Ledger, R: Abort>(rt: &R, state: State<MemPages, L>, tree: &Tree) {
+    let value = state.machine().db().get(tree, b"hits").expect(rt, "a read");
+    drop(state);
+    let Some(value) = value else {
+        panic!(rt; "no number")
+    };
+    let same = value.as_ref() == (CALLERS * TIMES).to_be_bytes().as_ref();
+    require(rt, same, "as many as all raises together");
+    drop(value);
+}
+
+// All threads raise the number.
+fn raised<L: Ledger + Send + Sync, R: Threads + Wait + Abort + Sync>(
+    rt: &R,
+    alloc: Global,
+    db: Db<MemPages>,
+    blank: Blank,
+)
+where
+    requires name { blank.name ≡ L.name }
+    requires parts { blank.parts ≡ L.parts }
+    requires each { blank.parts ≡ 4 }
+{
+    let tree = db.default_tree().expect(rt, "a tree");
+    match raise_together::<L, _, R>(rt, alloc, db, blank, CALLERS, &tree, b"hits", TIMES) {
+        Ok(state) => look(rt, state, &tree),
+        Err(_) => panic!(rt; "not raised"),
+    }
+    drop(tree);
+}
+
+// Three threads raise a number of a new database.
+fn raise_all<R: Threads + Wait + Abort + Sync>(rt: &R, alloc: Global) {
+    let db = opened(rt, alloc);
+    raised::<Brand, R>(rt, alloc, db, Blank::new(4));
+}
+
+#[test]
+fn a_number_is_raised_by_all(rt: HostRuntime) {
+    raise_all(&rt, rt.alloc());
+}
