@@ -9,6 +9,9 @@ let state = null;
 // Whether a request is on its way, and which crash was asked for last.
 let busy = false;
 let wanted = null;
+// Where the slider was put, or nothing while it stands at all; and the actions among which it was put.
+let slid = null;
+let slidOver = [];
 
 // An element with its text or its children.
 function make(name, inside = [], attributes = {}) {
@@ -87,6 +90,7 @@ function place() {
 
 function begin(scene) {
   remembered(scene.name);
+  slid = null;
   start(scene.parts[0]);
 }
 
@@ -218,15 +222,22 @@ function fate(entry, keep) {
   return entry.kind === "parts" && entry.from < keep ? "in part" : "lost";
 }
 
+// What is said of a decided call, and how it looks. One that is not flushed is told to be safe or lost only where the slider was put somewhere.
+function fateSaid(entry, isFlushed) {
+  const is = fate(entry, Number($("keep").value));
+  if (!is) return ["changes nothing", ""];
+  if (isFlushed) return entry.lost ? ["✗ lost", "is-lost"] : ["✓ durable", ""];
+  if (slid === null) return ["○ not flushed: a crash may lose it", ""];
+  const [sign, style] = { kept: ["✓", "is-kept"], lost: ["✗", "is-lost"], "in part": ["◐", "is-kept"] }[is];
+  return [`${sign} with the slider at ${slid}: ${is}`, style];
+}
+
 function showHistory() {
   const flushed = state.history.map((it) => Boolean(it.mark)).lastIndexOf(true);
-  const keep = Number($("keep").value);
   fill("history", state.history.map((entry, at) => {
     if (entry.mark) return make("li", entry.text, { class: "mark" });
-    const is = at <= flushed ? (entry.lost ? "lost" : "durable") : fate(entry, keep);
+    const [said, style] = fateSaid(entry, at <= flushed);
     const tree = entry.tree && entry.tree !== DEFAULT ? ` on ${entry.tree}` : "";
-    const said = { kept: "✓ a crash keeps it", lost: at <= flushed ? "✗ lost" : "✗ a crash loses it", "in part": "◐ kept in part", durable: "✓ durable" }[is] || "changes nothing";
-    const style = { kept: "is-kept", lost: "is-lost", "in part": "is-kept" }[is] || "";
     return make("li", [make("span", `${entry.slot ? `${entry.slot}: ` : ""}${shortened(entry.call)}${tree} → ${entry.answer}`, { class: "call" }), make("span", said, { class: "fate" })], { class: style });
   }));
   $("history").scrollTop = $("history").scrollHeight;
@@ -273,10 +284,27 @@ function showCrash() {
   const all = state.actions.length;
   $("crash-some").hidden = !all;
   $("crash-none").hidden = Boolean(all);
+  keepSlider();
   $("keep").max = all;
-  $("keep").value = all;
+  $("keep").value = slid === null ? all : slid;
   fill("actions", state.actions.map((it) => make("li", [make("span", "", { class: "fate" }), make("span", it.text)])));
   if (all) showKept();
+}
+
+// The slider stays where it was put as long as the actions up to there are the same, and says where it did not.
+function keepSlider() {
+  const actions = [String(state.history.filter((it) => it.mark).length), ...state.actions.map((it) => it.text)];
+  const wasPut = slid !== null && slid < slidOver.length - 1;
+  const stays = wasPut && slid < actions.length && slidOver.slice(0, slid + 1).every((text, at) => text === actions[at]);
+  if (!stays) slid = null;
+  $("slid-back").hidden = !wasPut || stays;
+  slidOver = actions;
+}
+
+function slide() {
+  slid = Number($("keep").value);
+  $("slid-back").hidden = true;
+  showKept();
 }
 
 // How many of so many actions that are kept a crash leaves: of writes that go together none, where their end is not kept.
@@ -397,7 +425,7 @@ function listen() {
     if (pressed) run(pressed.dataset.line);
   });
   $("kind").addEventListener("change", operands);
-  $("keep").addEventListener("input", showKept);
+  $("keep").addEventListener("input", slide);
   $("open").addEventListener("change", open);
   document.querySelector("#crash details").addEventListener("toggle", () => svg($("left-tree").dataset.svg, $("left-tree")));
   $("begin").addEventListener("submit", (event) => {
