@@ -166,10 +166,15 @@ function did() {
   if (lines.length > some.length) inside.unshift(`${count(lines.length - some.length, "line")}, and then `);
   const texts = lines.flatMap((it) => it.did);
   const means = lines.map((it) => it.means).filter(Boolean).pop();
+  const took = lines[lines.length - 1].took;
   if (texts.length > 4) texts.splice(3, texts.length, "and more");
   if (lines[lines.length - 1].said.length > 6) inside.push(make("pre", lines[lines.length - 1].said.join("\n")));
+  const changed = state.trees.flatMap((tree) => tree.changed);
   if (means) inside.push(make("b", "What is wrong: "), `${means}.`);
-  else inside.push(make("b", "Changed: "), `${texts.join("; ") || "no page"}.`);
+  else if (took && took.length) inside.push(make("b", "The crash took back: "), `${took.join("; ")}.`);
+  else if (took) inside.push(make("b", "The crash took nothing back."));
+  else inside.push(make("b", "Changed: "), `${texts.join("; ") || (changed.length ? `the pages ${changed.join(", ")}` : "no page")}.`);
+  if (took) inside.push(" What is left is durable, as after a flush, and no call is in flight any more.");
   return [make("p", inside, { class: "did" })];
 }
 
@@ -284,11 +289,19 @@ function showCrash() {
   const all = state.actions.length;
   $("crash-some").hidden = !all;
   $("crash-none").hidden = Boolean(all);
+  $("crash-none").textContent = unchangedSince(state.history.filter((it) => it.mark).pop());
   keepSlider();
   $("keep").max = all;
   $("keep").value = slid === null ? all : slid;
   fill("actions", state.actions.map((it) => make("li", [make("span", "", { class: "fate" }), make("span", it.text)])));
   if (all) showKept();
+}
+
+// What is said where there are no actions: they are all durable since the last flush, or what opened the database.
+function unchangedSince(last) {
+  if (!state.is_open) return "No database is open, so there is nothing that a crash could take.";
+  if (last && last.mark === "crash") return "Nothing was changed since the crash. What a crash leaves is durable, as after a flush, so another one leaves all as it is.";
+  return `Nothing was changed since ${last && last.mark === "flush" ? "the last flush" : "the database was opened"}: a crash leaves all as it is.`;
 }
 
 // The slider stays where it was put as long as the actions up to there are the same, and says where it did not.
@@ -347,7 +360,7 @@ function showLeft(left) {
   const calls = state.history.slice(flushed + 1).filter((it) => it.kind && it.kind !== "read" && it.from !== it.to);
   const kept = calls.filter((it) => fate(it, left.keep) === "kept");
   const changes = calls.length === 1 ? "the one change" : `the ${calls.length} changes`;
-  const said = !calls.length ? "as the maps were at the flush: no change was decided since"
+  const said = !calls.length ? "as the maps were at the flush: no call was decided since"
     : kept.length === calls.length ? `with ${calls.length === 1 ? "" : "all of "}${changes} decided since the flush`
       : kept.length ? `with the first ${kept.length} of ${changes} decided since the flush, and not even a part of the others`
         : `as the maps were at the flush: of ${changes} decided since then there is nothing, not even a part`;

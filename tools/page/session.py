@@ -123,7 +123,7 @@ class History:
         elif name == "flush":
             self.entries.append({"mark": name, "text": "flush: all above is durable"})
         elif name in OPENS:
-            self.opened(name, rest, answer)
+            self.opened(name, rest, answer, counts[0])
         elif name in WRITES | IN_PARTS | {"get"} and not answer.startswith("refused"):
             self.decided(line, tree, answer, counts)
 
@@ -134,14 +134,16 @@ class History:
         end = count + 1 if name == "drop" else end
         self.entries.append({"call": call, "answer": answer, "slot": slot, "kind": kind, "tree": tree, "from": count, "to": end})
 
-    def opened(self, name, rest, answer):
-        """An opening. What a crash did not keep is lost from then on."""
+    def opened(self, name, rest, answer, count):
+        """An opening, after so many actions. What a crash did not keep is lost from then on."""
         if name == "crash" and answer.startswith("recovered"):
             last = max((at for at, it in enumerate(self.entries) if "mark" in it), default=-1)
             for entry in self.entries[last + 1 :]:
                 entry["lost"] = entry["kind"] != "read" and entry["to"] > int(rest[0])
-        text = f"a crash that kept {rest[0]} actions" if name == "crash" else " ".join([name, *rest])
-        self.entries.append({"mark": name, "text": f"{text}: {answer}"})
+            text = f"a crash that kept {min(int(rest[0]), count)} of {count} actions: what is left is durable"
+        else:
+            text = f"{' '.join([name, *rest])}: {answer}"
+        self.entries.append({"mark": name, "text": text})
 
 
 class Session:
@@ -170,7 +172,7 @@ class Session:
     def add(self, line):
         """Runs a line, and only keeps one that is a comment."""
         if line.startswith("#"):
-            self.lines.append({"line": line, "said": [], "did": [], "means": ""})
+            self.lines.append({"line": line, "said": [], "did": [], "took": None, "means": ""})
         elif line:
             self.run(line)
 
@@ -180,8 +182,9 @@ class Session:
         said = self.ask(line)
         if said and said[0].startswith("bad line"):
             raise Unread(said[0].partition(": ")[2])
+        took = self.witness.taken(line) if said[-1:] and said[-1].startswith("recovered") else None
         did = self.witness.hear(line, said)
-        self.lines.append({"line": line, "said": said, "did": did, "means": meaning(said)})
+        self.lines.append({"line": line, "said": said, "did": did, "took": took, "means": meaning(said)})
         self.history.note(line, said[-1] if said else "", self.current(), (count, self.witness.count()))
         self.left = {}
 
@@ -278,7 +281,8 @@ class Session:
                 number = str(call["at"])
                 (at.setdefault(number, []) if number in there else at_root).append(f"{call['slot']}: {call['call']}")
         look = tree.Look(at, at_root, self.before, self.columns)
-        return {"name": name, "svg": tree.drawn(lines, loose, look), "notes": tree.notes(lines, loose), "text": said}
+        changed = [number for number, known in there.items() if look.is_changed(number, known)]
+        return {"name": name, "svg": tree.drawn(lines, loose, look), "notes": tree.notes(lines, loose), "text": said, "changed": changed}
 
     def state(self):
         """All that the page shows."""

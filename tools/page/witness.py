@@ -81,6 +81,12 @@ def all_told(pages, actions):
     return texts
 
 
+def kept_of(actions, keep):
+    """How many of some actions a crash keeps that is to keep so many: of writes that go together none, where their end is not kept."""
+    edges = [at for at, (what, _, _) in enumerate(actions[:keep]) if what == 2]
+    return edges[-1] if len(edges) % 2 else min(keep, len(actions))
+
+
 def at_most(texts):
     """Texts, of which those that are too many are counted."""
     return texts if len(texts) <= MOST_TOLD else [*texts[: MOST_TOLD - 1], f"and {len(texts) - MOST_TOLD + 1} actions more"]
@@ -150,6 +156,14 @@ class Witness:
         if printed != said:
             self.fault = f"at `{line}` the model printed {printed}, and the shell {said}"
         return at_most(did)
+
+    def taken(self, line):
+        """What the actions were that a crash is about to take back, or nothing where the line is no crash."""
+        name, *rest = line.removeprefix("owned ").split(" ")
+        if name != "crash" or self.fault:
+            return None
+        kept, texts = kept_of(self.store.recent, int(rest[0])), all_told(self.store.base[0], self.store.recent)
+        return at_most([text for text, (what, _, _) in list(zip(texts, self.store.recent))[kept:] if what != 2])
 
     @classmethod
     def after(cls, lines):
