@@ -62,6 +62,17 @@ def apart(path, lines=()):
         end(shell)
 
 
+def names_in(shell):
+    """The names of the trees that a shell has."""
+    return [line.split(" ")[1] for line in said_by(shell, "names") if line.startswith("name ")]
+
+
+def drawing_of(shell, name):
+    """What `draw links` prints of a tree, which is the current one from then on."""
+    said_by(shell, f"tree {name}")
+    return said_by(shell, "draw links")
+
+
 def file_words(path):
     """The first words of the lines that name a file, by the help of the shell."""
     with apart(path) as shell:
@@ -239,13 +250,10 @@ class Session:
     def drawings(self):
         """What `draw links` prints of each tree, the current one first. Another one has to be made current for that."""
         drawn = {self.current(): said_by(self.shell, "draw links")}
-        names = [line.split(" ")[1] for line in said_by(self.shell, "names") if line.startswith("name ")]
-        others = [name for name in names if name != self.current()]
+        others = [name for name in names_in(self.shell) if name != self.current()]
         if others:
             with self.apart() as shell:
-                for name in others:
-                    said_by(shell, f"tree {name}")
-                    drawn[name] = said_by(shell, "draw links")
+                drawn |= {name: drawing_of(shell, name) for name in others}
         return drawn
 
     def calls(self):
@@ -305,9 +313,11 @@ class Session:
             with self.apart() as shell:
                 said_by(shell, f"crash {keep}")
                 dump, verified, drawn = (said_by(shell, line) for line in ("dump", "verify", "draw links"))
+                others = [line for name in names_in(shell) for line in drawing_of(shell, name)]
             lines = [line for line in drawn if is_drawing(line)]
-            svg = tree.drawn(lines, look=tree.Look(columns=self.columns))
-            self.left[keep, self.columns] = {"keep": keep, "maps": maps_of(dump), "verified": verified[-1], "svg": svg, "notes": tree.notes(lines)}
+            loose = [] if self.witness.fault else Witness.after([*self.ran(), (f"crash {keep}", [])]).loose(pages_of([*lines, *others]))
+            svg = tree.drawn(lines, loose, tree.Look(columns=self.columns))
+            self.left[keep, self.columns] = {"keep": keep, "maps": maps_of(dump), "verified": verified[-1], "svg": svg, "notes": tree.notes(lines, loose)}
         return self.left[keep, self.columns]
 
 

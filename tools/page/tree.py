@@ -2,6 +2,7 @@
 import html
 
 from drawing import DEFINITIONS, LETTER, LINE, MARGIN, Page, arrows, levels_of, placed, shortened, written
+from page.witness import IMAGE, NEW, OLD
 
 TITLE, ROW, EDGE = 24, 21, 8
 # How wide a letter is: of a name, of what is said below it, of a mark, and of a call.
@@ -9,8 +10,8 @@ NAMES, SAID, MARKS, CALLS = 7.6, 6, 6.9, 7.3
 # Above the tree stands what leads to its root, and who begins there.
 ABOVE = 34
 LATE = "no pointer yet"
-# Where a page is that is in no tree.
-NOWHERE, LEFT, IMAGE = "in no tree yet", "left its level", "of an image"
+# Of a page to which a pointer still leads, though it is in no level.
+LEFT = "left its level"
 
 
 def bounds(low, high):
@@ -138,10 +139,10 @@ def levels(lines, loose, look=None):
     levels = levels_of(lines, lambda line: Card(line, look))
     led_to = {number for level in levels for card in level for _, number in card.pointers()}
     above, below = [], []
-    for line, is_noted in loose:
-        card = Card(line, look, IMAGE if is_noted else LEFT if known_of(line)[0] in led_to else NOWHERE)
+    for line, what in loose:
+        card = Card(line, look, LEFT if what != IMAGE and known_of(line)[0] in led_to else what)
         beside = [level for level in levels if any((it.kind, it.high) == (card.kind, card.high) for it in level)]
-        beside[-1].append(card) if beside and not is_noted else (above if card.kind == "index" else below).append(card)
+        beside[-1].append(card) if beside and what != IMAGE else (above if card.kind == "index" else below).append(card)
     return [level for level in [above, *levels, below] if level]
 
 
@@ -191,8 +192,13 @@ def notes_of(card, left):
         yield "These are pages of an image, which somebody else made: all of them are checked before anything is opened."
     elif card.loose == LEFT:
         yield f"{name.capitalize()} has left its level: the page before it has all its pairs, and only its pointer is still there. Who comes by it begins again at the root."
-    elif card.loose:
+    elif card.loose == NEW:
         yield f"{name.capitalize()} is in no tree yet: no page leads to it, and nobody misses it if its call is given up, or if a crash comes."
+    elif card.loose == OLD:
+        yield f"{name.capitalize()} is in no tree any more: the page before it has all its pairs, no pointer leads to it, and its call frees it next."
+    elif card.loose:
+        was_to = "free it" if "merging" in card.marks else "bring it in"
+        yield f"{name.capitalize()} is there, but nothing leads to it, and the call that was to {was_to} is gone. No call ever reads it: it does no harm, and its room stays taken."
     if LATE in card.marks and left:
         yield f"Half-done split: {name} has no pointer yet. Readers reach it through its left neighbour's next: from {left.kind} {left.number} they go on to the right."
     if card.child:

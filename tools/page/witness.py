@@ -10,6 +10,9 @@ from oracle import word
 
 # At a terminal a refusal has its text behind it.
 REFUSAL = re.compile(r"(refused E\d+): .*")
+# What a page is that stands in no tree: of an image that was not opened yet, of a call in flight that brings it in or is to free it, or
+# left behind.
+IMAGE, NEW, OLD, ORPHAN = "of an image", "in no tree yet", "in no tree any more", "nothing leads here"
 # How many things a step did are told one by one.
 MOST_TOLD = 4
 GROUP = {True: "here begin writes that go together: without their end a crash leaves none of them", None: "here is their end: all of them are kept, or none"}
@@ -71,6 +74,16 @@ def told(pages, action):
     return changed(pages, where, old.node, new.node) if old else made(pages, where, new.node)
 
 
+def handled(pages, actions):
+    """The numbers of the pages that some actions made, or took the last pointer to out, over pages as they were before them."""
+    for what, where, new in actions:
+        old = pages.get(where) if what == 0 else None
+        if what == 0 and new and not old:
+            yield where
+        elif old and new and old.node.child is not None and new.node.child is None:
+            yield old.node.child
+
+
 def all_told(pages, actions):
     """What each of some actions was, one after the other."""
     pages, texts = dict(pages), []
@@ -97,6 +110,8 @@ class Witness:
 
     def __init__(self):
         self.shell, self.places, self.fault = oracle.Shell(), {}, None
+        # The call in flight that made a page, or took it out of the tree, by the page's number.
+        self.makers = {}
 
     @property
     def store(self):
@@ -116,6 +131,10 @@ class Witness:
         printed = self.transact(line.split(" "), said) if name in ("tx", "tx-all") else self.shell.run(line)
         if name == "begin":
             self.places.pop(self.shell.begun, None)
+        if printed[-1:] == [f"slot {self.shell.begun}"]:
+            self.makers = {pid: slot for pid, slot in self.makers.items() if slot != self.shell.begun}
+        if name in ("step", "finish") and store is self.store:
+            self.makers |= {pid: int(rest[0]) for pid in handled(pages, store.recent[count:])}
         if name in ("step", "finish") and int(rest[0]) in self.shell.slots and not (store.seen is None and printed[-1].startswith("pair ")):
             self.places[int(rest[0])] = store.seen
         is_grown = store is self.store and self.count() > count
@@ -200,7 +219,16 @@ class Witness:
         return [(tree.name, queue.prefix, queue.missed, queue.events) for tree, queue in self.shell.subscribers]
 
     def loose(self, but):
-        """Lines of a drawing for the pages that stand in none, and whether each is one of an image that was not opened yet."""
-        store = [(view, not self.shell.opened) for pid, view in sorted(self.store.pages.items()) if str(pid) not in but]
-        noted = [(oracle.view_of(pid, 0, node), True) for pid, node in sorted(self.shell.noted[0].items())]
-        return [(self.shell.page_drawn(view.pid, view.node, "", False, f" base {view.base} links {view.links}")[0], is_noted) for view, is_noted in store + noted]
+        """Lines of a drawing for the pages that stand in none, and what each is: one of an image that was not opened yet, one that its call may
+        still bring into a tree, or one that was left behind."""
+        store = [(view, self.is_of(view.pid)) for pid, view in sorted(self.store.pages.items()) if str(pid) not in but]
+        noted = [(oracle.view_of(pid, 0, node), IMAGE) for pid, node in sorted(self.shell.noted[0].items())]
+        return [(self.shell.page_drawn(view.pid, view.node, "", False, f" base {view.base} links {view.links}")[0], what) for view, what in store + noted]
+
+    def is_of(self, pid):
+        """What a page of the store is that stands in no drawing."""
+        if not self.shell.opened:
+            return IMAGE
+        if self.makers.get(pid) in self.shell.slots:
+            return OLD if self.store.pages[pid].node.merging else NEW
+        return ORPHAN
