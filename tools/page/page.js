@@ -359,11 +359,13 @@ function showLeft(left) {
   const flushed = state.history.map((it) => Boolean(it.mark)).lastIndexOf(true);
   const calls = state.history.slice(flushed + 1).filter((it) => it.kind && it.kind !== "read" && it.from !== it.to);
   const kept = calls.filter((it) => fate(it, left.keep) === "kept");
-  const changes = calls.length === 1 ? "the one change" : `the ${calls.length} changes`;
-  const said = !calls.length ? "as the maps were at the flush: no call was decided since"
-    : kept.length === calls.length ? `with ${calls.length === 1 ? "" : "all of "}${changes} decided since the flush`
-      : kept.length ? `with the first ${kept.length} of ${changes} decided since the flush, and not even a part of the others`
-        : `as the maps were at the flush: of ${changes} decided since then there is nothing, not even a part`;
+  const writers = calls.length === 1 ? "the one call" : `the ${calls.length} calls`;
+  const then = { flush: "the flush", crash: "the crash" }[flushed < 0 ? "" : state.history[flushed].mark] || "the opening";
+  const asThen = `with the maps as they were at ${then}`;
+  const said = !calls.length ? `${asThen}: no call that writes was decided since`
+    : kept.length === calls.length ? `with all that was written by ${writers} decided since ${then}`
+      : kept.length ? `with what was written by the first ${kept.length} of ${writers} decided since ${then}, and not even a part of the others`
+        : `${asThen}: of ${writers} decided since there is nothing, not even a part`;
   const isPart = calls.some((it) => fate(it, left.keep) === "in part");
   $("crash-some").classList.remove("waits");
   $("left-said").textContent = `This crash leaves ${left.verified === "sound" ? "a sound tree" : left.verified}, ${isPart ? "with the first keys of what is made key by key" : said}.`;
