@@ -7,7 +7,9 @@ mod made;
 
 use again::{is_change_again, is_node_again, many_again, refusal};
 use made::{index, leaf, string};
-use sled_bytes::{Change, encode_change, encode_node};
+use sled_bytes::{
+    Change, encode_change, encode_given, encode_linked, encode_node, encode_rooted,
+};
 use sled_nodes::{Link, Node, Pid, Result, Version};
 use std::process::ExitCode;
 
@@ -95,12 +97,30 @@ fn tell_changes(rt: &HostRuntime, all: &mut Vec<u8>) -> Result<()> {
     tell_numbers(rt, all)
 }
 
+// The same bytes of parts that are lent.
+fn tell_lent(rt: &HostRuntime) -> Result<()> {
+    let mut bytes = Vec::new(rt.alloc());
+    let node = leaf(rt.alloc())?;
+    let encoded = encode_given(&mut bytes, Pid(1), Version(258), &node);
+    drop(node);
+    encoded?;
+    let link = Link::Del(string(rt.alloc(), b"k")?);
+    let encoded = encode_linked(&mut bytes, Pid(2), Version(9), &link);
+    drop(link);
+    encoded?;
+    encode_rooted(&mut bytes, b"ulm", Some(Pid(1)))?;
+    let count = many_again(rt.alloc(), bytes.as_slice());
+    tell(rt, "lent", bytes.as_slice(), count == Some(3));
+    Ok(())
+}
+
 fn tell_all(rt: &HostRuntime) -> Result<()> {
     let mut all = Vec::new(rt.alloc());
     let told = tell_changes(rt, &mut all);
     let (len, count) = (all.len(), many_again(rt.alloc(), all.as_slice()));
     let _ = println!(rt; "all: {len} bytes; changes read again: {count:?}");
     told?;
+    tell_lent(rt)?;
     tell_node(rt, "node", index(rt.alloc())?)
 }
 

@@ -13,7 +13,8 @@
 //! let changes = decode_changes(alloc, bytes.as_slice()); // These three.
 //! ```
 //!
-//! `encode_node` and `encode_change` refuse nothing but for memory: all lengths and numbers of a program have 64 bits.
+//! `encode_node` and `encode_change` refuse nothing but for memory: all lengths and numbers of a program have 64 bits. Who has the parts
+//! of a change and lends them has the same bytes of `encode_given`, `encode_linked` and `encode_rooted`.
 #![tactic(auto)]
 
 mod change;
@@ -30,4 +31,4 @@ pub use changes::{decode_change, decode_changes};
 pub use laws::{law_change, law_changes, law_node};
 pub use reading::decode_node;
 pub use refusal::{Flaw, Refusal};
-pub use writing::{encode_change, encode_node};
+pub use writing::{encode_change, encode_given, encode_linked, encode_node, encode_rooted};

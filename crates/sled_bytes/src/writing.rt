@@ -397,3 +397,66 @@ pub fn encode_change(change: &Change, out: &mut Vec<u8>) -> Result<()>
     }
     Ok(())
 }
+
+/// Adds the bytes of a page that is there with this version and node, as of `Change::Given`. Refused with `NoMemory` alone, and nothing
+/// is added then.
+///
+/// ```
+/// let mut bytes = Vec::new(alloc);
+/// encode_given(&mut bytes, pid, version, &node)?; // The node stays the caller's.
+/// ```
+pub fn encode_given(out: &mut Vec<u8>, pid: Pid, version: Version, node: &Node) -> Result<()>
+    ensures ok { OnOk result (out.new.items ≡ out.old.items ++ change_bytes (Given pid version node.now)) }
+    // So it is read again.
+    ensures fits { OnOk result (FitsChange (Given pid version node.now)) }
+    ensures err { IfErr result (λ e. (e ≡ NoMemory) × (out.new.items ≡ out.old.items)) }
+{
+    let len = out.len();
+    if push_given(out, pid, version, node).is_err() {
+        out.truncate(len);
+        return Err(Error::NoMemory);
+    }
+    Ok(())
+}
+
+/// Adds the bytes of a link that a page had, and the version that it has since, as of `Change::Linked`. Refused with `NoMemory` alone,
+/// and nothing is added then.
+///
+/// ```
+/// let mut bytes = Vec::new(alloc);
+/// encode_linked(&mut bytes, pid, version, &link)?; // The link stays the caller's.
+/// ```
+pub fn encode_linked(out: &mut Vec<u8>, pid: Pid, version: Version, link: &Link) -> Result<()>
+    ensures ok { OnOk result (out.new.items ≡ out.old.items ++ change_bytes (Linked pid version link.now)) }
+    // So it is read again.
+    ensures fits { OnOk result (FitsChange (Linked pid version link.now)) }
+    ensures err { IfErr result (λ e. (e ≡ NoMemory) × (out.new.items ≡ out.old.items)) }
+{
+    let len = out.len();
+    if push_linked(out, pid, version, link).is_err() {
+        out.truncate(len);
+        return Err(Error::NoMemory);
+    }
+    Ok(())
+}
+
+/// Adds the bytes of the root that a name has, or has no more, as of `Change::Rooted`. Refused with `NoMemory` alone, and nothing is
+/// added then.
+///
+/// ```
+/// let mut bytes = Vec::new(alloc);
+/// encode_rooted(&mut bytes, b"weather", Some(pid))?; // The name stays the caller's.
+/// ```
+pub fn encode_rooted(out: &mut Vec<u8>, name: &[u8], root: Option<Pid>) -> Result<()>
+    ensures ok { OnOk result (out.new.items ≡ out.old.items ++ change_bytes (Rooted name.now root)) }
+    // So it is read again.
+    ensures fits { OnOk result (FitsChange (Rooted name.now root)) }
+    ensures err { IfErr result (λ e. (e ≡ NoMemory) × (out.new.items ≡ out.old.items)) }
+{
+    let len = out.len();
+    if push_rooted(out, name, root).is_err() {
+        out.truncate(len);
+        return Err(Error::NoMemory);
+    }
+    Ok(())
+}
