@@ -3,6 +3,7 @@
 #![tactic(auto)]
 
 mod disks;
+mod files;
 mod logs;
 mod report;
 
@@ -13,6 +14,7 @@ fn main(rt: HostRuntime) -> ExitCode {
     let report = Report::new(rt);
     disks::tell(&report);
     logs::tell(&report);
+    files::tell(&report);
     if report.has_failed() {
         ExitCode::FAILURE
     } else {

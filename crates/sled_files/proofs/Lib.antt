@@ -1,2 +1,12 @@
 pub mod Crashing
-pub mod Lasts
+pub mod Adding
+pub mod Beginning
+pub mod Pairs
+pub mod Grows
+pub mod Over
+pub mod Sound
+pub mod Moments
+pub mod Added
+pub mod Numbers
+pub mod Calls
+pub mod Flushing

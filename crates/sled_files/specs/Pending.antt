@@ -1,28 +1,28 @@
--- What the next flush adds to a file.
-use Rattle.std.specs.Prelude.{◌≡◌, ◌≤◌, ℕ, List}
+-- What the next flush adds to the files of a store.
+use Rattle.std.specs.Prelude.{◌≡◌, ℕ, List}
 use Rattle.std.specs.List.{flat_map, All}
 use Rattle.sled_store.specs.Store.{Store}
-use Rattle.sled_log.specs.Digest.{digest}
-use Rattle.sled_log.specs.Log.{IsLog}
 use Rattle.sled_bytes.specs.declared.change.Change.{Change}
 use Rattle.sled_bytes.specs.Spelling.{change_bytes, FitsChange}
 use Rattle.sled_files.specs.Change.{Durable, changed_all, actions_of}
-use Rattle.sled_files.specs.Lasting.{StandsFor, Limits, HasLimits}
+use Rattle.sled_files.specs.Lasting.{Limits, HasLimits}
 
--- The file is a log, with its closed gate at this place, of changes that make the store's base, and the bytes are those of
--- the actions since, one after the other. The mark is that of the store with them and without them. The limits in the file
--- are no lower than the first, and with the changes that are pending no lower than the second.
-pub record IsPending (limits next : Limits) (s : Store) (file : List ℕ) (gate : ℕ) (bytes : List ℕ) : Type 0 where
-  pub durable : Durable
-  pub stands : StandsFor file durable
-  pub log : IsLog digest file stands.payloads gate
-  pub base : durable.state ≡ s.base
-  pub mark : durable.mark ≡ s.mark
-  pub limited : HasLimits limits durable
-  pub changes : List Change
+-- The bytes are those of changes, one after the other
+pub record Spells (bytes : List ℕ) (changes : List Change) : Type 0 where
   pub fit : All FitsChange changes
   pub spelled : bytes ≡ flat_map change_bytes changes
+
+-- what is no part of the state
+abbrev pub aside_of : Durable → ℕ × ℕ × ℕ
+aside_of d = (d.mark, d.pids, d.versions)
+
+-- What the files stand for is the store's base, its mark and limits no lower than these, and the bytes are changes that are the
+-- actions of the store since, and nothing else
+pub record IsPending (limits : Limits) (s : Store) (d : Durable) (bytes : List ℕ) : Type 0 where
+  pub base : d.state ≡ s.base
+  pub mark : d.mark ≡ s.mark
+  pub limited : HasLimits limits d
+  pub changes : List Change
+  pub spells : Spells bytes changes
   pub acts : actions_of changes s.base ≡ s.recent
-  pub mark_then : (changed_all changes durable).mark ≡ s.mark
-  pub limited_then : HasLimits next (changed_all changes durable)
-  pub rises : (limits.pids ≤ next.pids) × (limits.versions ≤ next.versions)
+  pub aside : (whole : Durable) → aside_of (changed_all changes whole) ≡ aside_of whole

@@ -1,6 +1,17 @@
-//! A store of pages in a file.
+//! A store of pages in two files.
+//!
+//! Each file is a log of changes behind a header. Of the two the one of the greater generation counts. Blocks are added to it, and
+//! once it has grown long the other is begun anew, with what the store is then.
 #![tactic(auto)]
 
-mod flushing;
+mod begin;
+mod file_pages;
+mod laws;
+mod spelled;
+mod storing;
+mod two_files;
 
-pub use flushing::flush_pending;
+pub use begin::begin_file;
+pub use file_pages::{FilePages, law_lasts};
+pub use laws::{law_flush_ends, law_flush_lasts, law_new_store_lasts};
+pub use two_files::TwoFiles;

@@ -1,0 +1,47 @@
+use Rattle.std.proofs.Common.{◌∷◌, [], inl, inr, ⊎_elim, refl, sym, subst, List, ℕ}
+use Rattle.sled_pages.specs.Memory.{store_of}
+use Rattle.sled_bytes.specs.declared.change.Change.TheVariants.{Limited}
+use Rattle.sled_files.specs.Pending.{Spells}
+use Rattle.sled_files.proofs.Over.{own_fault}
+use Rattle.sled_files.proofs.Sound.{sound_faults}
+use Rattle.sled_files.proofs.Moments.{moments_none}
+use Rattle.sled_files.proofs.Added.{sound_refused, sound_raised, moments_raised}
+use Rattle.sled_files.proofs.file_pages.FilePages.raise.Goals as goal
+
+pub invariant_of-self : goal.invariant_of-self
+invariant_of-self g c = sound_faults g.D.Disk.seen g.D.Disk.may_leave _ c.fault.new.faults c.self.invariant
+
+pub returns-then-pids-pid-clause-err : goal.returns-then-pids-pid-clause-err
+returns-then-pids-pid-clause-err g c = rw (← c.self.view_is) (own_fault (store_of c.self.inside.pages) c.fault.ensures)
+
+pub returns-then-pids-pid-clause-any_moment : goal.returns-then-pids-pid-clause-any_moment
+returns-then-pids-pid-clause-any_moment g c = rw (← c.self.view_is) (moments_none c.law_time.ensures.first c.law_time.ensures.second refl c.self.invariant.lasts)
+
+pub returns-in-Err-clause-any_moment : goal.returns-in-Err-clause-any_moment
+returns-in-Err-clause-any_moment g c = rw (← c.self.view_is) (moments_none c.law_time.ensures.first c.law_time.ensures.second refl c.self.invariant.lasts)
+
+pub invariant_of-self-in-Err-add : goal.invariant_of-self-in-Err-add
+invariant_of-self-in-Err-add g c =
+    let spells = subst (λ (l : List ℕ). Spells l (Limited c.raised-pids.result c.raised-versions.result ∷ [])) (sym c.deref.ensures.value) c.in-Ok.ensures.ok in
+    sound_refused _ c.add.new.files c.self.inside.asked c.add.new.faults c.self.invariant (⊎_elim (λ e. inl (e, refl)) (λ e. inr e) c.in-Err-add.ensures.err)
+    (moments_raised _ c.add.new.files c.deref.result.now c.add.ensures.first c.add.ensures.second c.self.invariant c.add.ensures.over c.add.ensures.any_moment c.raised-pids.result c.raised-versions.result spells c.raised-pids.ensures c.raised-versions.ensures)
+
+pub returns-in-Err-add-clause-err : goal.returns-in-Err-add-clause-err
+returns-in-Err-add-clause-err g c = rw (← c.self.view_is) (own_fault (store_of c.self.inside.pages) c.in-Err-add.ensures.fault)
+
+pub returns-in-Err-add-clause-any_moment : goal.returns-in-Err-add-clause-any_moment
+returns-in-Err-add-clause-any_moment g c =
+    let spells = subst (λ (l : List ℕ). Spells l (Limited c.raised-pids.result c.raised-versions.result ∷ [])) (sym c.deref.ensures.value) c.in-Ok.ensures.ok in
+    rw (← c.self.view_is)
+    (moments_raised _ c.add.new.files c.deref.result.now c.add.ensures.first c.add.ensures.second c.self.invariant c.add.ensures.over c.add.ensures.any_moment c.raised-pids.result c.raised-versions.result spells c.raised-pids.ensures c.raised-versions.ensures)
+
+pub invariant_of-self-2 : goal.invariant_of-self-2
+invariant_of-self-2 g c =
+    let spells = subst (λ (l : List ℕ). Spells l (Limited c.raised-pids.result c.raised-versions.result ∷ [])) (sym c.deref.ensures.value) c.in-Ok.ensures.ok in
+    rw c.in_default.ensures.same (sound_raised _ c.add.new.files c.deref.result.now c.raised-pids.result c.raised-versions.result c.self.invariant c.in_default.ensures.up c.in_default.ensures.ready spells c.raised-pids.ensures c.raised-versions.ensures)
+
+pub returns-clause-any_moment : goal.returns-clause-any_moment
+returns-clause-any_moment g c =
+    let spells = subst (λ (l : List ℕ). Spells l (Limited c.raised-pids.result c.raised-versions.result ∷ [])) (sym c.deref.ensures.value) c.in-Ok.ensures.ok in
+    rw (← c.self.view_is)
+    (moments_raised _ c.add.new.files c.deref.result.now c.add.ensures.first c.add.ensures.second c.self.invariant c.add.ensures.over c.add.ensures.any_moment c.raised-pids.result c.raised-versions.result spells c.raised-pids.ensures c.raised-versions.ensures)

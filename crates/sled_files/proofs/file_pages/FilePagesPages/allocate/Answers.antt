@@ -1,0 +1,22 @@
+use Rattle.std.proofs.Common.{◌≡◌, ◌<◌, ◌∙◌, sym, subst, ap, rules}
+use Rattle.sled_pages.specs.Memory.{store_of}
+use Rattle.sled_files.specs.Stored.{Stored, stored_as, over}
+use Rattle.sled_files.proofs.Over.{if_ok, if_err, allocates_over, refused_over}
+use Rattle.sled_files.proofs.Sound.{sound_spelled}
+use Rattle.sled_files.proofs.file_pages.FilePagesPages.allocate.Goals as goal
+
+pub invariant_of-self : goal.invariant_of-self
+invariant_of-self g c =
+    let below_pid : c.in-Ok.pid < c.self.inside.limit_pids = subst (λ (v : Stored g.row.D.Denot). c.in-Ok.pid < v.limits.pids) (sym c.self.view_is) (search rules) in
+    let below : c.in-Ok.version < c.self.inside.limit_versions = subst (λ (v : Stored g.row.D.Denot). c.in-Ok.version < v.limits.versions) (sym c.self.view_is) (search rules) in
+    sound_spelled g.D.Disk.seen g.D.Disk.may_leave _ c.allocate.new.pages c.allocate.new.pending.items c.self.invariant c.allocate.ensures.spelled (λ w. c.allocate.ensures.within _ w (search rules) (search rules))
+
+pub returns-in-Ok-clause-ok : goal.returns-in-Ok-clause-ok
+returns-in-Ok-clause-ok g c =
+    let same : over c.self.inside.mark c.self.inside.faults (store_of c.self.inside.pages) ≡ stored_as c.args.self.now = ap stored_as c.self.view_is ∙ c.in-Ok.ensures.same in
+    rw (← same) (if_ok c.allocate.result (λ a h. allocates_over c.self.inside.mark c.self.inside.faults h) c.allocate.ensures.ok)
+
+pub returns-in-Ok-clause-err : goal.returns-in-Ok-clause-err
+returns-in-Ok-clause-err g c =
+    let same : over c.self.inside.mark c.self.inside.faults (store_of c.self.inside.pages) ≡ stored_as c.args.self.now = ap stored_as c.self.view_is ∙ c.in-Ok.ensures.same in
+    rw (← same) (if_err c.allocate.result (λ e h. refused_over c.self.inside.mark c.self.inside.faults h) c.allocate.ensures.err)

@@ -1,0 +1,12 @@
+use Rattle.sled_files.proofs.Over.{if_ok, if_err, frees_over, refused_over}
+use Rattle.sled_files.proofs.Sound.{sound_spelled}
+use Rattle.sled_files.proofs.file_pages.FilePagesPages.free.Goals as goal
+
+pub invariant_of-self : goal.invariant_of-self
+invariant_of-self g c = sound_spelled g.D.Disk.seen g.D.Disk.may_leave _ c.free.new.pages c.free.new.pending.items c.self.invariant c.free.ensures.spelled (c.free.ensures.within _)
+
+pub returns-clause-ok : goal.returns-clause-ok
+returns-clause-ok g c = rw (← c.self.view_is) (if_ok c.free.result (λ a h. frees_over c.self.inside.mark c.self.inside.faults h) c.free.ensures.ok)
+
+pub returns-clause-err : goal.returns-clause-err
+returns-clause-err g c = rw (← c.self.view_is) (if_err c.free.result (λ e h. refused_over c.self.inside.mark c.self.inside.faults h) c.free.ensures.err)

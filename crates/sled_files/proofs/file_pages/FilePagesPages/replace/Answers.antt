@@ -1,0 +1,21 @@
+use Rattle.std.proofs.Common.{◌≡◌, ◌<◌, ◌∙◌, sym, subst, ap, rules}
+use Rattle.sled_pages.specs.Memory.{store_of}
+use Rattle.sled_files.specs.Stored.{Stored, stored_as, over}
+use Rattle.sled_files.proofs.Over.{if_ok, if_err, changes_over, refused_over}
+use Rattle.sled_files.proofs.Sound.{sound_spelled}
+use Rattle.sled_files.proofs.file_pages.FilePagesPages.replace.Goals as goal
+
+pub invariant_of-self : goal.invariant_of-self
+invariant_of-self g c =
+    let below : c.in-Ok.next < c.self.inside.limit_versions = subst (λ (v : Stored g.row.D.Denot). c.in-Ok.next < v.limits.versions) (sym c.self.view_is) (search rules) in
+    sound_spelled g.D.Disk.seen g.D.Disk.may_leave _ c.replace.new.pages c.replace.new.pending.items c.self.invariant c.replace.ensures.spelled (λ w. c.replace.ensures.within _ w (search rules))
+
+pub returns-in-Ok-clause-ok : goal.returns-in-Ok-clause-ok
+returns-in-Ok-clause-ok g c =
+    let same : over c.self.inside.mark c.self.inside.faults (store_of c.self.inside.pages) ≡ stored_as c.args.self.now = ap stored_as c.self.view_is ∙ c.in-Ok.ensures.same in
+    rw (← same) (if_ok c.replace.result (λ a h. changes_over c.self.inside.mark c.self.inside.faults h) c.replace.ensures.ok)
+
+pub returns-in-Ok-clause-err : goal.returns-in-Ok-clause-err
+returns-in-Ok-clause-err g c =
+    let same : over c.self.inside.mark c.self.inside.faults (store_of c.self.inside.pages) ≡ stored_as c.args.self.now = ap stored_as c.self.view_is ∙ c.in-Ok.ensures.same in
+    rw (← same) (if_err c.replace.result (λ e h. refused_over c.self.inside.mark c.self.inside.faults h) c.replace.ensures.err)

@@ -1,0 +1,14 @@
+use Rattle.std.proofs.Common.{ap}
+use Rattle.sled_files.specs.Stored.{over}
+use Rattle.sled_files.proofs.Over.{if_ok, if_err, refused_over}
+use Rattle.sled_files.proofs.Sound.{sound_spelled}
+use Rattle.sled_files.proofs.file_pages.FilePagesPages.seal_group.Goals as goal
+
+pub invariant_of-self : goal.invariant_of-self
+invariant_of-self g c = sound_spelled g.D.Disk.seen g.D.Disk.may_leave _ c.seal_group.new.pages c.seal_group.new.pending.items c.self.invariant c.seal_group.ensures.spelled (c.seal_group.ensures.within _)
+
+pub returns-clause-ok : goal.returns-clause-ok
+returns-clause-ok g c = rw (← c.self.view_is) (if_ok c.seal_group.result (λ a h. ap (over c.self.inside.mark c.self.inside.faults) h) c.seal_group.ensures.ok)
+
+pub returns-clause-err : goal.returns-clause-err
+returns-clause-err g c = rw (← c.self.view_is) (if_err c.seal_group.result (λ e h. refused_over c.self.inside.mark c.self.inside.faults h) c.seal_group.ensures.err)

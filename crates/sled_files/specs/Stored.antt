@@ -1,0 +1,62 @@
+-- A store in two files as code holds it.
+use Rattle.std.specs.Prelude.{◌≡◌, ◌+◌, ◌<◌, ℕ, true, false, List, [], ◌∷◌, Option, Some, None}
+use Rattle.sled_pages.specs.declared.memory.MemPages.{MemPages}
+use Rattle.sled_pages.specs.Memory.{store_of, flush_number_of}
+use Rattle.sled_store.specs.Store.{Store}
+use Rattle.sled_files.specs.Change.{Durable}
+use Rattle.sled_files.specs.Files.{Files, IsReady}
+use Rattle.sled_files.specs.Lasting.{Limits, IsLasting, EachPair}
+use Rattle.sled_files.specs.Pending.{IsPending}
+
+-- the pages in memory, the files, the bytes that the next flush adds to them, the mark, the limits, a mark that may be in the files
+-- though it was refused, and how many calls were refused for a fault of the files
+pub record Stored (D : Type 0) : Type 0 where
+  pub pages : MemPages
+  pub files : Files D
+  pub pending : List ℕ
+  pub mark : ℕ
+  pub limits : Limits
+  pub asked : Option ℕ
+  pub faults : ℕ
+
+-- what it means: what the pages in memory mean, but for the mark, and with the faults of the files
+abbrev pub over : ℕ → ℕ → Store → Store
+over mark faults s = record s { mark = mark; faults = faults + s.faults }
+
+abbrev pub stored_as : {D : Type 0} → Stored D → Store
+stored_as f = over f.mark f.faults (store_of f.pages)
+
+abbrev pub asked_of : Option ℕ → List ℕ
+asked_of None = []
+asked_of (Some upto) = upto ∷ []
+
+-- page numbers and versions that were given are below the limits
+pub record AreWithin (limits : Limits) (s : Store) : Type 0 where
+  pub pids : (p : ℕ) → 0 < p → s.pids p ≡ true → p < limits.pids
+  pub versions : (v : ℕ) → s.versions v ≡ true → v < limits.versions
+
+-- the files stand for the store's base, and the bytes are the actions since
+pub record Stands {D : Type 0} (seen : D → List ℕ) (may_leave : D → List ℕ → Type 0) (limits : Limits) (s : Store) (files : Files D) (pending : List ℕ) : Type 0 where
+  pub durable : Durable
+  pub ready : IsReady seen may_leave files durable
+  pub pends : IsPending limits s durable pending
+
+-- whatever a crash leaves of the files now is right for the store
+abbrev pub Lasts : {D : Type 0} → (D → List ℕ → Type 0) → List ℕ → Limits → Store → Files D → Type 0
+Lasts may_leave asked limits s files = EachPair (may_leave files.first) (may_leave files.second) (IsLasting asked limits s)
+
+-- the invariant
+pub record IsSound {D : Type 0} (seen : D → List ℕ) (may_leave : D → List ℕ → Type 0) (f : Stored D) : Type 0 where
+  pub stands : f.files.failed ≡ false → Stands seen may_leave f.limits (stored_as f) f.files f.pending
+  pub lasts : Lasts may_leave (asked_of f.asked) f.limits (stored_as f) f.files
+  pub within : AreWithin f.limits (stored_as f)
+
+-- a flush answers how many actions it makes durable
+abbrev pub flush_number_in : {D : Type 0} → Stored D → ℕ
+flush_number_in f = flush_number_of f.pages
+
+-- the files stay as they are, and what is known of them
+pub record KeepsFiles {D : Type 0} (old new : Stored D) : Type 0 where
+  pub files : new.files ≡ old.files
+  pub limits : new.limits ≡ old.limits
+  pub asked : new.asked ≡ old.asked

@@ -1,0 +1,4 @@
+pub mod Begun
+pub mod Given
+pub mod Spelled
+pub mod Kept

@@ -1,0 +1,33 @@
+-- A changing call of the pages in memory, beside which its change is spelled.
+use Rattle.std.specs.Prelude.{◌≡◌, ◌⊎◌, ◌<◌, ℕ, nat_lt, List, [], ◌∷◌, ◌++◌, Some}
+use Rattle.sled_store.specs.State.{Action}
+use Rattle.sled_store.specs.Store.{Store, now}
+use Rattle.sled_bytes.specs.declared.change.Change.{Change}
+use Rattle.sled_bytes.specs.Spelling.{change_bytes, FitsChange}
+use Rattle.sled_files.specs.Change.{action_of}
+
+-- no action was made, and nothing was spelled
+pub record MakesNone (old new : Store) (before after : List ℕ) : Type 0 where
+  pub base : new.base ≡ old.base
+  pub recent : new.recent ≡ old.recent
+  pub bytes : after ≡ before
+
+-- one was made, and spelled
+pub record MakesOne (old new : Store) (before after : List ℕ) : Type 0 where
+  pub change : Change
+  pub action : Action
+  pub fits : FitsChange change
+  pub is : action_of change (now old) ≡ Some action
+  pub base : new.base ≡ old.base
+  pub recent : new.recent ≡ old.recent ++ action ∷ []
+  pub bytes : after ≡ before ++ change_bytes change
+
+-- what is spelled is what was made
+pub record IsSpelled (old new : Store) (before after : List ℕ) : Type 0 where
+  pub is : MakesNone old new before after ⊎ MakesOne old new before after
+
+-- the page numbers that were given are those below the first of these, and the versions those below the second
+pub record ComeNext (s : Store) (pid version : ℕ) : Type 0 where
+  pub positive : 0 < pid
+  pub pids : (p : ℕ) → 0 < p → s.pids p ≡ nat_lt p pid
+  pub versions : (v : ℕ) → s.versions v ≡ nat_lt v version

@@ -1,0 +1,389 @@
+//! A store of pages in two files.
+ghost use Rattle.std.specs.Prelude.{◌≡◌, ◌≤◌, ◌<◌, ◌∷◌, [], None, Some, IfOk, IfErr, OnOk, length, true, false, ◌&&◌, not, if◌then◌else◌};
+ghost use Rattle.sled_nodes.specs.declared.error.Error.TheVariants.{NoMemory};
+ghost use Rattle.sled_nodes.specs.Node.{after_link};
+ghost use Rattle.sled_store.specs.State.{GroupBegins, GroupEnds};
+ghost use Rattle.sled_store.specs.Store.{now, after_action, after_flush, Allocates, IsRefused, Changes, Frees, SwapsRoot};
+ghost use Rattle.sled_pages.specs.Memory.{store_of};
+ghost use Rattle.sled_files.specs.Lasting.{EachPair, IsLasting};
+ghost use Rattle.sled_files.specs.Stored.{asked_of, stored_as, AreWithin};
+
+use crate::spelled::{
+    allocate, begin_group, cas_root, free, link, next_of, replace, seal_group, spelled,
+};
+use crate::storing::{add, fault};
+use crate::two_files::TwoFiles;
+use sled_bytes::Change;
+use sled_disk::Disk;
+use sled_nodes::{IVec, Link, Node, Pid, Result, Version};
+use sled_pages::MemPages;
+use sled_store::{Pages, View};
+use std::alloc::Global;
+use std::marker::Model;
+
+/// A store of pages in two files. Its pages are in memory too, where they are read. The changing calls change them there, and note what
+/// a flush adds to the files; a mark is added to the files at once. A crash leaves in the files what `Pages` allows, so the store is
+/// there again when they are opened.
+///
+/// Page numbers and versions are given below limits that are in the files before: of a store that is opened again all below them count
+/// as given. A call that reaches a limit raises it first. Once a disk refused a call, each flush, each mark and each raise is refused.
+pub struct FilePages<D: Disk> {
+    alloc: Global,
+    pages: MemPages,
+    files: TwoFiles<D>,
+    // the changes since the last flush, spelled
+    pending: Vec<u8>,
+    mark: u64,
+    limit_pids: u64,
+    limit_versions: u64,
+    // a mark that was refused by a disk, which may have it all the same
+    asked: Option<u64>,
+    faults: u64,
+}
+
+impl<D: Disk> Model for FilePages<D> {
+    ghost use Rattle.sled_files.specs.Stored.{Stored, IsSound};
+    ghost use Rattle.sled_pages.specs.contracts.memory.MemPages as m;
+    ghost use Rattle.std.specs.Coded.{codes};
+
+    ghost Value = { Stored D };
+
+    ghost coded = { Prim.hlevel (codes, m.the_row.coded) };
+
+    ghost view = { λ f. record { pages = f.pages; files = f.files; pending = f.pending.items; mark = f.mark; limits = record { pids = f.limit_pids; versions = f.limit_versions }; asked = f.asked; faults = f.faults } };
+
+    ghost invariant = { λ f. IsSound D.seen D.may_leave (record { pages = f.pages; files = f.files; pending = f.pending.items; mark = f.mark; limits = record { pids = f.limit_pids; versions = f.limit_versions }; asked = f.asked; faults = f.faults }) };
+}
+
+// By hand, so that whoever lets go of a store cites this, and need not prove again how each of its parts goes.
+impl<D: Disk> Drop for FilePages<D> {
+    fn drop(self) {
+        let FilePages {
+            alloc: _,
+            pages,
+            files,
+            pending,
+            mark: _,
+            limit_pids: _,
+            limit_versions: _,
+            asked: _,
+            faults: _,
+        } = self;
+        drop(pages);
+        drop(files);
+        drop(pending);
+    }
+}
+
+impl<D: Disk> FilePages<D> {
+    ghost use Rattle.sled_files.specs.Stored.{Stored, stored_as, Stands, AreWithin};
+
+    /// A store of these pages, of which nothing is recent, and of the files that stand for them, with the mark and the limits that the
+    /// files have.
+    ///
+    /// ```
+    /// let store = FilePages::new(alloc, pages, files, pids, versions);
+    /// ```
+    pub fn new(
+        alloc: Global,
+        pages: MemPages,
+        files: TwoFiles<D>,
+        pids: u64,
+        versions: u64,
+    ) -> FilePages<D>
+        requires stands { Stands D.seen D.may_leave (record { pids = pids; versions = versions }) (store_of pages) files [] }
+        requires within { AreWithin (record { pids = pids; versions = versions }) (store_of pages) }
+        ensures { result ≡ record { pages = pages; files = files; pending = []; mark = (store_of pages).mark; limits = record { pids = pids; versions = versions }; asked = None; faults = 0 } }
+    {
+        FilePages {
+            alloc,
+            mark: pages.mark(),
+            pages,
+            files,
+            pending: Vec::new(alloc),
+            limit_pids: pids,
+            limit_versions: versions,
+            asked: None,
+            faults: 0,
+        }
+    }
+}
+
+// How many numbers and versions more a limit sets aside.
+const MORE: u64 = 1_000_000;
+
+// The code of the fault that numbers are used up, as the pages in memory have it.
+const USED_UP: u32 = 3;
+
+// The next limit: some way above what comes next, and no lower than this one.
+fn raised(limit: u64, next: u64) -> u64
+    ensures { limit ≤ result }
+{
+    limit.max(next.saturating_add(MORE))
+}
+
+// The mark that may be in the files after one was refused: this one, if a disk refused it just now.
+fn asked_then(asked: Option<u64>, upto: u64, was_over: bool, is_over: bool) -> Option<u64>
+    ensures { result ≡ (if is_over && not was_over then Some upto else asked) }
+{
+    if is_over && !was_over {
+        Some(upto)
+    } else {
+        asked
+    }
+}
+
+impl<D: Disk> FilePages<D> {
+    ghost use Rattle.sled_files.specs.Stored.{stored_as, asked_of};
+    ghost use Rattle.sled_files.specs.theory.Kept.{KeepsPages};
+    ghost use Rattle.sled_files.specs.Files.{LeavesPairs};
+    ghost use Rattle.sled_files.specs.Lasting.{IsLasting};
+    ghost use Rattle.sled_files.specs.theory.Spelled.{ComeNext};
+
+    // Raises the limits above these numbers, in the files first.
+    fn raise(&mut self, pid: Pid, version: Version) -> Result<()>
+        ensures pid { OnOk result (pid < self.new.limits.pids) }
+        ensures version { OnOk result (version < self.new.limits.versions) }
+        ensures same { OnOk result (stored_as self.new ≡ stored_as self.old) }
+        ensures err { IfErr result (λ e. IsRefused e (stored_as self.old) (stored_as self.new)) }
+        ensures pages { KeepsPages self.old self.new }
+        ensures any_moment { LeavesPairs D.moment D.left_since D.may_leave self.old.files self.new.files (IsLasting (asked_of self.old.asked) self.old.limits (stored_as self.old)) }
+    {
+        self.files.law_time();
+        let pids = raised(self.limit_pids, pid.0);
+        let versions = raised(self.limit_versions, version.0);
+        if pids <= pid.0 || versions <= version.0 {
+            return Err(fault(&mut self.faults, USED_UP));
+        }
+        let block = match spelled(self.alloc, Change::Limited(pids, versions)) {
+            Ok(block) => block,
+            Err(e) => return Err(e),
+        };
+        if let Err(e) = add(&mut self.files, &mut self.faults, &block) {
+            return Err(e);
+        }
+        self.limit_pids = pids;
+        self.limit_versions = versions;
+        Ok(())
+    }
+
+    // The page number and the version that come next, below limits that are in the files.
+    fn reach(&mut self) -> Result<(Pid, Version)>
+        ensures next { IfOk result (λ next. ComeNext (store_of self.new.pages) next.0 next.1) }
+        ensures pid { IfOk result (λ next. next.0 < self.new.limits.pids) }
+        ensures version { IfOk result (λ next. next.1 < self.new.limits.versions) }
+        ensures same { OnOk result (stored_as self.new ≡ stored_as self.old) }
+        ensures err { IfErr result (λ e. IsRefused e (stored_as self.old) (stored_as self.new)) }
+        ensures pages { KeepsPages self.old self.new }
+        ensures any_moment { LeavesPairs D.moment D.left_since D.may_leave self.old.files self.new.files (IsLasting (asked_of self.old.asked) self.old.limits (stored_as self.old)) }
+    {
+        self.files.law_time();
+        let Some((pid, version)) = next_of(&self.pages) else {
+            return Err(fault(&mut self.faults, USED_UP));
+        };
+        if pid.0 < self.limit_pids && version.0 < self.limit_versions {
+            return Ok((pid, version));
+        }
+        match self.raise(pid, version) {
+            Ok(()) => Ok((pid, version)),
+            Err(e) => Err(e),
+        }
+    }
+}
+
+impl<D: Disk + Send> Pages for FilePages<D> {
+    ghost use Rattle.sled_files.specs.Stored.{stored_as, asked_of, flush_number_in, KeepsFiles};
+    ghost use Rattle.sled_files.specs.Files.{LeavesPairs};
+    ghost use Rattle.sled_files.specs.Lasting.{IsLasting};
+
+    ghost store = { stored_as };
+
+    ghost flush_number = { flush_number_in };
+
+    fn read(&self, alloc: Global, pid: Pid) -> Result<Option<View>> {
+        self.pages.read(alloc, pid)
+    }
+
+    fn root(&self, name: &[u8]) -> Option<Pid> {
+        self.pages.root(name)
+    }
+
+    fn roots(&self, alloc: Global) -> Result<Vec<(IVec, Pid)>> {
+        self.pages.roots(alloc)
+    }
+
+    fn allocate(&mut self, node: Node) -> Result<(Pid, Version)>
+        ensures ok { IfOk result (λ given. Allocates node given.0 given.1 (stored_as self.old) (stored_as self.new)) }
+        ensures err { IfErr result (λ e. IsRefused e (stored_as self.old) (stored_as self.new)) }
+        ensures asked { self.new.asked ≡ self.old.asked }
+        ensures any_moment { LeavesPairs D.moment D.left_since D.may_leave self.old.files self.new.files (IsLasting (asked_of self.old.asked) self.old.limits (stored_as self.old)) }
+    {
+        match self.reach() {
+            Ok((pid, version)) => {
+                allocate(&mut self.pages, &mut self.pending, pid, version, node)
+            }
+            Err(e) => {
+                drop(node);
+                Err(e)
+            }
+        }
+    }
+
+    fn link(
+        &mut self,
+        pid: Pid,
+        version: Version,
+        new: Link,
+    ) -> Result<std::result::Result<Version, Option<Version>>>
+        ensures ok { IfOk result (Changes (after_link new) pid version (stored_as self.old) (stored_as self.new)) }
+        ensures err { IfErr result (λ e. IsRefused e (stored_as self.old) (stored_as self.new)) }
+        ensures asked { self.new.asked ≡ self.old.asked }
+        ensures any_moment { LeavesPairs D.moment D.left_since D.may_leave self.old.files self.new.files (IsLasting (asked_of self.old.asked) self.old.limits (stored_as self.old)) }
+    {
+        match self.reach() {
+            Ok((_, next)) => link(&mut self.pages, &mut self.pending, next, pid, version, new),
+            Err(e) => {
+                drop(new);
+                Err(e)
+            }
+        }
+    }
+
+    fn replace(
+        &mut self,
+        pid: Pid,
+        version: Version,
+        node: Node,
+    ) -> Result<std::result::Result<Version, Option<Version>>>
+        ensures ok { IfOk result (Changes (λ _. node) pid version (stored_as self.old) (stored_as self.new)) }
+        ensures err { IfErr result (λ e. IsRefused e (stored_as self.old) (stored_as self.new)) }
+        ensures asked { self.new.asked ≡ self.old.asked }
+        ensures any_moment { LeavesPairs D.moment D.left_since D.may_leave self.old.files self.new.files (IsLasting (asked_of self.old.asked) self.old.limits (stored_as self.old)) }
+    {
+        match self.reach() {
+            Ok((_, next)) => {
+                replace(&mut self.pages, &mut self.pending, next, pid, version, node)
+            }
+            Err(e) => {
+                drop(node);
+                Err(e)
+            }
+        }
+    }
+
+    fn free(
+        &mut self,
+        pid: Pid,
+        version: Version,
+    ) -> Result<std::result::Result<(), Option<Version>>>
+        ensures ok { IfOk result (Frees pid version (stored_as self.old) (stored_as self.new)) }
+        ensures err { IfErr result (λ e. IsRefused e (stored_as self.old) (stored_as self.new)) }
+        ensures files { KeepsFiles self.old self.new }
+    {
+        free(&mut self.pages, &mut self.pending, pid, version)
+    }
+
+    fn cas_root(
+        &mut self,
+        name: &[u8],
+        old: Option<Pid>,
+        new: Option<Pid>,
+    ) -> Result<std::result::Result<(), Option<Pid>>>
+        ensures ok { IfOk result (SwapsRoot name.now old new (stored_as self.old) (stored_as self.new)) }
+        ensures err { IfErr result (λ e. IsRefused e (stored_as self.old) (stored_as self.new)) }
+        ensures files { KeepsFiles self.old self.new }
+    {
+        cas_root(&mut self.pages, &mut self.pending, name, old, new)
+    }
+
+    fn begin_group(&mut self) -> Result<()>
+        requires { (now (stored_as self.old)).in_group ≡ false }
+        ensures ok { OnOk result (stored_as self.new ≡ after_action GroupBegins (stored_as self.old)) }
+        ensures err { IfErr result (λ e. IsRefused e (stored_as self.old) (stored_as self.new)) }
+        ensures files { KeepsFiles self.old self.new }
+    {
+        begin_group(&mut self.pages, &mut self.pending)
+    }
+
+    fn seal_group(&mut self) -> Result<()>
+        requires { (now (stored_as self.old)).in_group ≡ true }
+        ensures ok { OnOk result (stored_as self.new ≡ after_action GroupEnds (stored_as self.old)) }
+        ensures err { IfErr result (λ e. IsRefused e (stored_as self.old) (stored_as self.new)) }
+        ensures files { KeepsFiles self.old self.new }
+    {
+        seal_group(&mut self.pages, &mut self.pending)
+    }
+
+    fn in_group(&self) -> bool {
+        self.pages.in_group()
+    }
+
+    /// Makes all that was done durable. The number is that of the changing actions since the last flush. At any moment a crash leaves
+    /// files that are right for the store before.
+    fn flush(&mut self) -> Result<usize>
+        requires { (now (stored_as self.old)).in_group ≡ false }
+        ensures ok { OnOk result (stored_as self.new ≡ after_flush (stored_as self.old)) }
+        ensures number { IfOk result (λ n. n ≡ length (stored_as self.old).recent) }
+        ensures err { IfErr result (λ e. IsRefused e (stored_as self.old) (stored_as self.new)) }
+        ensures asked { self.new.asked ≡ self.old.asked }
+        ensures limits { self.new.limits ≡ self.old.limits }
+        ensures any_moment { LeavesPairs D.moment D.left_since D.may_leave self.old.files self.new.files (IsLasting (asked_of self.old.asked) self.old.limits (stored_as self.old)) }
+    {
+        if let Err(e) = add(&mut self.files, &mut self.faults, &self.pending) {
+            return Err(e);
+        }
+        self.pending.clear();
+        Ok(self.pages.flush_uncounted())
+    }
+
+    /// Raises the mark, which is durable at once, also while a group is open. At any moment a crash leaves files that are right for the
+    /// store before, with the mark that it had or this one.
+    fn set_aside(&mut self, upto: u64) -> Result<()>
+        requires { (stored_as self.old).mark ≤ upto }
+        ensures ok { OnOk result (stored_as self.new ≡ record (stored_as self.old) { mark = upto }) }
+        ensures err { IfErr result (λ e. IsRefused e (stored_as self.old) (stored_as self.new)) }
+        ensures asked { OnOk result (self.new.asked ≡ self.old.asked) }
+        ensures limits { self.new.limits ≡ self.old.limits }
+        ensures any_moment { LeavesPairs D.moment D.left_since D.may_leave self.old.files self.new.files (IsLasting (upto ∷ asked_of self.old.asked) self.old.limits (stored_as self.old)) }
+    {
+        self.files.law_time();
+        let block = match spelled(self.alloc, Change::Marked(upto)) {
+            Ok(block) => block,
+            Err(e) => return Err(e),
+        };
+        let was_over = self.files.failed();
+        if let Err(e) = add(&mut self.files, &mut self.faults, &block) {
+            self.asked = asked_then(self.asked, upto, was_over, self.files.failed());
+            return Err(e);
+        }
+        self.mark = upto;
+        Ok(())
+    }
+
+    fn mark(&self) -> u64 {
+        self.mark
+    }
+
+    fn was_recovered(&self) -> bool {
+        self.pages.was_recovered()
+    }
+
+    ghost use Rattle.sled_files.specs.theory.Given.{given_over, sealed_over};
+
+    ghost sealed = { λ f. sealed_over f };
+
+    ghost given = { λ f. given_over f };
+}
+
+/// Does nothing. It tells that whatever a crash leaves of the two files now is right for the store: a state that `Pages` allows, its
+/// mark or one that a disk refused, and limits below which are all page numbers and versions that were given.
+///
+/// ```
+/// law_lasts(&store); // From here on a proof knows what a crash may leave now.
+/// ```
+pub fn law_lasts<D: Disk>(store: &FilePages<D>)
+    ensures lasts { EachPair (D.may_leave store.now.files.first) (D.may_leave store.now.files.second) (IsLasting (asked_of store.now.asked) store.now.limits (stored_as store.now)) }
+    ensures within { AreWithin store.now.limits (stored_as store.now) }
+{
+    let _ = &store.files;
+}

@@ -1,0 +1,18 @@
+//! What holds of the files of all stores. The functions do nothing: each has a law as its contract.
+ghost use Rattle.sled_files.specs.Laws.{FlushLasts, FlushEnds, NewStoreLasts};
+
+/// Does nothing. While what is pending of a store is added to its files, they are right for the store, with it and without it.
+pub fn law_flush_lasts()
+    ensures { FlushLasts }
+{}
+
+/// Does nothing. Once it is added, nothing is pending of the flushed store.
+pub fn law_flush_ends()
+    ensures { FlushEnds }
+{}
+
+/// Does nothing. While the first file of a new store is begun, a crash leaves files of a store that is still to be made, or the new one.
+#[tactic(auto, using(crate::proofs::Beginning::new_store_lasts))]
+pub fn law_new_store_lasts()
+    ensures { NewStoreLasts }
+{}

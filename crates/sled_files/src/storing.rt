@@ -1,0 +1,63 @@
+//! How the files of a store are added to, and why that is refused.
+ghost use Rattle.std.specs.Prelude.{◌≡◌, ◌⊎◌, List, IfErr, OnOk, OnErr, true, false};
+ghost use Rattle.sled_store.specs.Faults.{IsFault};
+ghost use Rattle.sled_bytes.specs.declared.change.Change.{Change};
+ghost use Rattle.sled_files.specs.Change.{Durable, changed_all};
+ghost use Rattle.sled_files.specs.Files.{IsReady, KeepsTime, LeavesPairs, AreForEither};
+ghost use Rattle.sled_files.specs.Pending.{Spells};
+
+use crate::two_files::TwoFiles;
+use sled_disk::{Disk, DiskError};
+use sled_nodes::{Error, Fault, Result};
+
+// The codes of the faults of the files, beside those of the pages in memory: a disk is full, it failed in another way or did so before.
+const FULL: u32 = 4;
+
+const FAILED: u32 = 5;
+
+/// A fault, while faults can be counted.
+pub fn fault(faults: &mut u64, code: u32) -> Error
+    ensures { IsFault faults.old faults.new result }
+{
+    if *faults == u64::MAX {
+        return Error::NoMemory;
+    }
+    *faults += 1;
+    Error::Io(Fault(code))
+}
+
+// What a refusal of the files comes to.
+fn refusal(faults: &mut u64, e: DiskError) -> Error
+    ensures { IsFault faults.old faults.new result }
+{
+    match e {
+        DiskError::NoMemory => Error::NoMemory,
+        DiskError::Full => fault(faults, FULL),
+        DiskError::Failed => fault(faults, FAILED),
+    }
+}
+
+/// Adds changes to the files, and does nothing where there is none. Once a disk refused a call, the files stay as they are.
+pub fn add<D: Disk>(files: &mut TwoFiles<D>, faults: &mut u64, payload: &[u8]) -> Result<()>
+    ensures ready { OnOk result ((d : Durable) (changes : List Change) → IsReady D.seen D.may_leave files.old d → Spells payload.now changes → IsReady D.seen D.may_leave files.new (changed_all changes d)) }
+    ensures any_moment { (d : Durable) (changes : List Change) → IsReady D.seen D.may_leave files.old d → Spells payload.now changes → LeavesPairs D.moment D.left_since D.may_leave files.old files.new (AreForEither d (changed_all changes d)) }
+    ensures first { KeepsTime D.moment D.left_since D.may_leave files.old.first }
+    ensures second { KeepsTime D.moment D.left_since D.may_leave files.old.second }
+    ensures over { files.old.failed ≡ true → files.new ≡ files.old }
+    ensures up { OnOk result (files.old.failed ≡ false) }
+    ensures same { OnOk result (faults.new ≡ faults.old) }
+    ensures fault { IfErr result (λ e. IsFault faults.old faults.new e) }
+    ensures err { OnErr result ((files.new ≡ files.old) ⊎ (files.new.failed ≡ true)) }
+{
+    files.law_time();
+    if files.failed() {
+        return Err(fault(faults, FAILED));
+    }
+    if payload.is_empty() {
+        return Ok(());
+    }
+    match files.append(payload) {
+        Ok(()) => Ok(()),
+        Err(e) => Err(refusal(faults, e)),
+    }
+}

@@ -1,0 +1,240 @@
+//! Two files of which one counts, and how what they stand for changes.
+ghost use Rattle.std.specs.Prelude.{◌≡◌, ℕ, ◌+◌, ◌<◌, ◌^◌, List, length, true, false, [], ◌∷◌, ◌++◌, IfOk, IfErr, OnOk, Err};
+ghost use Rattle.sled_disk.specs.Disk.{Only, LeavesOnly, HasCause};
+ghost use Rattle.sled_disk.specs.declared.disk.DiskError.TheVariants.{Failed};
+ghost use Rattle.sled_bytes.specs.declared.change.Change.{Change};
+ghost use Rattle.sled_files.specs.Change.{Durable, nothing_yet, changed_all};
+ghost use Rattle.sled_log.specs.Log.{IsLog};
+ghost use Rattle.sled_log.specs.Append.{IsBlockFor, IsBeforeOrAfter};
+ghost use Rattle.sled_files.specs.Standing.{StandsAt, IsBegun};
+ghost use Rattle.sled_files.specs.Pending.{Spells};
+ghost use Rattle.sled_files.specs.Files.{picked, KeepsTime};
+ghost use Rattle.sled_files.specs.theory.Begun.{IsFirstBlock};
+
+use crate::begin::{begin_with, first_block};
+use sled_disk::{Disk, DiskError, Result, law_counts_now, law_only_now};
+use sled_log::{append, block_of};
+use std::alloc::Global;
+use std::marker::Model;
+
+// The length from which on no log grows.
+const LONGEST: usize = 0x4000_0000_0000_0000;
+
+// Hands the laws of both disks on.
+fn laws_of<D: Disk>(first: &D, second: &D)
+    ensures first { KeepsTime D.moment D.left_since D.may_leave first.now }
+    ensures second { KeepsTime D.moment D.left_since D.may_leave second.now }
+{
+    law_counts_now(first);
+    law_only_now(first);
+    law_counts_now(second);
+    law_only_now(second);
+}
+
+// Adds a block to the log of the file that counts.
+fn append_to_one<D: Disk>(
+    first: &mut D,
+    second: &mut D,
+    is_second: bool,
+    gate: usize,
+    block: &[u8],
+) -> Result<()>
+    requires place { gate < length (D.seen (picked is_second first.old second.old)) }
+    requires small { gate < 2 ^ 62 }
+    requires on_disk { Only (D.seen (picked is_second first.old second.old)) (D.may_leave (picked is_second first.old second.old)) }
+    ensures other { picked is_second second.new first.new ≡ picked is_second second.old first.old }
+    ensures durable { OnOk result (Only (D.seen (picked is_second first.new second.new)) (D.may_leave (picked is_second first.new second.new))) }
+    ensures place { OnOk result (gate + length block.now < length (D.seen (picked is_second first.new second.new))) }
+    ensures next { OnOk result ((b : IsBlockFor (D.seen (picked is_second first.old second.old)) gate block.now) → IsLog b.digest (D.seen (picked is_second first.new second.new)) (b.payloads ++ b.payload ∷ []) (gate + length block.now)) }
+    ensures any_moment { (b : IsBlockFor (D.seen (picked is_second first.old second.old)) gate block.now) → LeavesOnly D.moment D.left_since (picked is_second first.old second.old) (picked is_second first.new second.new) (IsBeforeOrAfter b) }
+    ensures cause { HasCause (D.faults (picked is_second first.old second.old)) (D.faults (picked is_second first.new second.new)) result }
+{
+    if is_second {
+        append(second, gate, block)
+    } else {
+        append(first, gate, block)
+    }
+}
+
+// Begins the other file anew.
+fn begin_other<D: Disk>(first: &mut D, second: &mut D, is_second: bool, block: &[u8]) -> Result<()>
+    requires on_disk { Only (D.seen (picked is_second second.old first.old)) (D.may_leave (picked is_second second.old first.old)) }
+    ensures one { picked is_second first.new second.new ≡ picked is_second first.old second.old }
+    ensures stands { OnOk result ((generation : ℕ) (changes : List Change) → IsFirstBlock block.now generation changes → StandsAt (D.seen (picked is_second second.new first.new)) (length block.now) generation (changed_all changes nothing_yet)) }
+    ensures place { OnOk result (length block.now < length (D.seen (picked is_second second.new first.new))) }
+    ensures durable { OnOk result (Only (D.seen (picked is_second second.new first.new)) (D.may_leave (picked is_second second.new first.new))) }
+    ensures any_moment { (generation : ℕ) (changes : List Change) → IsFirstBlock block.now generation changes → LeavesOnly D.moment D.left_since (picked is_second second.old first.old) (picked is_second second.new first.new) (IsBegun (D.seen (picked is_second second.old first.old)) generation (changed_all changes nothing_yet)) }
+    ensures cause { HasCause (D.faults (picked is_second second.old first.old)) (D.faults (picked is_second second.new first.new)) result }
+{
+    if is_second {
+        begin_with(first, block)
+    } else {
+        begin_with(second, block)
+    }
+}
+
+/// Two files of which one counts. It stands for the changes that were added to it, the other one for nothing or for what the store was
+/// earlier. Once a disk refused a call, nothing is known of its file but what a crash may leave, so all calls are refused from then on.
+#[derive(Drop)]
+pub struct TwoFiles<D: Disk> {
+    alloc: Global,
+    first: D,
+    second: D,
+    is_second: bool,
+    gate: usize,
+    generation: u64,
+    failed: bool,
+}
+
+impl<D: Disk> Model for TwoFiles<D> {
+    ghost use Rattle.sled_files.specs.Files.{Files, IsKept};
+
+    ghost Value = { Files D };
+
+    ghost view = { λ f. record { first = f.first; second = f.second; is_second = f.is_second; gate = f.gate; generation = f.generation; failed = f.failed } };
+
+    ghost invariant = { λ f. IsKept D.seen D.may_leave (record { first = f.first; second = f.second; is_second = f.is_second; gate = f.gate; generation = f.generation; failed = f.failed }) };
+}
+
+impl<D: Disk> TwoFiles<D> {
+    ghost use Rattle.sled_files.specs.Files.{Files, IsReady, LeavesPairs, AreForEither, IsRefused, faults_in, one_of, other_of};
+
+    /// Two files as they were opened: the one that counts, where the closed gate of its log is, and its generation.
+    ///
+    /// ```
+    /// let mut first = MemoryDisk::new(alloc, Vec::new(alloc))?;
+    /// let second = MemoryDisk::new(alloc, Vec::new(alloc))?;
+    /// let gate = begin_file(alloc, &mut first, 1, &[])?;
+    /// let files = TwoFiles::new(alloc, first, second, false, gate, 1);
+    /// ```
+    pub fn new(
+        alloc: Global,
+        first: D,
+        second: D,
+        is_second: bool,
+        gate: usize,
+        generation: u64,
+    ) -> TwoFiles<D>
+        requires first_only { Only (D.seen first) (D.may_leave first) }
+        requires second_only { Only (D.seen second) (D.may_leave second) }
+        requires place { gate < length (D.seen (picked is_second first second)) }
+        ensures { result ≡ record { first = first; second = second; is_second = is_second; gate = gate; generation = generation; failed = false } }
+    {
+        TwoFiles {
+            alloc,
+            first,
+            second,
+            is_second,
+            gate,
+            generation,
+            failed: false,
+        }
+    }
+
+    /// Whether a disk refused a call, so that all calls are refused from then on.
+    ///
+    /// ```
+    /// let is_over = files.failed();
+    /// ```
+    pub fn failed(&self) -> bool
+        ensures { result ≡ self.now.failed }
+    {
+        self.failed
+    }
+
+    /// Does nothing. It hands the laws of both disks on.
+    ///
+    /// ```
+    /// files.law_time(); // From here on a proof knows what a crash since this moment may leave of each file: what one may leave now.
+    /// ```
+    pub fn law_time(&self)
+        ensures first { KeepsTime D.moment D.left_since D.may_leave self.now.first }
+        ensures second { KeepsTime D.moment D.left_since D.may_leave self.now.second }
+    {
+        laws_of(&self.first, &self.second);
+    }
+
+    /// How long the log is that counts, in bytes.
+    ///
+    /// ```
+    /// let is_long = files.len() > 4_000_000;
+    /// ```
+    pub fn len(&self) -> usize
+        ensures { result ≡ self.now.gate }
+    {
+        self.gate
+    }
+
+    /// Adds changes to those for which the files stand, as one block of the log that counts, and brings them to the disk. At any
+    /// moment a crash leaves files that stand for what they stood for, or for that with all of the changes. Refused with `NoMemory`
+    /// or, where the log would be too long, `Full`, and then nothing changed; by the disk, and then all calls are refused from then
+    /// on, with `Failed`.
+    ///
+    /// ```
+    /// files.append(&[5, 6])?; // A group begins, and ends. No crash takes it back.
+    /// ```
+    pub fn append(&mut self, payload: &[u8]) -> Result<()>
+        ensures ready { OnOk result ((d : Durable) (changes : List Change) → IsReady D.seen D.may_leave self.old d → Spells payload.now changes → IsReady D.seen D.may_leave self.new (changed_all changes d)) }
+        ensures any_moment { (d : Durable) (changes : List Change) → IsReady D.seen D.may_leave self.old d → Spells payload.now changes → LeavesPairs D.moment D.left_since D.may_leave self.old self.new (AreForEither d (changed_all changes d)) }
+        ensures other { other_of self.new ≡ other_of self.old }
+        ensures calm { OnOk result (faults_in D.faults self.new ≡ faults_in D.faults self.old) }
+        ensures over { self.old.failed ≡ true → (result ≡ Err Failed) × (self.new ≡ self.old) }
+        ensures err { IfErr result (IsRefused D.faults (2 ^ 62 < self.old.gate + 17 + length payload.now) self.old self.new) }
+    {
+        if self.failed {
+            return Err(DiskError::Failed);
+        }
+        laws_of(&self.first, &self.second);
+        let block = block_of(self.alloc, payload)?;
+        if LONGEST.saturating_sub(self.gate) < block.len() {
+            return Err(DiskError::Full);
+        }
+        self.failed = true;
+        let added = append_to_one(
+            &mut self.first,
+            &mut self.second,
+            self.is_second,
+            self.gate,
+            &block,
+        );
+        laws_of(&self.first, &self.second);
+        added?;
+        self.gate += block.len();
+        self.failed = false;
+        Ok(())
+    }
+
+    /// Makes the files stand for these changes alone: begins the other file anew, of the next generation, and from then on that one
+    /// counts. At any moment a crash leaves files that stand for what they stood for, or for the changes. Refused as `append` is,
+    /// with `Full` where there is no greater generation.
+    ///
+    /// ```
+    /// files.rewrite(&[])?; // All that the store is, in one block: nothing.
+    /// ```
+    pub fn rewrite(&mut self, payload: &[u8]) -> Result<()>
+        ensures ready { OnOk result ((d : Durable) (changes : List Change) → IsReady D.seen D.may_leave self.old d → Spells payload.now changes → IsReady D.seen D.may_leave self.new (changed_all changes nothing_yet)) }
+        ensures any_moment { (d : Durable) (changes : List Change) → IsReady D.seen D.may_leave self.old d → Spells payload.now changes → LeavesPairs D.moment D.left_since D.may_leave self.old self.new (AreForEither d (changed_all changes nothing_yet)) }
+        ensures one { OnOk result (other_of self.new ≡ one_of self.old) }
+        ensures calm { OnOk result (faults_in D.faults self.new ≡ faults_in D.faults self.old) }
+        ensures over { self.old.failed ≡ true → (result ≡ Err Failed) × (self.new ≡ self.old) }
+        ensures err { IfErr result (IsRefused D.faults (self.old.generation + 1 ≡ 2 ^ 64) self.old self.new) }
+    {
+        if self.failed {
+            return Err(DiskError::Failed);
+        }
+        laws_of(&self.first, &self.second);
+        let Some(generation) = self.generation.checked_add(1) else {
+            return Err(DiskError::Full);
+        };
+        let block = first_block(self.alloc, generation, payload)?;
+        self.failed = true;
+        let begun = begin_other(&mut self.first, &mut self.second, self.is_second, &block);
+        laws_of(&self.first, &self.second);
+        begun?;
+        self.is_second = !self.is_second;
+        self.gate = block.len();
+        self.generation = generation;
+        self.failed = false;
+        Ok(())
+    }
+}
