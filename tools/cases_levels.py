@@ -77,10 +77,11 @@ def a_batch_of_two_thousand_pairs_makes_four_levels(s):
 @crowd_case
 def a_call_reads_few_more_pages_than_there_are_levels(s):
     """A tree of 100,000 random keys has five levels, of which a get reads a page each, and to open reads none. An insert splits
-    each level once at most, and after each split it reads its way from the root anew: 5 + 5 + 4 + 3 + 2 + 1. All inserts
-    together read less than half a page more each than there are levels."""
+    each level once at most, and after each split it reads its way from the root anew: 5 + 5 + 4 + 3 + 2 + 1; before that it was
+    tried at once, up to a page that is too long, the fourth at most in such a call. All inserts together read less than 0.6
+    pages more each than there are levels."""
     s.line('reads', 'reads 0')
-    s.line('load 100000 20 549999', 'yes')
+    s.line('load 100000 24 559999', 'yes')
     s.line('find 2000 5', 'yes')
     levels = s.ask('pages')
     expect(levels[-1] == 'end 5', levels)

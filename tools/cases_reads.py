@@ -154,7 +154,7 @@ def reads_count_few_pages(s):
 def reads_of_a_hundred_thousand_keys(s):
     """In a tree of 100,000 random keys a read of a key reads one page of each of five levels. A count of all pairs reads each leaf
     once and one way down; the pairs of a range read no more than their leaves and one way down."""
-    s.line('load 100000 20 549999', 'yes')
+    s.line('load 100000 24 559999', 'yes')
     before = s.store.reads
     levels, leaves = len(s.shell.levels()), len(s.shell.levels()[-1])
     s.store.reads = before

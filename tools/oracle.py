@@ -522,6 +522,24 @@ def act(store, tree, call, view):
     yield
 
 
+def try_at_once(store, tree, call):
+    """A call on a key is tried at once, where nobody is told: up to a page where something is to be repaired, or which cannot be read.
+    The pages up to there are read again by the call in flight; where there is none, the call reads each once."""
+    if call[0] in SCANS or call[0] != 'get' and any(call[1].startswith(queue.prefix) for queue in tree.queues):
+        return
+    target, pid, first, reads = (True, call[1]), store.roots[tree.name], True, 1
+    while True:
+        view = None if pid in store.unreadable else store.pages.get(pid)
+        node = view and view.node
+        is_clean = node and not (node.merging or node.child is not None or node.should_split() or node.ends_within(target))
+        if not is_clean or node.should_merge() and not first:
+            store.reads += reads
+            return
+        if node.leaf:
+            return
+        (pid, first), reads = node.pointer(target), reads + 1
+
+
 def is_settled(node):
     """Whether nothing is to be repaired at a leaf, and it need not merge either."""
     return not node.merging and node.child is None and not node.should_split() and not node.should_merge()
@@ -1213,7 +1231,7 @@ class Shell:
             if words[0] > 999999:
                 raise BadLine(f'`{words[0]}` is more than 999999')
             for number in range(1, words[0] + 1):
-                self.advance(self.flight(self.there(self.handle), 'insert', b'k%06d' % number, b'%d' % number), True)
+                self.at_once(self.there(self.handle), 'insert', b'k%06d' % number, b'%d' % number)
             return [f'filled {words[0]}']
         if name == 'dump' and words:
             maps = self.maps()
@@ -1239,7 +1257,7 @@ class Shell:
         if name in ('update', 'fetch'):
             return [self.fetched(tree, name, *words)]
         if name in POINT:
-            return [self.advance(self.flight(tree, name, *words), True)]
+            return [self.at_once(tree, name, *words)]
         if name.partition('-')[0] in LOOKS:
             return self.looked(tree, name, *words)
         if name in POPS:
@@ -1292,7 +1310,7 @@ class Shell:
         """Reads a value, and swaps what is made of it for it. It answers the new value, or the one that was read."""
         old = look(self.store, tree, (True, key)).get(key)
         new = HOWS[how[0]](old, *how[1:])
-        self.advance(self.flight(tree, 'cas', key, old, new), True)
+        self.at_once(tree, 'cas', key, old, new)
         return f'value {word(new if name == "update" else old)}'
 
     def subscribed(self, name, number):
@@ -1309,6 +1327,12 @@ class Shell:
     def flight(self, tree, *call):
         """A call in flight: its steps, how many of them went on, and its tree."""
         return [fly(self.store, tree, call), 0, tree]
+
+    def at_once(self, tree, *call):
+        """Makes a call from its begin to its end, or a scan to its first pair."""
+        if not self.closed and self.trees.get(tree.name) is tree:
+            try_at_once(self.store, tree, call)
+        return self.advance(self.flight(tree, *call), True)
 
     def open_tree(self, name):
         """The tree of this name, which is made where there is none."""
@@ -1354,7 +1378,7 @@ class Shell:
             for key, value in pairs:
                 if look(self.store, tree, (True, key)).get(key) is not None:
                     raise Refused(2, PRESENT)
-                self.advance(self.flight(tree, 'insert', key, value), True)
+                self.at_once(tree, 'insert', key, value)
                 self.passes()
 
     def passes(self):
@@ -1425,7 +1449,7 @@ class Shell:
             all = Range(self.store, tree, None, None)
             pair = all.search_back() if name == 'pop-max' else all.search()
             if pair:
-                self.advance(self.flight(tree, 'remove', pair[0]), True)
+                self.at_once(tree, 'remove', pair[0])
                 self.passes()
             if name != 'clear':
                 return ['pair ' + (f'{word(pair[0])} {word(pair[1])}' if pair else '-')]
@@ -1472,7 +1496,7 @@ class Shell:
     def reads_of(self, *call):
         """How many pages a call reads."""
         self.reads()
-        self.advance(self.flight(self.there(self.handle), *call), True)
+        self.at_once(self.there(self.handle), *call)
         return self.store.reads
 
     def perform(self, step):
