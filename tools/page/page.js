@@ -89,15 +89,22 @@ function place() {
 }
 
 function begin(scene) {
-  remembered(scene.name);
   slid = null;
   start(scene.parts[0]);
 }
 
-function remembered(name) {
-  if (name) sessionStorage.setItem("scene", name);
-  return scenes.find((scene) => scene.name === sessionStorage.getItem("scene"));
+// The part of a scene where one was last; a part of which some lines were run counts as well.
+function remember(here) {
+  sessionStorage.setItem("left", JSON.stringify([here.scene.name, here.part]));
 }
+
+function remembered() {
+  const [name, part] = JSON.parse(sessionStorage.getItem("left") || "[]");
+  const scene = scenes.find((it) => it.name === name);
+  return scene && scene.parts[part] ? { scene, part } : null;
+}
+
+const upTo = (scene, part) => scene.parts.slice(0, part + 1).flat();
 
 function next() {
   const here = place();
@@ -109,9 +116,10 @@ function next() {
 function back() {
   const here = place();
   if (!here) {
-    if (remembered()) begin(remembered());
+    const left = remembered();
+    if (left) start(upTo(left.scene, left.part));
   } else if (here.part > 0 || !here.isWhole) {
-    start(here.scene.parts.slice(0, Math.max(here.part, 1)).flat());
+    start(upTo(here.scene, Math.max(here.part - 1, 0)));
   }
 }
 
@@ -123,14 +131,16 @@ function saying(part) {
 
 function showStory() {
   const here = place();
-  const scene = here ? here.scene : remembered();
+  if (here) remember(here);
+  const left = here || remembered();
   for (const button of $("scenes").querySelectorAll("button")) {
-    if (here && button.dataset.name === scene.name) button.setAttribute("aria-current", "true");
+    if (here && button.dataset.name === here.scene.name) button.setAttribute("aria-current", "true");
     else button.removeAttribute("aria-current");
   }
   $("story-title").textContent = here ? here.scene.title : "On your own";
-  fill("story-text", here ? saying(here.scene.parts[here.part]) : ["You left the scene, and the machine is yours: begin calls, step them in any order, flush, crash. " + (scene ? "Back begins the scene again." : "")]);
-  $("back").disabled = here ? here.part === 0 && here.isWhole : !scene;
+  fill("story-text", here ? saying(here.scene.parts[here.part]) : ["The machine is yours: begin calls, step them in any order, abandon them, flush, crash. " + (left ? `You left the scene “${left.scene.title}” at its part ${left.part + 1}, and Back goes there again.` : "")]);
+  $("back").disabled = here ? here.part === 0 && here.isWhole : !left;
+  $("back-to").textContent = here || !left ? "" : ` to part ${left.part + 1}`;
   const isLast = here && here.isWhole && here.part === here.scene.parts.length - 1;
   $("next").disabled = !here || isLast;
   $("story-place").textContent = here ? `Part ${here.part + 1} of ${here.scene.parts.length}` + (isLast ? ": the end. Try another scene, or go on by yourself." : here.isWhole ? "" : ", not to its end") : "";
