@@ -5,6 +5,7 @@
 mod disks;
 mod files;
 mod logs;
+mod openings;
 mod report;
 
 use report::Report;
@@ -15,6 +16,7 @@ fn main(rt: HostRuntime) -> ExitCode {
     disks::tell(&report);
     logs::tell(&report);
     files::tell(&report);
+    openings::tell(&report);
     if report.has_failed() {
         ExitCode::FAILURE
     } else {

@@ -1,4 +1,10 @@
 pub mod Crashing
+pub mod Replaying
+pub mod Finishing
+pub mod Headers
+pub mod Finding
+pub mod Making
+pub mod Choosing
 pub mod Adding
 pub mod Beginning
 pub mod Pairs
@@ -10,3 +16,5 @@ pub mod Added
 pub mod Numbers
 pub mod Calls
 pub mod Flushing
+pub mod Readying
+pub mod Reopening

@@ -4,6 +4,7 @@ pub mod Standing
 pub mod Lasting
 pub mod Pending
 pub mod Files
+pub mod Opening
 pub mod Stored
 pub mod Laws
 pub mod theory

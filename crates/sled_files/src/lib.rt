@@ -6,12 +6,18 @@
 
 mod begin;
 mod file_pages;
+mod files;
+mod found;
 mod laws;
+mod open;
+mod opening;
+mod replay;
 mod spelled;
 mod storing;
 mod two_files;
 
 pub use begin::begin_file;
 pub use file_pages::{FilePages, law_lasts};
+pub use found::OpenError;
 pub use laws::{law_flush_ends, law_flush_lasts, law_new_store_lasts};
 pub use two_files::TwoFiles;

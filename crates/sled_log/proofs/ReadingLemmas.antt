@@ -20,7 +20,7 @@ digest_small p = mod_below _ (2 ^ 64) (omega arith)
 abbrev pub AreBytes : List ℕ → Type 0
 AreBytes l = (i : ℕ) → get_or l i 0 < 256
 
-bytes-take : (n : ℕ) (l : List ℕ) → AreBytes l → AreBytes (take n l)
+pub bytes-take : (n : ℕ) (l : List ℕ) → AreBytes l → AreBytes (take n l)
 bytes-take zero l small i = omega arith
 bytes-take (suc n) [] small i = omega arith
 bytes-take (suc n) (x ∷ l) small zero = small 0

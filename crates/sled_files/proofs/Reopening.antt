@@ -1,0 +1,96 @@
+-- What two files are opened to is sound as a store in two files.
+use Rattle.std.proofs.Common.{◌≡◌, inl, inr, ℕ, ◌<◌, List, [], refl, sym, ◌∙◌, ap, subst, arith}
+use Rattle.std.specs.Prelude.{true, None, nat_lt, ◌&&◌}
+use Rattle.sled_store.specs.Store.{Store}
+use Rattle.sled_pages.specs.Memory.{store_of, empty_store}
+use Rattle.sled_files.specs.declared.replay.Made.{Made}
+use Rattle.sled_files.specs.Change.{Durable, nothing_yet}
+use Rattle.sled_files.specs.Standing.{AreFor, AreBlank}
+use Rattle.sled_files.specs.Files.{Files, IsReady}
+use Rattle.sled_files.specs.Lasting.{Limits}
+use Rattle.sled_files.specs.Stored.{Stored, stored_as, over, AreWithin, Stands}
+use Rattle.sled_files.specs.Opening.{IsReopened, OpensTo}
+use Rattle.sled_files.specs.theory.Reopened.{Opens}
+use Rattle.sled_files.proofs.Choosing.{blanks_or_store}
+use Rattle.sled_files.proofs.Grows.{spells_none}
+
+abbrev limits_in : Made → Limits
+limits_in m = record { pids = m.pids; versions = m.versions }
+
+-- the store as it is opened
+abbrev opened_with : {D : Type 0} → Files D → Made → Stored D
+opened_with files m = record { pages = m.pages; files = files; pending = []; mark = (store_of m.pages).mark; limits = limits_in m; asked = None; faults = 0 }
+
+below_limit : (p limit : ℕ) → (nat_lt 0 p && nat_lt p limit) ≡ true → p < limit
+below_limit p limit is = grind arith
+
+version_below : (s : Store) (v limit : ℕ) → s.versions v ≡ nat_lt v limit → s.versions v ≡ true → v < limit
+version_below s v limit below is = let b = sym below ∙ is in grind arith
+
+reopened_over : (d : Durable) (s : Store) → IsReopened d s → IsReopened d (over s.mark 0 s)
+reopened_over d s r = record {
+  base = r.base;
+  recent = r.recent;
+  mark = r.mark;
+  recovered = r.recovered;
+  pids = r.pids;
+  versions = r.versions;
+  actions = r.actions;
+  faults = (let f = r.faults in omega (arith, f));
+  readable = r.readable;
+}
+
+module _ {D : Type 0} (seen : D → List ℕ) (may_leave : D → List ℕ → Type 0) (first second : List ℕ) (files : Files D) (m : Made) where
+  pub stands_opened : Opens seen may_leave first second files m → Stands seen may_leave (limits_in m) (store_of m.pages) files []
+  stands_opened (inl o) = record {
+    durable = o.durable;
+    ready = o.ready;
+    pends = record {
+      base = sym o.reopened.base;
+      mark = sym o.reopened.mark;
+      limited = record { pids = (let e = o.pids in omega (arith, e)); versions = (let e = o.versions in omega (arith, e)) };
+      changes = [];
+      spells = spells_none;
+      acts = sym o.reopened.recent;
+      aside = λ whole. refl;
+    };
+  }
+  stands_opened (inr n) = record {
+    durable = nothing_yet;
+    ready = n.ready;
+    pends = record {
+      base = sym (ap (λ (s : Store). s.base) n.empty);
+      mark = sym (ap (λ (s : Store). s.mark) n.empty);
+      limited = record { pids = (let e = n.pids in omega (arith, e)); versions = (let e = n.versions in omega (arith, e)) };
+      changes = [];
+      spells = spells_none;
+      acts = sym (ap (λ (s : Store). s.recent) n.empty);
+      aside = λ whole. refl;
+    };
+  }
+
+  pub within_opened : Opens seen may_leave first second files m → AreWithin (limits_in m) (store_of m.pages)
+  within_opened (inl o) = record {
+    pids = λ p lt is. (let b = below_limit p o.durable.pids (sym (o.reopened.pids p) ∙ is) in let e = o.pids in omega (arith, b, e));
+    versions = λ v is. (let b = version_below (store_of m.pages) v o.durable.versions (o.reopened.versions v) is in let e = o.versions in omega (arith, b, e));
+  }
+  within_opened (inr n) = record {
+    pids = λ p lt is. absurd (let e = sym (ap (λ (s : Store). s.pids p) n.empty) ∙ is in cc);
+    versions = λ v is. absurd (let e = sym (ap (λ (s : Store). s.versions v) n.empty) ∙ is in cc);
+  }
+
+  opens_as : Opens seen may_leave first second files m → OpensTo seen may_leave first second files (over (store_of m.pages).mark 0 (store_of m.pages))
+  opens_as (inl o) = inl (record { durable = o.durable; of_store = o.of_store; alone = o.alone; ready = o.ready; reopened = reopened_over o.durable (store_of m.pages) o.reopened })
+  opens_as (inr n) = inr (record { blanks = n.blanks; ready = n.ready; empty = ap (λ (s : Store). over s.mark 0 s) n.empty })
+
+  pub opens_to : Opens seen may_leave first second files m → (f : Stored D) → f ≡ opened_with files m → OpensTo seen may_leave first second f.files (stored_as f)
+  opens_to o f is = subst (λ (x : Stored D). OpensTo seen may_leave first second x.files (stored_as x)) (sym is) (opens_as o)
+
+module _ {D : Type 0} (seen : D → List ℕ) (may_leave : D → List ℕ → Type 0) (first second : List ℕ) (files : Files D) (s : Store) where
+  pub recovers_each : OpensTo seen may_leave first second files s → (d : Durable) → AreFor first second d → IsReady seen may_leave files d × IsReopened d s
+  recovers_each (inl o) d a = (subst (λ (x : Durable). IsReady seen may_leave files x) (sym (o.alone d a)) o.ready, subst (λ (x : Durable). IsReopened x s) (sym (o.alone d a)) o.reopened)
+  recovers_each (inr n) d a = absurd (blanks_or_store n.blanks a)
+
+  pub begins_new : OpensTo seen may_leave first second files s → AreBlank first second → IsReady seen may_leave files nothing_yet × (s ≡ empty_store)
+  begins_new (inl o) blanks = absurd (blanks_or_store blanks o.of_store.stand)
+  begins_new (inr n) blanks = (n.ready, n.empty)

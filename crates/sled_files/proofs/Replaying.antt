@@ -1,0 +1,189 @@
+-- What is replayed, change by change.
+use Rattle.std.proofs.Common.{◌≡◌, ℕ, Bor, map, drop, get_or, length, arith, ◌+◌, ◌<◌, List, [], ◌∷◌, ◌++◌, refl, sym, ◌∙◌, ap, subst, append_assoc}
+use Rattle.std.specs.Prelude.{Bool, Result, Ok, Err}
+use Rattle.std.specs.List.{All}
+use Rattle.std.proofs.lemmas.List.Elements.{All-nil, All-cons, All-head, All-tail, All-append}
+use Rattle.std.proofs.lemmas.List.{append-nil, drop_more, length-map, get_or-map}
+use Rattle.sled_bytes.specs.declared.change.Change.{Change}
+use Rattle.sled_bytes.specs.declared.refusal.Flaw.{Flaw}
+use Rattle.sled_pages.specs.Rebuild.{Rebuilt}
+use Rattle.sled_files.specs.declared.replay.Replay.{Replay}
+use Rattle.sled_files.specs.declared.replay.Halt.{Halt}
+use Rattle.sled_files.specs.declared.replay.Halt.TheVariants.{NoMemory, Flawed}
+use Rattle.sled_bytes.specs.Reading.{changes_of}
+use Rattle.sled_files.specs.Change.{Durable, nothing_yet, changed, changed_all}
+use Rattle.sled_files.specs.Standing.{joined, all_changes}
+use Rattle.sled_files.specs.theory.Replay.{Numbers, replayed_of, numbers_of, numbers_after, numbers_after_all, HasPlace, is_why_halted, Replays, ReplaysRead, IsReplay, halts}
+use Rattle.sled_files.specs.theory.Chosen.{IsRead, fails}
+
+-- what was replayed, by what is put into the store in the making
+abbrev pub durable_with : Bool → ℕ → ℕ → ℕ → Rebuilt → Durable
+durable_with in_group mark pids versions r = record { state = record { pages = r.pages; roots = r.roots; in_group = in_group }; mark = mark; pids = pids; versions = versions }
+
+abbrev read_ok : List Change → Result (List Change) Flaw
+read_ok changes = Ok changes
+
+-- while changes are replayed: those that are left make of what was replayed what all make of what was there before
+pub record Remains (all left : List Change) (old new : Replay) : Type 0 where
+  pub made : changed_all left (replayed_of new) ≡ changed_all all (replayed_of old)
+  pub numbers : numbers_after_all left (numbers_of new) ≡ numbers_after_all all (numbers_of old)
+  pub placed : All HasPlace left → All HasPlace all
+  pub needs : All HasPlace all → All HasPlace left
+
+pub remains_all : (all left : List Change) (r : Replay) → left ≡ all → Remains all left r r
+remains_all all left r is = record {
+  made = ap (λ (l : List Change). changed_all l (replayed_of r)) is;
+  numbers = ap (λ (l : List Change). numbers_after_all l (numbers_of r)) is;
+  placed = λ h. subst (λ (l : List Change). All HasPlace l) is h;
+  needs = λ h. subst (λ (l : List Change). All HasPlace l) (sym is) h;
+}
+
+module _ {all left : List Change} {old new : Replay} (m : Remains all left old new) where
+  pub remains_less : (c : Change) (rest : List Change) (newer : Replay) → left ≡ c ∷ rest → replayed_of newer ≡ changed c (replayed_of new) → numbers_of newer ≡ numbers_after c (numbers_of new) → HasPlace c → Remains all rest old newer
+  remains_less c rest newer is made numbers place = record {
+    made = ap (changed_all rest) made ∙ ap (λ (l : List Change). changed_all l (replayed_of new)) (sym is) ∙ m.made;
+    numbers = ap (numbers_after_all rest) numbers ∙ ap (λ (l : List Change). numbers_after_all l (numbers_of new)) (sym is) ∙ m.numbers;
+    placed = λ h. m.placed (subst (λ (l : List Change). All HasPlace l) (sym is) (All-cons HasPlace c rest place h));
+    needs = λ h. All-tail HasPlace c rest (subst (λ (l : List Change). All HasPlace l) is (m.needs h));
+  }
+
+  pub remains_none : left ≡ [] → Replays all old new
+  remains_none is = record {
+    made = ap (λ (l : List Change). changed_all l (replayed_of new)) (sym is) ∙ m.made;
+    numbers = ap (λ (l : List Change). numbers_after_all l (numbers_of new)) (sym is) ∙ m.numbers;
+    placed = m.placed (subst (λ (l : List Change). All HasPlace l) (sym is) (All-nil HasPlace));
+  }
+
+  pub remains_halted : (e : Halt) (c : Change) (rest : List Change) → left ≡ c ∷ rest → is_why_halted e c → halts e (Ok all)
+  remains_halted NoMemory c rest is why = tt
+  remains_halted Flawed c rest is why = λ changes same h. why (All-head HasPlace c rest (subst (λ (l : List Change). All HasPlace l) is (m.needs (subst (λ (l : List Change). All HasPlace l) (ok_is changes all same) h))))
+    where
+      ok_is : (a b : List Change) → read_ok b ≡ read_ok a → a ≡ b
+      ok_is a b same = cc
+
+-- what is read of payloads, of which one is read after the other
+
+joined_twice : (front back : List Change) (z : Result (List Change) Flaw) → joined (Ok front) (joined (Ok back) z) ≡ joined (Ok (front ++ back)) z
+joined_twice front back (Ok rest) = ap (λ (l : List Change). Ok l) (sym (append_assoc front back rest))
+joined_twice front back (Err flaw) = refl
+
+-- where both can be read, both are
+pub record AreBoth (x y : Result (List Change) Flaw) (all : List Change) : Type 0 where
+  pub front : List Change
+  pub back : List Change
+  pub front_is : x ≡ Ok front
+  pub back_is : y ≡ Ok back
+  pub all_are : front ++ back ≡ all
+
+pub both_read : (x y : Result (List Change) Flaw) (all : List Change) → joined x y ≡ Ok all → AreBoth x y all
+both_read (Ok front) (Ok back) all is = record { front = front; back = back; front_is = refl; back_is = refl; all_are = cc }
+both_read (Ok front) (Err flaw) all is = absurd (cc)
+both_read (Err flaw) y all is = absurd (cc)
+
+front_all : (P : Change → Type 0) (front back : List Change) → All P (front ++ back) → All P front
+front_all P [] back h = All-nil P
+front_all P (c ∷ front) back h = All-cons P c front (All-head P c (front ++ back) h) (front_all P front back (All-tail P c (front ++ back) h))
+
+back_all : (P : Change → Type 0) (front back : List Change) → All P (front ++ back) → All P back
+back_all P [] back h = h
+back_all P (c ∷ front) back h = back_all P front back (All-tail P c (front ++ back) h)
+
+-- what halts the reading of the first halts that of all
+pub halts_both : (e : Halt) (x y : Result (List Change) Flaw) → halts e x → halts e (joined x y)
+halts_both NoMemory x y why = tt
+halts_both Flawed x y why = λ changes is h. let b = both_read x y changes is in why b.front b.front_is (front_all HasPlace b.front b.back (subst (λ (l : List Change). All HasPlace l) (sym b.all_are) h))
+
+-- and of what comes behind
+pub halts_behind : (e : Halt) (x y : Result (List Change) Flaw) → halts e y → halts e (joined x y)
+halts_behind NoMemory x y why = tt
+halts_behind Flawed x y why = λ changes is h. let b = both_read x y changes is in why b.back b.back_is (back_all HasPlace b.front b.back (subst (λ (l : List Change). All HasPlace l) (sym b.all_are) h))
+
+changed_both : (front more : List Change) (d : Durable) → changed_all more (changed_all front d) ≡ changed_all (front ++ more) d
+changed_both [] more d = refl
+changed_both (c ∷ front) more d = changed_both front more (changed c d)
+
+numbers_both : (front more : List Change) (n : Numbers) → numbers_after_all more (numbers_after_all front n) ≡ numbers_after_all (front ++ more) n
+numbers_both [] more n = refl
+numbers_both (c ∷ front) more n = numbers_both front more (numbers_after c n)
+
+-- these changes were replayed of all payloads, and those that are left are still to come
+pub record Reads (all left : List (List ℕ)) (r : Replay) : Type 0 where
+  pub done : List Change
+  pub comes : joined (Ok done) (all_changes left) ≡ all_changes all
+  pub made : replayed_of r ≡ changed_all done nothing_yet
+  pub numbers : numbers_of r ≡ numbers_after_all done (0, 0)
+  pub placed : All HasPlace done
+
+pub reads_first : (p : List ℕ) (ps : List (List ℕ)) (new next : Replay) → replayed_of new ≡ nothing_yet → numbers_of new ≡ (0, 0) → ReplaysRead (changes_of p) new next → Reads (p ∷ ps) ps next
+reads_first p ps new next none zeros r = record {
+  done = r.changes;
+  comes = ap (λ (x : Result (List Change) Flaw). joined x (all_changes ps)) (sym r.is);
+  made = r.replays.made ∙ ap (changed_all r.changes) none;
+  numbers = r.replays.numbers ∙ ap (numbers_after_all r.changes) zeros;
+  placed = r.replays.placed;
+}
+
+module _ {all left : List (List ℕ)} {old : Replay} (m : Reads all left old) where
+  pub reads_more : (p : List ℕ) (rest : List (List ℕ)) (new : Replay) → left ≡ p ∷ rest → ReplaysRead (changes_of p) old new → Reads all rest new
+  reads_more p rest new is r = record {
+    done = m.done ++ r.changes;
+    comes = sym (joined_twice m.done r.changes (all_changes rest))
+        ∙ ap (λ (x : Result (List Change) Flaw). joined (Ok m.done) (joined x (all_changes rest))) (sym r.is)
+        ∙ ap (λ (l : List (List ℕ)). joined (Ok m.done) (all_changes l)) (sym is)
+        ∙ m.comes;
+    made = r.replays.made ∙ ap (changed_all r.changes) m.made ∙ changed_both m.done r.changes nothing_yet;
+    numbers = r.replays.numbers ∙ ap (numbers_after_all r.changes) m.numbers ∙ numbers_both m.done r.changes (0, 0);
+    placed = All-append HasPlace m.done r.changes m.placed r.replays.placed;
+  }
+
+  pub reads_all : left ≡ [] → IsReplay (all_changes all) old
+  reads_all is = record {
+    changes = m.done;
+    is = sym m.comes ∙ ap (λ (l : List (List ℕ)). joined (Ok m.done) (all_changes l)) is ∙ ap (λ (l : List Change). Ok l) (append-nil m.done);
+    made = m.made;
+    numbers = m.numbers;
+    placed = m.placed;
+  }
+
+  pub reads_halted : (e : Halt) (p : List ℕ) (rest : List (List ℕ)) → left ≡ p ∷ rest → halts e (changes_of p) → halts e (all_changes all)
+  reads_halted e p rest is why = subst (λ (x : Result (List Change) Flaw). halts e x) m.comes (halts_behind e (Ok m.done) (all_changes left) (subst (λ (l : List (List ℕ)). halts e (all_changes l)) (sym is) (halts_both e (changes_of p) (all_changes rest) why)))
+
+-- the bytes of lent payloads from a place on
+pub left_at : (ps : List (Bor (List ℕ))) (i : ℕ) (d : Bor (List ℕ)) → i < length ps → drop i (map (λ p. p.now) ps) ≡ (get_or ps i d).now ∷ drop (i + 1) (map (λ p. p.now) ps)
+left_at ps i d lt =
+    let of : Bor (List ℕ) → List ℕ = λ p. p.now in
+    drop_more (map of ps) i d.now (omega (arith, lt, length-map ps of)) ∙ ap (λ (l : List ℕ). l ∷ drop (i + 1) (map of ps)) (get_or-map of ps i d d.now lt)
+
+-- the same of payloads that are read, and not replayed
+
+-- what cannot be read of the first cannot be read of all
+pub fails_both : (e : Halt) (x y : Result (List Change) Flaw) → fails e x → fails e (joined x y)
+fails_both NoMemory x y why = tt
+fails_both Flawed x y why = λ changes is. let b = both_read x y changes is in why b.front b.front_is
+
+fails_behind : (e : Halt) (x y : Result (List Change) Flaw) → fails e y → fails e (joined x y)
+fails_behind NoMemory x y why = tt
+fails_behind Flawed x y why = λ changes is. let b = both_read x y changes is in why b.back b.back_is
+
+pub record Checks (all left : List (List ℕ)) : Type 0 where
+  pub done : List Change
+  pub comes : joined (Ok done) (all_changes left) ≡ all_changes all
+
+pub checks_first : (p : List ℕ) (ps : List (List ℕ)) → IsRead (changes_of p) → Checks (p ∷ ps) ps
+checks_first p ps r = record { done = r.changes; comes = ap (λ (x : Result (List Change) Flaw). joined x (all_changes ps)) (sym r.is) }
+
+module _ {all left : List (List ℕ)} (m : Checks all left) where
+  pub checks_more : (p : List ℕ) (rest : List (List ℕ)) → left ≡ p ∷ rest → IsRead (changes_of p) → Checks all rest
+  checks_more p rest is r = record {
+    done = m.done ++ r.changes;
+    comes = sym (joined_twice m.done r.changes (all_changes rest))
+        ∙ ap (λ (x : Result (List Change) Flaw). joined (Ok m.done) (joined x (all_changes rest))) (sym r.is)
+        ∙ ap (λ (l : List (List ℕ)). joined (Ok m.done) (all_changes l)) (sym is)
+        ∙ m.comes;
+  }
+
+  pub checks_all : left ≡ [] → IsRead (all_changes all)
+  checks_all is = record { changes = m.done; is = sym m.comes ∙ ap (λ (l : List (List ℕ)). joined (Ok m.done) (all_changes l)) is ∙ ap (λ (l : List Change). Ok l) (append-nil m.done) }
+
+  pub checks_failed : (e : Halt) (p : List ℕ) (rest : List (List ℕ)) → left ≡ p ∷ rest → fails e (changes_of p) → fails e (all_changes all)
+  checks_failed e p rest is why = subst (λ (x : Result (List Change) Flaw). fails e x) m.comes (fails_behind e (Ok m.done) (all_changes left) (subst (λ (l : List (List ℕ)). fails e (all_changes l)) (sym is) (fails_both e (changes_of p) (all_changes rest) why)))

@@ -1,0 +1,18 @@
+use Rattle.sled_files.specs.Stored.{stored_as}
+use Rattle.sled_files.proofs.Reopening.{stands_opened, within_opened, opens_to, recovers_each, begins_new}
+use Rattle.sled_files.proofs.file_pages.FilePages.open.Goals as goal
+
+pub new-requires-clause-stands : goal.new-requires-clause-stands
+new-requires-clause-stands g c = stands_opened g.D.Disk.seen g.D.Disk.may_leave (g.D.Disk.seen c.args.first) (g.D.Disk.seen c.args.second) c.in-Ok.files c.in-Ok.store c.in-Ok.ensures.ok
+
+pub new-requires-clause-within : goal.new-requires-clause-within
+new-requires-clause-within g c = within_opened g.D.Disk.seen g.D.Disk.may_leave (g.D.Disk.seen c.args.first) (g.D.Disk.seen c.args.second) c.in-Ok.files c.in-Ok.store c.in-Ok.ensures.ok
+
+pub returns-in-Ok-clause-opens : goal.returns-in-Ok-clause-opens
+returns-in-Ok-clause-opens g c = opens_to g.D.Disk.seen g.D.Disk.may_leave (g.D.Disk.seen c.args.first) (g.D.Disk.seen c.args.second) c.in-Ok.files c.in-Ok.store c.in-Ok.ensures.ok c.new.result c.new.ensures
+
+pub returns-in-Ok-clause-recovers : goal.returns-in-Ok-clause-recovers
+returns-in-Ok-clause-recovers g c = recovers_each g.D.Disk.seen g.D.Disk.may_leave (g.D.Disk.seen c.args.first) (g.D.Disk.seen c.args.second) c.new.result.files (stored_as c.new.result) (returns-in-Ok-clause-opens g c)
+
+pub returns-in-Ok-clause-begins : goal.returns-in-Ok-clause-begins
+returns-in-Ok-clause-begins g c = begins_new g.D.Disk.seen g.D.Disk.may_leave (g.D.Disk.seen c.args.first) (g.D.Disk.seen c.args.second) c.new.result.files (stored_as c.new.result) (returns-in-Ok-clause-opens g c)

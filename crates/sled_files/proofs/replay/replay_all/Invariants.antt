@@ -1,0 +1,6 @@
+use Rattle.std.proofs.Common.{◌∷◌, map, drop}
+use Rattle.sled_files.proofs.Replaying.{Reads}
+use Rattle.sled_files.proofs.replay.replay_all.Given as goal
+
+abbrev pub invariant-loop-payload : goal.invariant-loop-payload
+invariant-loop-payload l = Reads (l.first ∷ map (λ p. p.now) l.others) (drop l.payload-index (map (λ p. p.now) l.others)) l.replay
