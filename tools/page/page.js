@@ -40,9 +40,11 @@ function tell(why) {
 }
 
 const isNarrow = () => window.innerWidth < 700;
+// Whether each page is to say how the store keeps it.
+let isKeptShown = false;
 
 async function post(path, asked) {
-  const value = { ...asked, narrow: isNarrow() };
+  const value = { ...asked, narrow: isNarrow(), kept: isKeptShown };
   const answer = await fetch(path, { method: "POST", headers: { "Content-Type": "application/json", "X-Token": TOKEN }, body: JSON.stringify(value) });
   const told = await answer.json();
   if (!answer.ok) throw new Error(told.why);
@@ -167,12 +169,31 @@ function svg(text, into) {
   into.scrollLeft = left + width / 2 - it.getBoundingClientRect().left - room / 2;
 }
 
-// What the lines that were run last answered, and what they changed.
+// What an answer means, where that is not plain.
+function meant(answer) {
+  const flushed = /^flushed (\d+)$/.exec(answer);
+  if (flushed) return ` (${count(Number(flushed[1]), "action")} became durable)`;
+  return { "old -": " (nothing stood there before)", "value -": " (nothing stands there)", moved: " (it is not decided yet)" }[answer] || "";
+}
+
+// What the lines that were run last answered, and what they changed. Those with which a scene begins are for who asks.
 function did() {
+  const here = place();
+  if (!here || here.part || !here.isWhole) return didLast();
+  const inside = make("p", here.scene.parts[0].flatMap((line, at) => (isComment(line) ? [] : [answered(state.lines[at]), make("br")]).flat()));
+  return [make("details", [make("summary", "The lines that made it"), inside], { class: "what" })];
+}
+
+function answered(it) {
+  const said = it.said.length > 6 ? `${it.said.slice(0, 4).join(", ")} …` : it.said.join(", ") || "nothing";
+  return [make("code", shortened(it.line)), " → ", make("code", said), meant(said)];
+}
+
+function didLast() {
   const lines = state.lines.slice(state.first).filter((it) => !isComment(it.line));
   if (!lines.length) return [];
   const some = lines.slice(-3);
-  const inside = some.flatMap((it) => [make("code", shortened(it.line)), " → ", make("code", it.said.length > 6 ? `${it.said.slice(0, 4).join(", ")} …` : it.said.join(", ") || "nothing"), make("br")]);
+  const inside = some.flatMap((it) => [...answered(it), make("br")]);
   if (lines.length > some.length) inside.unshift(`${count(lines.length - some.length, "line")}, and then `);
   const texts = lines.flatMap((it) => it.did);
   const means = lines.map((it) => it.means).filter(Boolean).pop();
@@ -202,12 +223,21 @@ function showTrees() {
     const text = make("details", [make("summary", "The same as text"), make("pre", tree.text.join("\n"))]);
     return make("div", [make("h2", [name, ...other]), ...(at === 0 ? did() : []), drawing, ...(tree.notes.length ? [notes] : []), text], { class: "one-tree" });
   });
+  const kept = make("input", [], { type: "checkbox", id: "kept" });
+  kept.checked = isKeptShown;
+  kept.addEventListener("change", () => {
+    isKeptShown = kept.checked;
+    run();
+  });
   const legend = make("details", [
     make("summary", "How to read this"),
     make("p", "Pairs lie in leaves, the boxes at the bottom. An index above says by its pointers (arrows down) in which page a key is. Each page also knows the page to its right, its next (dotted arrow). A dashed box has no pointer yet; a hatched box is merging. What the last lines brought is framed. A dark label is a call in flight, at the page that it read or changed last."),
-    make("p", "“base 9 + 1 link”: the store keeps a page as a base and at most 8 small changes over it; the ninth makes a new base."),
-  ], { class: "what" });
+    make("p", [make("label", [kept, " how the store keeps each page"]), ": “base 9 + 1 link” is a base of nine pairs, or pointers, and one small change over it. There are at most 8 of them; the ninth makes a new base."]),
+  ], { class: "what", id: "legend" });
+  legend.open = Boolean($("legend") && $("legend").open);
+  const hadFocus = document.activeElement && document.activeElement.id === "kept";
   fill("trees", [make("div", parts, { class: "all-trees" }), legend]);
+  if (hadFocus) kept.focus();
   for (const drawing of $("trees").querySelectorAll(".drawing")) svg(drawing.dataset.svg, drawing);
 }
 
@@ -253,7 +283,7 @@ function showHistory() {
     if (entry.mark) return make("li", entry.text, { class: "mark" });
     const [said, style] = fateSaid(entry, at <= flushed);
     const tree = entry.tree && entry.tree !== DEFAULT ? ` on ${entry.tree}` : "";
-    return make("li", [make("span", `${entry.slot ? `${entry.slot}: ` : ""}${shortened(entry.call)}${tree} → ${entry.answer}`, { class: "call" }), make("span", said, { class: "fate" })], { class: style });
+    return make("li", [make("span", `${entry.slot ? `${entry.slot}: ` : ""}${shortened(entry.call)}${tree} → ${entry.answer}${entry.answer === "old -" ? " (none before)" : ""}`, { class: "call" }), make("span", said, { class: "fate" })], { class: style });
   }));
   $("history").scrollTop = $("history").scrollHeight;
 }

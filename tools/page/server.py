@@ -121,7 +121,7 @@ class Handler(http.server.BaseHTTPRequestHandler):
             raise Refused(404, "there is nothing to post to here")
         session = self.server.session
         with session.lock:
-            session.columns = 2 if value.get("narrow") is True else 4
+            session.columns, session.is_kept_shown = 2 if value.get("narrow") is True else 4, value.get("kept") is True
             self.reply_json(200, does(session, value))
 
     def log_message(self, *_):
@@ -144,6 +144,7 @@ def number_in(value, name, most):
 
 def told(session, first, why=None):
     """All that the page shows. The lines from the first of these on are new."""
+    session.first = first
     return {**session.state(), "first": first, "why": why}
 
 
@@ -158,8 +159,9 @@ def run_all(session, lines):
 
 
 def run(session, value):
-    first = len(session.lines)
-    return told(session, first, run_all(session, lines_in(value)))
+    lines = lines_in(value)
+    first = len(session.lines) if lines else session.first
+    return told(session, first, run_all(session, lines))
 
 
 def typed(session, value):

@@ -162,7 +162,7 @@ class Session:
 
     def __init__(self, path):
         self.path, self.refused, self.lock = path, file_words(path) | ENDS, threading.Lock()
-        self.shell, self.columns = None, 4
+        self.shell, self.columns, self.is_kept_shown = None, 4, False
         self.start([])
 
     # What changes.
@@ -173,6 +173,8 @@ class Session:
         self.shell, self.witness, self.history = begun(self.path), Witness(), History()
         # The lines with their answers; the pages as they were shown last, and before that; and what crashes leave.
         self.lines, self.shown, self.before, self.left = [], {}, {}, {}
+        # From which line on all is new to who sees the page.
+        self.first = 0
         for line in lines:
             self.add(line)
 
@@ -288,7 +290,7 @@ class Session:
             if call["tree"] == name:
                 number = str(call["at"])
                 (at.setdefault(number, []) if number in there else at_root).append(f"{call['slot']}: {call['call']}")
-        look = tree.Look(at, at_root, self.before, self.columns)
+        look = tree.Look(at, at_root, self.before, self.columns, self.is_kept_shown)
         changed = [number for number, known in there.items() if look.is_changed(number, known)]
         return {"name": name, "svg": tree.drawn(lines, loose, look), "notes": tree.notes(lines, loose), "text": said, "changed": changed}
 
@@ -309,16 +311,17 @@ class Session:
 
     def crash(self, keep):
         """What a crash leaves that keeps so many actions."""
-        if (keep, self.columns) not in self.left:
+        shape = keep, self.columns, self.is_kept_shown
+        if shape not in self.left:
             with self.apart() as shell:
                 said_by(shell, f"crash {keep}")
                 dump, verified, drawn = (said_by(shell, line) for line in ("dump", "verify", "draw links"))
                 others = [line for name in names_in(shell) for line in drawing_of(shell, name)]
             lines = [line for line in drawn if is_drawing(line)]
             loose = [] if self.witness.fault else Witness.after([*self.ran(), (f"crash {keep}", [])]).loose(pages_of([*lines, *others]))
-            svg = tree.drawn(lines, loose, tree.Look(columns=self.columns))
-            self.left[keep, self.columns] = {"keep": keep, "maps": maps_of(dump), "verified": verified[-1], "svg": svg, "notes": tree.notes(lines, loose)}
-        return self.left[keep, self.columns]
+            svg = tree.drawn(lines, loose, tree.Look(columns=self.columns, is_kept_shown=self.is_kept_shown))
+            self.left[shape] = {"keep": keep, "maps": maps_of(dump), "verified": verified[-1], "svg": svg, "notes": tree.notes(lines, loose)}
+        return self.left[shape]
 
 
 def pages_of(lines):

@@ -29,10 +29,10 @@ def known_of(line):
 
 class Look:
     """What there is to see beside the pages: the calls at each of them, by its number, those that are to read the root first, and the
-    pages of the drawing before it, by their numbers. So many pairs stand in a row."""
+    pages of the drawing before it, by their numbers. So many pairs stand in a row, and a page says how it is kept, or does not."""
 
-    def __init__(self, calls=None, at_root=(), before=None, columns=4):
-        self.calls, self.at_root, self.before, self.columns = calls or {}, at_root, before or {}, columns
+    def __init__(self, calls=None, at_root=(), before=None, columns=4, is_kept_shown=False):
+        self.calls, self.at_root, self.before, self.columns, self.is_kept_shown = calls or {}, at_root, before or {}, columns, is_kept_shown
         self.entries = {entry for page in self.before.values() for entry in page[-1].split()}
 
     def is_changed(self, page, known):
@@ -55,7 +55,7 @@ class Card(Page):
         if self.kind == "index":
             self.texts = ["from the start" if text == "%" else f"from {text}" for text in self.texts]
         self.bounds = bounds(self.low, self.high)
-        self.foot = f"base {self.base} + {self.links} link{'s' * (self.links != '1')}" if self.links not in (None, "0") else ""
+        self.foot = f"base {self.base} + {self.links} link{'s' * (self.links != '1')}" if self.look.is_kept_shown and self.links not in (None, "0") else ""
         columns = len(self.texts) if self.kind == "index" else self.look.columns
         cell = max([len(text) for text in self.texts] or [5]) * LETTER + 12
         self.rows = [self.texts[at : at + columns] for at in range(0, len(self.texts), columns or 1)]
