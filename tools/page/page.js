@@ -53,18 +53,21 @@ async function post(path, asked) {
 
 // Posts what changes something, one request after the other, and shows what comes of it.
 async function act(path, value) {
-  if (busy) return;
+  if (busy) return false;
   busy = true;
   document.body.setAttribute("aria-busy", "true");
+  let isDone = false;
   try {
     state = await post(path, value);
     show();
     tell(state.why);
+    isDone = true;
   } catch (fault) {
     tell(fault instanceof TypeError ? "The page does not answer: was ./run --page ended?" : fault.message);
   }
   busy = false;
   document.body.removeAttribute("aria-busy");
+  return isDone;
 }
 
 const run = (...lines) => act("/run", { lines });
@@ -92,7 +95,27 @@ function place() {
 
 function begin(scene) {
   slid = null;
-  start(scene.parts[0]);
+  return start(scene.parts[0]);
+}
+
+// What is scrolled to, or has the focus, lies below the text that stays at the top.
+function pad() {
+  const text = $("story-text");
+  document.documentElement.style.scrollPaddingTop = `${$("story").offsetHeight + 8}px`;
+  if (text.scrollHeight > text.clientHeight) text.tabIndex = 0;
+  else text.removeAttribute("tabindex");
+}
+
+// What a part speaks of is brought into view, below its text, which stays at the top: the crash that it names, or else the tree.
+async function told(isDone) {
+  const here = (await isDone) && place();
+  if (!here) return;
+  const part = here.scene.parts[here.part].filter(isComment).join(" ");
+  pad();
+  const it = $(part.includes("If it crashed") ? "crash" : "trees");
+  const top = it.getBoundingClientRect().top;
+  const under = $("story").getBoundingClientRect().bottom;
+  if (top < under || top > window.innerHeight - Math.min(it.offsetHeight, 320)) it.scrollIntoView();
 }
 
 // The part of a scene where one was last; a part of which some lines were run counts as well.
@@ -112,17 +135,14 @@ function next() {
   const here = place();
   if (!here) return;
   const till = here.isWhole ? here.end + (here.scene.parts[here.part + 1] || []).length : here.end;
-  if (till > state.lines.length) run(...here.all.slice(state.lines.length, till));
+  if (till > state.lines.length) told(run(...here.all.slice(state.lines.length, till)));
 }
 
 function back() {
-  const here = place();
-  if (!here) {
-    const left = remembered();
-    if (left) start(upTo(left.scene, left.part));
-  } else if (here.part > 0 || !here.isWhole) {
-    start(upTo(here.scene, Math.max(here.part - 1, 0)));
-  }
+  const here = place() || remembered();
+  if (!here) return;
+  const isAway = !place();
+  if (isAway || here.part > 0 || !here.isWhole) told(start(upTo(here.scene, isAway ? here.part : Math.max(here.part - 1, 0))));
 }
 
 // The text of a part, in which "this" is set apart.
@@ -173,7 +193,7 @@ function svg(text, into) {
 function meant(answer) {
   const flushed = /^flushed (\d+)$/.exec(answer);
   if (flushed) return ` (${count(Number(flushed[1]), "action")} became durable)`;
-  return { "old -": " (nothing stood there before)", "value -": " (nothing stands there)", moved: " (it is not decided yet)" }[answer] || "";
+  return { "old -": " (nothing stood there before)", "value -": " (nothing stands there)" }[answer] || "";
 }
 
 // What the lines that were run last answered, and what they changed. Those with which a scene begins are for who asks.
@@ -194,7 +214,7 @@ function didLast() {
   if (!lines.length) return [];
   const some = lines.slice(-3);
   const inside = some.flatMap((it) => [...answered(it), make("br")]);
-  if (lines.length > some.length) inside.unshift(`${count(lines.length - some.length, "line")}, and then `);
+  if (lines.length > some.length) inside.unshift(`After ${count(lines.length - some.length, "other line")}: `);
   const texts = lines.flatMap((it) => it.did);
   const means = lines.map((it) => it.means).filter(Boolean).pop();
   const took = lines[lines.length - 1].took;
@@ -331,6 +351,7 @@ function showCrash() {
   $("crash-none").hidden = Boolean(all);
   $("crash-none").textContent = unchangedSince(state.history.filter((it) => it.mark).pop());
   keepSlider();
+  $("crash").style.minHeight = "";
   $("keep").max = all;
   $("keep").value = slid === null ? all : slid;
   fill("actions", state.actions.map((it) => make("li", [make("span", "", { class: "fate" }), make("span", it.text)])));
@@ -354,7 +375,13 @@ function keepSlider() {
   slidOver = actions;
 }
 
+// The tallest that a crash was among these actions: what lies below the slider does not move the page.
+function holdCrash() {
+  $("crash").style.minHeight = `${$("crash").offsetHeight}px`;
+}
+
 function slide() {
+  holdCrash();
   slid = Number($("keep").value);
   $("slid-back").hidden = true;
   showKept();
@@ -370,7 +397,7 @@ function leftOf(keep) {
 async function showKept() {
   const keep = Number($("keep").value);
   const all = state.actions.length;
-  $("keep-said").textContent = `the first ${keep} of ${count(all, "action")}` + (keep === 0 ? ", so what was flushed alone" : keep === all ? ", so all" : "");
+  $("keep-said").textContent = keep === 0 ? `none of ${count(all, "action")}` : keep === all ? `all of ${count(all, "action")}` : `the first ${keep} of ${count(all, "action")}`;
   $("keep").setAttribute("aria-valuetext", $("keep-said").textContent);
   [...$("actions").children].forEach((it, at) => {
     it.className = at < leftOf(keep) ? "is-kept" : "is-lost";
@@ -500,6 +527,7 @@ function listen() {
       does();
     }
   });
+  new ResizeObserver(pad).observe($("story"));
   window.addEventListener("resize", () => {
     for (const drawing of document.querySelectorAll(".drawing")) svg(drawing.dataset.svg, drawing);
   });
@@ -509,7 +537,7 @@ async function main() {
   scenes = await (await fetch("/scenes")).json();
   fill("scenes", scenes.map((scene) => {
     const it = make("button", scene.title, { type: "button", "data-name": scene.name });
-    it.addEventListener("click", () => begin(scene));
+    it.addEventListener("click", () => told(begin(scene)));
     return make("li", it);
   }));
   operands();
