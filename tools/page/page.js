@@ -115,7 +115,7 @@ async function told(isDone) {
   const it = $(part.includes("If it crashed") ? "crash" : "trees");
   const top = it.getBoundingClientRect().top;
   const under = $("story").getBoundingClientRect().bottom;
-  if (top < under || top > window.innerHeight - Math.min(it.offsetHeight, 320)) it.scrollIntoView();
+  if (top < under || top > window.innerHeight - Math.min(it.offsetHeight, window.innerHeight * 0.55)) it.scrollIntoView();
 }
 
 // The part of a scene where one was last; a part of which some lines were run counts as well.
@@ -461,7 +461,23 @@ function operands() {
   fill("operands", $("kind").value.split(" ").slice(1).map((word) => make("input", [], { "data-kind": word, placeholder: names[word], "aria-label": names[word], autocomplete: "off", autocapitalize: "off", spellcheck: "false" })));
 }
 
+// What was filled in by mistake, it seems: a key or a value that is empty, or a whole line in the place of a key.
+function mistaken(box) {
+  const { kind } = box.dataset;
+  if (kind === "LO" || kind === "HI") return "";
+  const what = { K: "key", V: "value", OLD: "old value", NEW: "new value" }[kind];
+  const none = kind === "K" || kind === "V" ? "" : ", and - where there is to be none";
+  if (!box.value) return `The ${what} is empty. If it is to be so, type the line below, with \`""\` for it${none}.`;
+  const isLine = /^(begin|insert|get|remove|cas|merge|scan|scan-back|read|step|finish|batch|flush|crash) /.test(box.value);
+  return kind === "K" && isLine ? `\`${box.value}\` looks like a line, and not like a key. Lines are typed below, under Lines; there it may be a key in quotes.` : "";
+}
+
 function beginCall() {
+  const why = [...$("operands").children].map(mistaken).find(Boolean);
+  if (why) {
+    tell(why);
+    return;
+  }
   const words = [...$("operands").children].map((it) => {
     if (it.dataset.kind === "LO" || it.dataset.kind === "HI") return it.value.trim() || "..";
     return it.value === "-" && it.dataset.kind !== "K" && it.dataset.kind !== "V" ? "-" : quoted(it.value);
