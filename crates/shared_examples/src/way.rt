@@ -213,7 +213,7 @@ fn raised_beside<L: Ledger + Send + Sync, M: MergeOperator + Send, R: Threads + 
 /// it answers `Ok` the number stands higher by just as many raises as all make together than it stood in the database at first: none was lost. Else
 /// some raise came to nothing, and the state is given back, if it can be.
 ///
-/// ```
+/// ```text
 /// let blank = sled_machine::shared::Blank::new(5); // For four callers.
 /// let came = raise_together::<std::marker::Brand, _, _>(rt, alloc, db, blank, 4, &tree, b"visits", 100);
 /// ```

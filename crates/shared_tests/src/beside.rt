@@ -74,6 +74,11 @@ fn database_of<R: Abort>(rt: &R, alloc: Global, pages: MemPages) -> Fresh
     }
 }
 
+/// A new database.
+pub fn new_database<R: Abort>(rt: &R, alloc: Global) -> Fresh {
+    database_of(rt, alloc, empty_pages(alloc))
+}
+
 // The tree of a name, which has the operator that adds.
 fn tree_of<R: Abort>(rt: &R, db: &mut Fresh, name: &[u8]) -> Tree {
     let tree = db.open_tree(name).expect(rt, "a tree");
@@ -371,7 +376,7 @@ where
 
 /// Has two callers insert, each of which loses its handle then, and looks at what comes of it.
 pub fn lose_all<R: Wait + Abort>(rt: &R, alloc: Global, trial: &Trial<'_>) {
-    let mut db = database_of(rt, alloc, empty_pages(alloc));
+    let mut db = new_database(rt, alloc);
     let tree = tree_of(rt, &mut db, trial.start.name);
     let scene = new_scene(alloc, tree, 0);
     lose_among::<Brand, _>(rt, &scene, db, Blank::new(3), trial);
@@ -380,7 +385,7 @@ pub fn lose_all<R: Wait + Abort>(rt: &R, alloc: Global, trial: &Trial<'_>) {
 
 /// Makes the trial: has its callers work on a database, each in a thread, and looks at what comes of it.
 pub fn try_out<R: Threads + Wait + Abort + Sync>(rt: &R, alloc: Global, trial: &Trial<'_>) {
-    let mut db = database_of(rt, alloc, empty_pages(alloc));
+    let mut db = new_database(rt, alloc);
     let start = trial.start;
     let tree = tree_of(rt, &mut db, start.name);
     fill(rt, &mut db, &tree, start.keys, start.taken);

@@ -1,8 +1,9 @@
 //! The whole way of a number that three threads raise.
-use crate::beside::require;
+ghost use Rattle.std.specs.Prelude.{◌≡◌};
+
+use crate::beside::{Fresh, Gathered, new_database, require};
 use shared_examples::raise_together;
-use sled::{Db, MemPages, empty_pages};
-use sled_machine::shared::{Blank, State};
+use sled_machine::shared::Blank;
 use sled_model::Tree;
 use std::alloc::Global;
 use std::marker::Brand;
@@ -16,22 +17,18 @@ const CALLERS: u64 = 3;
 
 const TIMES: u64 = 40;
 
-// A new database.
-fn opened<R: Abort>(rt: &R, alloc: Global) -> Db<MemPages> {
-    match Db::open(alloc, empty_pages(alloc), b"shared") {
-        Ok(db) => db,
-        Err(_) => panic!(rt; "not opened"),
-    }
+fn are_same(one: &[u8], other: &[u8]) -> bool {
+    one == other
 }
 
 // Looks at the number.
-fn look<L: Ledger, R: Abort>(rt: &R, state: State<MemPages, L>, tree: &Tree) {
+fn look<L: Ledger, R: Abort>(rt: &R, state: Gathered<L>, tree: &Tree) {
     let value = state.machine().db().get(tree, b"hits").expect(rt, "a read");
     drop(state);
     let Some(value) = value else {
         panic!(rt; "no number")
     };
-    let same = value.as_ref() == (CALLERS * TIMES).to_be_bytes().as_ref();
+    let same = are_same(value.as_ref(), &(CALLERS * TIMES).to_be_bytes());
     require(rt, same, "as many as all raises together");
     drop(value);
 }
@@ -40,7 +37,7 @@ fn look<L: Ledger, R: Abort>(rt: &R, state: State<MemPages, L>, tree: &Tree) {
 fn raised<L: Ledger + Send + Sync, R: Threads + Wait + Abort + Sync>(
     rt: &R,
     alloc: Global,
-    db: Db<MemPages>,
+    db: Fresh,
     blank: Blank,
 )
 where
@@ -58,8 +55,7 @@ where
 
 // Three threads raise a number of a new database.
 fn raise_all<R: Threads + Wait + Abort + Sync>(rt: &R, alloc: Global) {
-    let db = opened(rt, alloc);
-    raised::<Brand, R>(rt, alloc, db, Blank::new(4));
+    raised::<Brand, R>(rt, alloc, new_database(rt, alloc), Blank::new(4));
 }
 
 #[test]
