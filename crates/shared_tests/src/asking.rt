@@ -5,6 +5,7 @@ use sled_batch::Batch;
 use sled_machine::shared::Made;
 use sled_machine::{Call, Next, Outcome, Reply, Slot, Subscriber, Tree, Whole};
 use sled_nodes::{Error, IVec};
+use std::alloc::{AllocError, Global};
 use std::ops::Bound;
 use std::process::Abort;
 use std::sync::Wait;
@@ -24,6 +25,9 @@ pub enum Ask<'a> {
     AddOne(&'a [u8]),
     /// Raises the number at the key by a read and a swap, again and again until it is done.
     Raise(&'a [u8]),
+    /// Raises the number at the key in one step, and tells what it is then, or what it was before.
+    Update(&'a [u8]),
+    FetchFirst(&'a [u8]),
     /// Puts a job into the queue.
     Push(&'a [u8]),
     /// Takes the first job out of the queue.
@@ -232,6 +236,23 @@ fn job_told(job: Option<(IVec, IVec)>) -> Told {
     told
 }
 
+// The number above the one of these bytes.
+fn next_of(alloc: Global, stood: Option<&[u8]>) -> Result<Option<Vec<u8>>, AllocError> {
+    let number = number_of(stood.unwrap_or(b"")).wrapping_add(1);
+    Ok(Some(Vec::from_slice(alloc, &number.to_be_bytes())?))
+}
+
+fn value_told(value: Result<Option<IVec>, Error>) -> Told {
+    let told = match &value {
+        Ok(Some(value)) => Told::Value(number_of(value.as_ref())),
+        Ok(None) => Told::NoValue,
+        Err(Error::CollectionNotFound(_)) => Told::NoSuchTree,
+        Err(_) => Told::Other,
+    };
+    drop(value);
+    told
+}
+
 // So often a number is read and swapped at most: each time in vain another thread wrote it.
 const ATTEMPTS: u64 = 1_000_000;
 
@@ -246,6 +267,12 @@ pub fn told_of<L: Ledger, R: Wait + Abort>(
     match ask {
         Ask::AddOne(key) => answer_told(add_one(rt, alloc, handle, tree, key).map(Told::Value)),
         Ask::Raise(key) => raised_told(raise(rt, alloc, handle, tree, key, ATTEMPTS)),
+        Ask::Update(key) => {
+            value_told(handle.update_and_fetch(rt, tree, key, |stood| next_of(alloc, stood)))
+        }
+        Ask::FetchFirst(key) => {
+            value_told(handle.fetch_and_update(rt, tree, key, |stood| next_of(alloc, stood)))
+        }
         Ask::Push(job) => answer_told(push(rt, alloc, handle, tree, job).map(|_| Told::Number)),
         Ask::Take => answer_told(take(rt, handle, tree).map(job_told)),
         _ => outcome_told(outcome_of(rt, scene, handle, ask)),

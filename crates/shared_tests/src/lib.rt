@@ -19,6 +19,8 @@ mod early_tests;
 #[cfg(test)]
 mod ending_tests;
 #[cfg(test)]
+mod fetch_tests;
+#[cfg(test)]
 mod gate_tests;
 #[cfg(test)]
 mod gather_tests;

@@ -35,7 +35,7 @@ later low mid high [] r l = omega arith
 later low mid high (id ∷ ids) r l = (r.0, later id mid high ids r.1 l)
 
 -- .. and where these are noted
-longer_rises : (low mid high : ℕ) (history more longer : List EntryValue) → longer ≡ history ++ more → RiseBetween low (ids_made history) mid → RiseBetween mid (ids_made more) high → RiseBetween low (ids_made longer) high
+pub longer_rises : (low mid high : ℕ) (history more longer : List EntryValue) → longer ≡ history ++ more → RiseBetween low (ids_made history) mid → RiseBetween mid (ids_made more) high → RiseBetween low (ids_made longer) high
 longer_rises low mid high history more longer e x y = subst (λ l. RiseBetween low l high) (sym (ap ids_made e ∙ ids_on history more)) (rise_on low mid high (ids_made history) (ids_made more) x y)
 
 -- a step of a slot gives none

@@ -215,7 +215,7 @@ parts_none (OnePart one more) e = suc_zero e
 
 -- ---- steps
 
-tested : (s : State) (asked : Asked) → must_refuse s asked ≡ None → s.is_open ≡ true
+pub tested : (s : State) (asked : Asked) → must_refuse s asked ≡ None → s.is_open ≡ true
 tested s asked free = tested_open s (trees_asked asked) (first_none _ _ free).0
 
 module _ {P M : Type 0} (store : P → Store) (number : P → ℕ) (meant : M → Merge) (a b : MachineValue P M) (opening : List Content) (history : List EntryValue) (l : CrashLeaves store a opening history) where
@@ -239,14 +239,14 @@ module _ {P M : Type 0} (store : P → Store) (number : P → ℕ) (meant : M �
   ends = leads_end l.leads (l.earlier, refl)
 
   -- while the database is open the history leads to its maps
-  led : A.is_open ≡ true → l.last ≡ maps_of A
+  pub led : A.is_open ≡ true → l.last ≡ maps_of A
   led o = l.now o ∙ sym (maps_same store meant a number)
 
   between : maps_of B ≡ maps_of C
   between = maps_same store meant b number ∙ sym (maps_same store meant (record { db = b.db; flights = a.flights; slots_given = a.slots_given }) number)
 
   -- one entry more
-  adds : (longer : List EntryValue) (n : ℕ) (v : MadeValue) (new : Maps) (through : List Maps) → longer ≡ history ++ entries_of n (v ∷ []) → makes_as l.last v new → through_as l.last v through new
+  pub adds : (longer : List EntryValue) (n : ℕ) (v : MadeValue) (new : Maps) (through : List Maps) → longer ≡ history ++ entries_of n (v ∷ []) → makes_as l.last v new → through_as l.last v through new
       → (IsOpen store b → new ≡ maps_now store b) → Are (left_by v through l.left) → Leaves longer
   adds longer n v new through e made led at leaves = record {
     earlier = l.earlier;
@@ -258,7 +258,7 @@ module _ {P M : Type 0} (store : P → Store) (number : P → ℕ) (meant : M �
   }
 
   -- .. or none
-  rests : (longer : List EntryValue) → longer ≡ history ++ [] → (IsOpen store b → l.last ≡ maps_now store b) → Are l.left → Leaves longer
+  pub rests : (longer : List EntryValue) → longer ≡ history ++ [] → (IsOpen store b → l.last ≡ maps_now store b) → Are l.left → Leaves longer
   rests longer e at leaves = record {
     earlier = l.earlier;
     last = l.last;
@@ -269,10 +269,10 @@ module _ {P M : Type 0} (store : P → Store) (number : P → ℕ) (meant : M �
   }
 
   -- where no map changes
-  still : B.is_open ≡ A.is_open → maps_of B ≡ maps_of A → IsOpen store b → l.last ≡ maps_now store b
+  pub still : B.is_open ≡ A.is_open → maps_of B ≡ maps_of A → IsOpen store b → l.last ≡ maps_now store b
   still opens same o = led (sym opens ∙ o) ∙ sym same ∙ maps_same store meant b number
 
-  none_added : (maps : List Maps) → maps ≡ [] → Are (l.left ++ maps) → Are l.left
+  pub none_added : (maps : List Maps) → maps ≡ [] → Are (l.left ++ maps) → Are l.left
   none_added maps e k = subst (λ x. Are x) (ap (λ z. l.left ++ z) e ∙ append-nil l.left) k
 
   once_more : (m : Maps) → m ≡ l.last → Are l.left → Are (l.left ++ m ∷ [])

@@ -34,7 +34,7 @@ use Rattle.sled_shared.specs.Sound.{IsOpen, maps_now, IsState}
 use Rattle.sled_shared.proofs.Ids.{begun_risen, abandoned_risen, none_risen}
 
 -- a call comes to one of those things that it may come to
-comes : (merge : Option Merge) (c : Call) (value : Option Key) → comes_to c value (decision_of merge c value)
+pub comes : (merge : Option Merge) (c : Call) (value : Option Key) → comes_to c value (decision_of merge c value)
 comes None (Merges k bytes) value = (None, refl)
 comes (Some merge) (Merges k bytes) value = (merge k value bytes, refl)
 comes merge other value = refl

@@ -8,3 +8,4 @@ pub mod WholeMakes
 pub mod WholeTests
 pub mod Leading
 pub mod WholeAdds
+pub mod Fetching

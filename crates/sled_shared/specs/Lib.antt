@@ -8,6 +8,7 @@ pub mod Sound
 pub mod Steps
 pub mod Notes
 pub mod WholeNotes
+pub mod Fetches
 pub mod Gathered
 pub mod theory
 pub use Rattle.sled_nodes.specs as sled_nodes

@@ -1,9 +1,11 @@
 //! Callers' ways to a database that is shared.
-ghost use Rattle.std.specs.Prelude.{◌≡◌, ◌++◌, IfOk};
+ghost use Rattle.std.specs.Prelude.{◌≡◌, ◌++◌, IfOk, OnErr, Option};
 ghost use Rattle.std.specs.Option.{option_copied};
 ghost use Rattle.sled_model.specs.State.{IsOnKey};
 ghost use Rattle.sled_model.specs.declared.call.Call.{Call};
 ghost use Rattle.sled_model.specs.declared.call.Call.TheVariants.{Get, Insert, Remove, CompareAndSwap, Merge};
+ghost use Rattle.sled_nodes.specs.Order.{Key};
+ghost use Rattle.sled_shared.specs.Fetches.{Fetches};
 ghost use Rattle.sled_shared.specs.Made.{made_values};
 ghost use Rattle.sled_shared.specs.Notes.{AddsStep, IsEnd, IsGivenUp, noted_of};
 ghost use Rattle.sled_shared.specs.WholeNotes.{AddsWhole};
@@ -11,11 +13,11 @@ ghost use Rattle.sled_shared.specs.WholeNotes.{AddsWhole};
 use crate::caller::Caller;
 use crate::entry::Made;
 use crate::state::State;
-use crate::steps::{abandon_in, begin_in, step_adding, step_of, whole_adding};
+use crate::steps::{abandon_in, begin_in, fetch_adding, step_adding, step_of, whole_adding};
 use sled_model::{Call, MergeOperator, Outcome, Slot, Tree, Whole};
-use sled_nodes::Result;
+use sled_nodes::{IVec, Result};
 use sled_store::Pages;
-use std::alloc::Global;
+use std::alloc::{AllocError, Global};
 use std::marker::Model;
 use std::sync::ledger::Ledger;
 use std::sync::{Arc, Mutex, Wait};
@@ -139,6 +141,87 @@ impl<P: Pages, L: Ledger, M: MergeOperator> Handle<P, L, M> {
         let outcome = whole_adding(&mut *guard, &mut self.me, whole);
         drop(guard);
         outcome
+    }
+
+    // Makes the new value at a key of the one that stands there. It answers both values.
+    fn fetch<F>(
+        &mut self,
+        rt: &impl Wait,
+        tree: &Tree,
+        key: &[u8],
+        f: F,
+    ) -> Result<(Option<IVec>, Option<IVec>)>
+    where
+        F: FnMut(Option<&[u8]>) -> std::result::Result<Option<Vec<u8>>, AllocError>,
+        requires { (shown : _) → F.pre f shown }
+        ensures ok { IfOk result (λ both. Fetches F.FnMut f tree.now key.now both.0 both.1 self.old.made self.new.made) }
+        ensures err { OnErr result (self.new.made ≡ self.old.made) }
+        ensures number { self.new.number ≡ self.old.number }
+    {
+        let mut guard = self.lock.lock(rt);
+        let fetched = fetch_adding(&mut *guard, &mut self.me, tree, key, f);
+        drop(guard);
+        fetched
+    }
+
+    /// Sets the value at a key to what the closure makes of the value that stands there, or takes the key out where it answers `None`, and
+    /// answers the new value; all in one step under the lock, so nobody writes between. It comes to the end of this caller's list as the swap
+    /// of the one value for the other. Refused as a read and a swap are, and with `NoMemory` where the closure tells want of memory; then
+    /// nothing is written, and nothing comes to the list. The closure is called while the lock is held: it must make no call on this database.
+    ///
+    /// ```
+    /// // The value is taken out, whatever it is.
+    /// let none = handle.update_and_fetch(rt, &tree, b"ulm", |_| Ok(None))?;
+    /// ```
+    pub fn update_and_fetch<F>(
+        &mut self,
+        rt: &impl Wait,
+        tree: &Tree,
+        key: &[u8],
+        f: F,
+    ) -> Result<Option<IVec>>
+    where
+        F: FnMut(Option<&[u8]>) -> std::result::Result<Option<Vec<u8>>, AllocError>,
+        requires { (shown : _) → F.pre f shown }
+        ensures ok { IfOk result (λ made. (stood : Option Key) × Fetches F.FnMut f tree.now key.now stood made self.old.made self.new.made) }
+        ensures err { OnErr result (self.new.made ≡ self.old.made) }
+        ensures number { self.new.number ≡ self.old.number }
+    {
+        match self.fetch(rt, tree, key, f) {
+            Ok((stood, made)) => {
+                drop(stood);
+                Ok(made)
+            }
+            Err(e) => Err(e),
+        }
+    }
+
+    /// The same, but that it answers the value that stood there before.
+    ///
+    /// ```
+    /// let taken = handle.fetch_and_update(rt, &tree, b"ulm", |_| Ok(None))?;
+    /// ```
+    pub fn fetch_and_update<F>(
+        &mut self,
+        rt: &impl Wait,
+        tree: &Tree,
+        key: &[u8],
+        f: F,
+    ) -> Result<Option<IVec>>
+    where
+        F: FnMut(Option<&[u8]>) -> std::result::Result<Option<Vec<u8>>, AllocError>,
+        requires { (shown : _) → F.pre f shown }
+        ensures ok { IfOk result (λ stood. (made : Option Key) × Fetches F.FnMut f tree.now key.now stood made self.old.made self.new.made) }
+        ensures err { OnErr result (self.new.made ≡ self.old.made) }
+        ensures number { self.new.number ≡ self.old.number }
+    {
+        match self.fetch(rt, tree, key, f) {
+            Ok((stood, made)) => {
+                drop(made);
+                Ok(stood)
+            }
+            Err(e) => Err(e),
+        }
     }
 
     // One step of the call in the slot, if it is this one.

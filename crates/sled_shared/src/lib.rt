@@ -23,6 +23,7 @@ mod caller;
 mod compare;
 mod db;
 mod entry;
+mod fetches;
 mod gather;
 mod handle;
 mod kept;

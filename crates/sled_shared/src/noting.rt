@@ -16,7 +16,7 @@ use sled_store::Pages;
 use std::sync::ledger::{Book, Ledger, Share};
 
 // The same job.
-fn copy_of(job: &Job) -> Result<Job>
+pub(crate) fn copy_of(job: &Job) -> Result<Job>
     ensures { IfOk result (λ copy. copy ≡ job.now) }
 {
     let tree = job.tree.clone()?;

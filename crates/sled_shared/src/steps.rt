@@ -1,5 +1,5 @@
 //! What callers do to a state.
-ghost use Rattle.std.specs.Prelude.{◌≡◌, true, ◌++◌, Some, IfOk, IfErr};
+ghost use Rattle.std.specs.Prelude.{◌≡◌, true, ◌++◌, Some, IfOk, IfErr, OnErr};
 ghost use Rattle.std.specs.Option.{option_map};
 ghost use Rattle.sled_model.specs.Collections.{contents_of};
 ghost use Rattle.sled_model.specs.State.{IsOnKey};
@@ -7,6 +7,7 @@ ghost use Rattle.sled_model.specs.declared.outcome.Step.TheVariants as step;
 ghost use Rattle.sled_model.specs.declared.outcome.Outcome.TheVariants as outcome;
 ghost use Rattle.sled_calls.specs.Step.{MachineStepContract};
 ghost use Rattle.sled_calls.specs.Values.{slots_of, job_of_call};
+ghost use Rattle.sled_shared.specs.Fetches.{Fetches};
 ghost use Rattle.sled_shared.specs.Made.{entry_values};
 ghost use Rattle.sled_shared.specs.Notes.{AddsStep, IsGivenUp, entries_of, noted_in, noted_of};
 ghost use Rattle.sled_shared.specs.Sound.{HasCrashMaps, HasHistory, HasLegalHistory, HasRisingIds};
@@ -16,13 +17,15 @@ ghost use Rattle.sled_shared.specs.WholeNotes.{AddsWhole, NotesWhole};
 
 use crate::caller::Caller;
 use crate::entry::Entry;
+use crate::fetches::fetch_noting;
 use crate::noting::{note_and_count, step_noting};
 use crate::state::State;
 use crate::wholes::whole_noting;
 use sled_calls::{Job, Machine};
 use sled_model::{Call, Collection, MergeOperator, Outcome, Slot, Tree, Whole};
-use sled_nodes::{Error, Result};
+use sled_nodes::{Error, IVec, Result};
 use sled_store::Pages;
+use std::alloc::AllocError;
 use std::sync::ledger::Ledger;
 
 // Whether the job is this call.
@@ -138,6 +141,46 @@ impl<P: Pages, L: Ledger, M: MergeOperator> State<P, L, M> {
             noted,
         );
         outcome
+    }
+
+    // Makes the new value at a key of the one that stands there, by a closure, and swaps the one for the other, in one step. The swap is noted as
+    // this caller's. It answers both values.
+    pub(crate) fn fetch<F>(
+        &mut self,
+        me: &mut Caller<L>,
+        tree: &Tree,
+        key: &[u8],
+        f: F,
+    ) -> Result<(Option<IVec>, Option<IVec>)>
+    where
+        F: FnMut(Option<&[u8]>) -> std::result::Result<Option<Vec<u8>>, AllocError>,
+        requires { (shown : _) → F.pre f shown }
+        ensures ok { IfOk result (λ both. Fetches F.FnMut f tree.now key.now both.0 both.1 me.old.made me.new.made) }
+        ensures err { OnErr result (me.new.made ≡ me.old.made) }
+        ensures number { me.new.number ≡ me.old.number }
+    {
+        let Caller {
+            number,
+            made,
+            share,
+        } = me;
+        let (fetched, noted) = fetch_noting(
+            &mut self.machine,
+            &mut self.history,
+            made,
+            tree,
+            key,
+            f,
+        );
+        note_and_count(
+            &mut self.history,
+            &mut self.calls,
+            *number,
+            made,
+            share,
+            noted,
+        );
+        fetched
     }
 
     /// The collections that the database had when it was shared, as its export gave them.
@@ -265,5 +308,29 @@ pub(crate) fn whole_adding<P: Pages, L: Ledger, M: MergeOperator>(
             Outcome::Refused(Error::Closed)
         }
         Some(state) => state.whole(me, whole),
+    }
+}
+
+// Makes the new value at a key of the one that stands there.
+pub(crate) fn fetch_adding<P: Pages, L: Ledger, M: MergeOperator, F>(
+    held: &mut Option<State<P, L, M>>,
+    me: &mut Caller<L>,
+    tree: &Tree,
+    key: &[u8],
+    f: F,
+) -> Result<(Option<IVec>, Option<IVec>)>
+where
+    F: FnMut(Option<&[u8]>) -> std::result::Result<Option<Vec<u8>>, AllocError>,
+    requires { (shown : _) → F.pre f shown }
+    ensures ok { IfOk result (λ both. Fetches F.FnMut f tree.now key.now both.0 both.1 me.old.made me.new.made) }
+    ensures err { OnErr result (me.new.made ≡ me.old.made) }
+    ensures number { me.new.number ≡ me.old.number }
+{
+    match held {
+        None => {
+            drop(f);
+            Err(Error::Closed)
+        }
+        Some(state) => state.fetch(me, tree, key, f),
     }
 }
