@@ -10,3 +10,4 @@ pub mod Taking
 pub mod Remaining
 pub mod Noting
 pub mod Whole
+pub mod Crashed

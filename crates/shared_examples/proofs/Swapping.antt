@@ -96,7 +96,7 @@ swaps_law old new tree key history legal all = swaps tree key (made_in history) 
 
 -- ---- swaps that raise a number
 
-raised_none : (m n : ℕ) → m ≡ n → m ≡ n + 0
+pub raised_none : (m n : ℕ) → m ≡ n → m ≡ n + 0
 raised_none m n e = omega arith
 
 raised_one : (last mid found first count : ℕ) → last ≡ mid + count → mid ≡ found + 1 → found ≡ first → last ≡ first + suc count

@@ -61,7 +61,7 @@ module _ (P : MadeValue → Type 0) where
 -- ---- parts of raises
 
 module _ (tree : Tree) (key : Key) where
-  part_swaps : (m : MadeValue) → is_part tree key m → IsSwapAt tree.name key m ⊎ Leaves tree.name key m
+  pub part_swaps : (m : MadeValue) → is_part tree key m → IsSwapAt tree.name key m ⊎ Leaves tree.name key m
   part_swaps (PointMade t (Get k) reply) p = inr (leaves tree.name key (PointMade t (Get k) reply) tt)
   part_swaps (PointMade t (CompareAndSwap k old new) reply) p = inl (ap (λ (t : Tree). t.name) p.0, p.1)
   part_swaps m p = absurd p
@@ -83,7 +83,7 @@ module _ (tree : Tree) (key : Key) where
   parts_swap [] all = tt
   parts_swap (m ∷ made) all = (part_swaps m all.0, parts_swap made all.1)
 
-  parts_raise : (made : List MadeValue) → AllByRecursion (is_part tree key) made → AllByRecursion IsRaise (swapped tree.name key made)
+  pub parts_raise : (made : List MadeValue) → AllByRecursion (is_part tree key) made → AllByRecursion IsRaise (swapped tree.name key made)
   parts_raise [] all = tt
   parts_raise (m ∷ made) all = each_append IsRaise (swapped_by tree.name key m) (swapped tree.name key made) (part_raises m all.0) (parts_raise made all.1)
 

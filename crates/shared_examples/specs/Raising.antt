@@ -10,11 +10,13 @@ use Rattle.sled_model.specs.declared.outcome.Outcome.{Outcome}
 use Rattle.sled_model.specs.declared.outcome.Outcome.TheVariants.{Decided}
 use Rattle.sled_model.specs.declared.reply.Reply.TheVariants.{Swapped}
 use Rattle.sled_model.specs.declared.tree.Tree.{Tree}
+use Rattle.sled_shared.specs.Crashes.{LeadsThrough}
 use Rattle.sled_shared.specs.Gathered.{IsMadeIn, IsOfGiven, EachOnce}
 use Rattle.sled_shared.specs.History.{IsLegal, maps_from}
-use Rattle.sled_shared.specs.Made.{MadeValue, PointMade, EntryValue}
+use Rattle.sled_shared.specs.Made.{MadeValue, PointMade, WholeMade, EntryValue}
 use Rattle.sled_shared.specs.Sound.{maps_now}
 use Rattle.sled_shared.specs.Values.{CallerValue, StateValue}
+use Rattle.sled_shared.specs.Wholes.{Flush}
 use Rattle.example_parts.specs.Counters.{number_in}
 use Rattle.shared_examples.specs.Places.{value_at, made_in, is_at, Leaves}
 use Rattle.shared_examples.specs.declared.raising.Raised.{Raised}
@@ -126,3 +128,23 @@ pub record HasWritten (times : ℕ) (c : CallerValue) : Type 0 where
 -- the number at a key of a state's database stands by so much higher than it stood when the database was shared
 abbrev pub StandsHigher : {P M : Type 0} → (P → Store) → Tree → Key → ℕ → StateValue P M → Type 0
 StandsHigher store tree key n s = number_in (value_at (maps_now store s.machine) tree.name key) ≡ number_in (value_at (maps_from s.opening) tree.name key) + n
+
+-- a flush
+abbrev pub IsFlush : MadeValue → Type 0
+IsFlush (WholeMade Flush reply) = Unit {0}
+IsFlush m = ⊥
+
+-- .. or a part of a raise
+abbrev pub IsPartOrFlush : Tree → Key → MadeValue → Type 0
+IsPartOrFlush tree key m = is_part tree key m ⊎ IsFlush m
+
+-- the number at a key of these maps lies between two
+abbrev pub StandsBetween : Tree → Key → ℕ → ℕ → Maps → Type 0
+StandsBetween tree key low high maps = (low ≤ number_in (value_at maps tree.name key)) × (number_in (value_at maps tree.name key) ≤ high)
+
+-- Over a crash no raise comes from nowhere, and none is lost that was flushed: of a history of parts of raises and of flushes, what a crash may leave
+-- has a number that is higher than in the beginning by as many at least as succeeded before any of the flushes, and never above that at the end
+abbrev pub CrashedLaw : Type 0
+CrashedLaw = (old new : Maps) (before left : List Maps) (tree : Tree) (key : Key) (history : List EntryValue) → LeadsThrough old before history new left → AllByRecursion (IsPartOrFlush tree key) (made_in history)
+    → (early late : List MadeValue) (flush : MadeValue) → made_in history ≡ early ++ flush ∷ late → IsFlush flush
+    → AllByRecursion (StandsBetween tree key (number_in (value_at old tree.name key) + length (swapped tree.name key early)) (number_in (value_at new tree.name key))) left

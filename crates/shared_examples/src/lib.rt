@@ -17,5 +17,5 @@ mod way;
 pub use counting::{add_one, law_merges};
 pub use places::law_leaves;
 pub use queueing::{law_queue, push, take};
-pub use raising::{Raised, law_raised, law_raises, law_shares, law_swaps, raise};
+pub use raising::{Raised, law_crashed, law_raised, law_raises, law_shares, law_swaps, raise};
 pub use way::raise_together;

@@ -7,7 +7,7 @@ ghost use Rattle.sled_model.specs.declared.outcome.Outcome.TheVariants.{Decided}
 ghost use Rattle.sled_model.specs.declared.reply.Reply.TheVariants.{Swapped};
 ghost use Rattle.sled_shared.specs.Notes.{noted_of};
 ghost use Rattle.example_parts.specs.Counters.{number_in};
-ghost use Rattle.shared_examples.specs.Raising.{RaisedLaw, Raises, RaisesLaw, SharesLaw, SwapsLaw, calls_made, overtaken_by, raised_to, swap_wrote};
+ghost use Rattle.shared_examples.specs.Raising.{CrashedLaw, RaisedLaw, Raises, RaisesLaw, SharesLaw, SwapsLaw, calls_made, overtaken_by, raised_to, swap_wrote};
 
 use example_parts::number_at;
 use sled_machine::shared::Handle;
@@ -222,4 +222,15 @@ pub fn law_shares()
 /// ```
 pub fn law_raised()
     ensures { RaisedLaw }
+{}
+
+/// Over a crash no raise comes from nowhere, and none is lost that was flushed. Of a history in which each entry is a part of a raise of one number, or a
+/// flush: in all maps that a crash may leave the number is higher than in the beginning by as many raises at least as succeeded before any of the
+/// flushes, and it is never above that at the end.
+///
+/// ```
+/// law_crashed(); // From here on a proof knows it.
+/// ```
+pub fn law_crashed()
+    ensures { CrashedLaw }
 {}
