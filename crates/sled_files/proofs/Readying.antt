@@ -36,6 +36,8 @@ module _ {D : Type 0} (seen : D → List ℕ) (may_leave : D → List ℕ → Ty
     of_store = o.of_store;
     alone = o.alone;
     ready = subst (λ (x : Files D). IsReady seen may_leave x o.durable) (sym is) (ready_of is_second gate generation o);
+    first_stays = ap (λ (x : Files D). seen x.first) is;
+    second_stays = ap (λ (x : Files D). seen x.second) is;
     reopened = o.reopened;
     pids = o.pids;
     versions = o.versions;

@@ -80,12 +80,14 @@ abbrev pub is_why_closed : OpenError → List ℕ → List ℕ → Type 0
 is_why_closed (Disk e) first second = Unit {0}
 is_why_closed e first second = is_why_unopened e first second
 
--- the store that two files stand for was opened, and they stand for nothing else
+-- the store that two files stand for was opened, they stand for nothing else, and they stay as they were
 pub record Recovers {D : Type 0} (seen : D → List ℕ) (may_leave : D → List ℕ → Type 0) (first second : List ℕ) (files : Files D) (s : Store) : Type 0 where
   pub durable : Durable
   pub of_store : AreForStore first second durable
   pub alone : (d : Durable) → AreFor first second d → d ≡ durable
   pub ready : IsReady seen may_leave files durable
+  pub first_stays : seen files.first ≡ first
+  pub second_stays : seen files.second ≡ second
   pub reopened : IsReopened durable s
 
 -- a new store was begun, where both files were blank

@@ -15,6 +15,8 @@ pub record OpensStore {D : Type 0} (seen : D → List ℕ) (may_leave : D → Li
   pub of_store : AreForStore first second durable
   pub alone : (d : Durable) → AreFor first second d → d ≡ durable
   pub ready : IsReady seen may_leave f durable
+  pub first_stays : seen f.first ≡ first
+  pub second_stays : seen f.second ≡ second
   pub reopened : IsReopened durable (store_of store.pages)
   pub pids : store.pids ≡ durable.pids
   pub versions : store.versions ≡ durable.versions
