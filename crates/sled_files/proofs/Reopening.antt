@@ -1,7 +1,10 @@
 -- What two files are opened to is sound as a store in two files.
-use Rattle.std.proofs.Common.{◌≡◌, inl, inr, ℕ, ◌<◌, List, [], refl, sym, ◌∙◌, ap, subst, arith}
+use Rattle.std.proofs.Common.{◌≡◌, ◌≤◌, ⊎_elim, inl, inr, ℕ, ◌<◌, List, [], refl, sym, ◌∙◌, ap, subst, arith}
 use Rattle.std.specs.Prelude.{true, None, nat_lt, ◌&&◌}
+use Rattle.sled_store.specs.In.{In}
+use Rattle.sled_store.specs.State.{State}
 use Rattle.sled_store.specs.Store.{Store}
+use Rattle.sled_store.specs.Crash.{crash_states}
 use Rattle.sled_pages.specs.Memory.{store_of, empty_store}
 use Rattle.sled_files.specs.declared.replay.Made.{Made}
 use Rattle.sled_files.specs.Change.{Durable, nothing_yet}
@@ -9,6 +12,7 @@ use Rattle.sled_files.specs.Standing.{AreFor, AreBlank}
 use Rattle.sled_files.specs.Files.{Files, IsReady}
 use Rattle.sled_files.specs.Lasting.{Limits}
 use Rattle.sled_files.specs.Stored.{Stored, stored_as, over, AreWithin, Stands}
+use Rattle.sled_files.specs.Laws.{OpenedGoesOn}
 use Rattle.sled_files.specs.Opening.{IsReopened, OpensTo}
 use Rattle.sled_files.specs.theory.Reopened.{Opens}
 use Rattle.sled_files.proofs.Choosing.{blanks_or_store}
@@ -94,3 +98,24 @@ module _ {D : Type 0} (seen : D → List ℕ) (may_leave : D → List ℕ → Ty
   pub begins_new : OpensTo seen may_leave first second files s → AreBlank first second → IsReady seen may_leave files nothing_yet × (s ≡ empty_store)
   begins_new (inl o) blanks = absurd (blanks_or_store blanks o.of_store.stand)
   begins_new (inr n) blanks = (n.ready, n.empty)
+
+-- a store that is opened of what is right for one
+
+given_below : (p limit low : ℕ) → 0 < p → p < low → low ≤ limit → (nat_lt 0 p && nat_lt p limit) ≡ true
+given_below p limit low positive lt le = grind arith
+
+given_version : (v limit low : ℕ) → v < low → low ≤ limit → nat_lt v limit ≡ true
+given_version v limit low lt le = grind arith
+
+pub opened_goes_on : OpenedGoesOn
+opened_goes_on asked limits before opened first second l opens =
+    let d = l.durable in
+    let r = opens l.durable l.stands in
+    record {
+      base = record { is = subst (λ (x : State). In x (crash_states before)) (sym r.base) l.right.state.is };
+      recent = r.recent;
+      mark = ⊎_elim (λ same. inl (r.mark ∙ same)) (λ one. inr (subst (λ (n : ℕ). In n asked) (sym r.mark) one)) l.right.mark;
+      recovered = r.recovered;
+      pids = λ p positive lt. r.pids p ∙ given_below p d.pids limits.pids positive lt l.right.limited.pids;
+      versions = λ v lt. r.versions v ∙ given_version v d.versions limits.versions lt l.right.limited.versions;
+    }

@@ -1,5 +1,5 @@
 //! What holds of the files of all stores. The functions do nothing: each has a law as its contract.
-ghost use Rattle.sled_files.specs.Laws.{FlushLasts, FlushEnds, NewStoreLasts};
+ghost use Rattle.sled_files.specs.Laws.{FlushLasts, FlushEnds, NewStoreLasts, OpenedGoesOn};
 
 /// Does nothing. While what is pending of a store is added to its files, they are right for the store, with it and without it.
 pub fn law_flush_lasts()
@@ -15,4 +15,13 @@ pub fn law_flush_ends()
 #[tactic(auto, using(crate::proofs::Beginning::new_store_lasts))]
 pub fn law_new_store_lasts()
     ensures { NewStoreLasts }
+{}
+
+/// Does nothing. A store that is opened of files that are right for one, as a crash leaves them, goes on from it.
+///
+/// ```
+/// law_opened_goes_on(); // From here on a proof knows what an opening after a crash finds.
+/// ```
+pub fn law_opened_goes_on()
+    ensures { OpenedGoesOn }
 {}
