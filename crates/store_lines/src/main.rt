@@ -44,7 +44,7 @@ root K                                root P, or root -
 roots                                 roots K P ..
 swap K OLD NEW                        done, or found P, or found -, the present root; OLD and NEW are P or -
 begin, seal                           done
-flush                                 flushed N
+flush, flush-uncounted                flushed N
 set-aside N                           done
 in-group, was-recovered               yes or no
 mark                                  number N

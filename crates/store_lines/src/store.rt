@@ -17,6 +17,7 @@ enum Alone {
     Seal,
     InGroup,
     Flush,
+    FlushUncounted,
     Mark,
     WasRecovered,
     New,
@@ -68,6 +69,7 @@ const CALLS: [(&str, Call); 56] = [
     ("seal", Call::Alone(Alone::Seal)),
     ("in-group", Call::Alone(Alone::InGroup)),
     ("flush", Call::Alone(Alone::Flush)),
+    ("flush-uncounted", Call::Alone(Alone::FlushUncounted)),
     ("mark", Call::Alone(Alone::Mark)),
     ("was-recovered", Call::Alone(Alone::WasRecovered)),
     ("new", Call::Alone(Alone::New)),
@@ -215,7 +217,9 @@ impl Store {
         }
         let out = &mut line.out;
         match call {
-            Alone::Begin | Alone::Seal | Alone::Flush => return self.grouped(call, out),
+            Alone::Begin | Alone::Seal | Alone::Flush | Alone::FlushUncounted => {
+                return self.grouped(call, out);
+            }
             Alone::Roots => self.roots(out),
             Alone::InGroup => out.push_whether(self.pages.in_group()),
             Alone::Mark => out.push_numbered("number", self.pages.mark()),
@@ -240,6 +244,9 @@ impl Store {
             (Alone::Begin, false) => self.pages.begin_group()?,
             (Alone::Seal, true) => self.pages.seal_group()?,
             (Alone::Flush, false) => out.push_numbered("flushed", self.pages.flush()? as u64),
+            (Alone::FlushUncounted, false) => {
+                out.push_numbered("flushed", self.pages.flush_uncounted() as u64)
+            }
             _ => out.push("barred"),
         }
         Ok(())
