@@ -168,3 +168,10 @@ module _ {D : Type 0} {moment : D → ℕ} {left_since : D → ℕ → List ℕ 
           let moments = moments_either (right_before st.pends {asked = upto ∷ []} (sealed_over f)) (right_marked (upto ∷ []) upto (inl refl) (sealed_over f) st) (any st.durable (Marked upto ∷ []) st.ready spells) in
           subst (λ (x : Option ℕ). IsSound seen may_leave (record f { files = files; asked = x; faults = faults })) (sym (asked_by false true e k))
           (sound_refused f files (Some upto) faults sound (inr k) moments)
+
+-- which mark is asked for, by whether a disk refused it just now
+pub asks_by : (was is : Bool) (before asked : Option ℕ) (upto : ℕ) → asked ≡ (if is && not was then Some upto else before) → (asked ≡ before) ⊎ ((asked ≡ Some upto) × (was ≡ false) × (is ≡ true))
+asks_by true true before asked upto e = inl e
+asks_by true false before asked upto e = inl e
+asks_by false true before asked upto e = inr (e, refl, refl)
+asks_by false false before asked upto e = inl e

@@ -1,5 +1,5 @@
 -- A store in two files as code holds it.
-use Rattle.std.specs.Prelude.{◌≡◌, ◌+◌, ◌<◌, ℕ, true, false, List, [], ◌∷◌, Option, Some, None}
+use Rattle.std.specs.Prelude.{◌≡◌, ◌⊎◌, ◌+◌, ◌<◌, ℕ, true, false, List, [], ◌∷◌, Option, Some, None}
 use Rattle.sled_pages.specs.declared.memory.MemPages.{MemPages}
 use Rattle.sled_pages.specs.Memory.{store_of, flush_number_of}
 use Rattle.sled_store.specs.Store.{Store}
@@ -60,3 +60,7 @@ pub record KeepsFiles {D : Type 0} (old new : Stored D) : Type 0 where
   pub files : new.files ≡ old.files
   pub limits : new.limits ≡ old.limits
   pub asked : new.asked ≡ old.asked
+
+-- a refused mark is asked for where a disk refused it just now, and no other is then
+pub record AsksFor {D : Type 0} (upto : ℕ) (old new : Stored D) : Type 0 where
+  pub is : (new.asked ≡ old.asked) ⊎ ((new.asked ≡ Some upto) × (old.files.failed ≡ false) × (new.files.failed ≡ true))

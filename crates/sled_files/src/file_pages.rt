@@ -1,5 +1,5 @@
 //! A store of pages in two files.
-ghost use Rattle.std.specs.Prelude.{◌≡◌, ◌≤◌, ◌<◌, ◌∷◌, [], None, Some, IfOk, IfErr, OnOk, length, true, false, ◌&&◌, not, if◌then◌else◌};
+ghost use Rattle.std.specs.Prelude.{◌≡◌, ◌≤◌, ◌<◌, ◌∷◌, [], None, Some, IfOk, IfErr, OnOk, OnErr, length, true, false, ◌&&◌, not, if◌then◌else◌};
 ghost use Rattle.sled_nodes.specs.declared.error.Error.TheVariants.{NoMemory};
 ghost use Rattle.sled_nodes.specs.Node.{after_link};
 ghost use Rattle.sled_store.specs.State.{GroupBegins, GroupEnds};
@@ -192,7 +192,7 @@ impl<D: Disk> FilePages<D> {
 }
 
 impl<D: Disk + Send> Pages for FilePages<D> {
-    ghost use Rattle.sled_files.specs.Stored.{stored_as, asked_of, flush_number_in, KeepsFiles};
+    ghost use Rattle.sled_files.specs.Stored.{stored_as, asked_of, flush_number_in, KeepsFiles, AsksFor};
     ghost use Rattle.sled_files.specs.Files.{LeavesPairs};
     ghost use Rattle.sled_files.specs.Lasting.{IsLasting};
 
@@ -343,6 +343,7 @@ impl<D: Disk + Send> Pages for FilePages<D> {
         ensures ok { OnOk result (stored_as self.new ≡ record (stored_as self.old) { mark = upto }) }
         ensures err { IfErr result (λ e. IsRefused e (stored_as self.old) (stored_as self.new)) }
         ensures asked { OnOk result (self.new.asked ≡ self.old.asked) }
+        ensures asks { OnErr result (AsksFor upto self.old self.new) }
         ensures limits { self.new.limits ≡ self.old.limits }
         ensures any_moment { LeavesPairs D.moment D.left_since D.may_leave self.old.files self.new.files (IsLasting (upto ∷ asked_of self.old.asked) self.old.limits (stored_as self.old)) }
     {

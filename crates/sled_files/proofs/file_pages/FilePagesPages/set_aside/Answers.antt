@@ -5,7 +5,7 @@ use Rattle.sled_files.specs.Pending.{Spells}
 use Rattle.sled_files.specs.Stored.{asked_of}
 use Rattle.sled_files.proofs.Over.{own_fault}
 use Rattle.sled_files.proofs.Moments.{moments_none, asks_more}
-use Rattle.sled_files.proofs.Added.{sound_marked, sound_asked, moments_marked}
+use Rattle.sled_files.proofs.Added.{sound_marked, sound_asked, moments_marked, asks_by}
 use Rattle.sled_files.proofs.file_pages.FilePagesPages.set_aside.Goals as goal
 
 pub returns-in-Err-clause-any_moment : goal.returns-in-Err-clause-any_moment
@@ -39,3 +39,6 @@ returns-clause-any_moment g c =
     let spells = subst (λ (l : List ℕ). Spells l (Marked c.args.upto ∷ [])) (sym c.deref.ensures.value) c.in-Ok.ensures.ok in
     rw (← c.self.view_is)
     (moments_marked _ c.add.new.files c.deref.result.now c.add.ensures.first c.add.ensures.second c.self.invariant c.add.ensures.over c.add.ensures.any_moment c.args.upto (c.args.upto ∷ asked_of c.self.inside.asked) spells (λ q i. inr i) (inl refl))
+
+pub returns-in-Err-add-clause-asks : goal.returns-in-Err-add-clause-asks
+returns-in-Err-add-clause-asks g c = rw (← c.self.view_is) (record { is = asks_by c.self.inside.files.failed c.add.new.files.failed c.self.inside.asked c.asked_then-self-inside.result c.args.upto (search rules) })
