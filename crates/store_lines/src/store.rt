@@ -63,7 +63,7 @@ enum Call {
     Made,
 }
 
-const CALLS: [(&str, Call); 56] = [
+const CALLS: [(&str, Call); 57] = [
     ("roots", Call::Alone(Alone::Roots)),
     ("begin", Call::Alone(Alone::Begin)),
     ("seal", Call::Alone(Alone::Seal)),
