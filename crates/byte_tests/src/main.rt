@@ -7,9 +7,7 @@ mod made;
 
 use again::{is_change_again, is_node_again, many_again, refusal};
 use made::{index, leaf, string};
-use sled_bytes::{
-    Change, encode_change, encode_given, encode_linked, encode_node, encode_rooted,
-};
+use sled_bytes::{Change, encode_change, encode_given, encode_linked, encode_node, encode_rooted};
 use sled_nodes::{Link, Node, Pid, Result, Version};
 use std::process::ExitCode;
 
