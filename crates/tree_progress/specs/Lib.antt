@@ -1,0 +1,9 @@
+pub mod Weights
+pub mod ToDo
+pub mod Laws
+pub mod Steps
+pub use Rattle.sled_nodes.specs as sled_nodes
+pub use Rattle.sled_store.specs as sled_store
+pub use Rattle.sled_model.specs as sled_model
+pub use Rattle.tree_laws.specs as tree_laws
+pub use Rattle.sled_tree.specs as sled_tree
