@@ -1,0 +1,72 @@
+//! Why a database is not opened in a folder.
+ghost use Rattle.std.specs.Prelude.{List, ℕ};
+ghost use Rattle.sled_files.specs.Opening.{is_why_closed as is_why_unfiled};
+ghost use Rattle.sled_path.specs.Path.{is_why_closed};
+
+use sled_disk::DiskError;
+use sled_host::HostError;
+use sled_nodes::Error;
+use std::fmt::{self, Display, Formatter, Write};
+
+/// Why a database is not opened in a folder.
+#[derive(Debug, Drop)]
+pub enum OpenError {
+    /// The files are none of a store.
+    NotAStore,
+    /// The files are of a store in this format, which is another.
+    OtherFormat(u32),
+    /// A file was changed since it was written. The first fault that was met is at this place of it, a number of bytes.
+    Decayed(u64),
+    /// Another process, or another value in this one, has the database open.
+    Locked,
+    /// The operating system refused the folder or a file.
+    Io(HostError),
+    /// A file was opened, and a call of it was refused.
+    Disk(DiskError),
+    /// The pages are none of a database, or there was no memory for it.
+    Database(Error),
+}
+
+// Why the files of a folder were not opened.
+pub(crate) fn of_host(e: HostError) -> OpenError
+    ensures { is_why_closed result }
+{
+    match e {
+        HostError::NoMemory => OpenError::Database(Error::NoMemory),
+        HostError::Locked => OpenError::Locked,
+        e => OpenError::Io(e),
+    }
+}
+
+// Why no store was opened in them.
+pub(crate) fn of_files(e: sled_files::OpenError) -> OpenError
+    ensures { (first second : List ℕ) → is_why_unfiled e first second → is_why_closed result }
+{
+    match e {
+        sled_files::OpenError::NoMemory => OpenError::Database(Error::NoMemory),
+        sled_files::OpenError::NotAStore => OpenError::NotAStore,
+        sled_files::OpenError::OtherFormat(format) => OpenError::OtherFormat(format),
+        sled_files::OpenError::Decayed(place) => OpenError::Decayed(place as u64),
+        sled_files::OpenError::Disk(e) => OpenError::Disk(e),
+    }
+}
+
+impl Display for OpenError {
+    fn fmt<W: Write>(&self, f: &mut Formatter<W>) -> fmt::Result {
+        match self {
+            OpenError::NotAStore => f.write_str("the files are none of a store"),
+            OpenError::OtherFormat(format) => {
+                write!(f, "the files are of a store in format {format}")
+            }
+            OpenError::Decayed(place) => {
+                write!(f, "a file has decayed, as is found at its byte {place}")
+            }
+            OpenError::Locked => f.write_str("the database is open elsewhere"),
+            OpenError::Io(e) => write!(f, "{e}"),
+            OpenError::Disk(_) => f.write_str("a call of a file was refused"),
+            OpenError::Database(e) => write!(f, "{e}"),
+        }
+    }
+}
+
+impl std::error::Error for OpenError {}

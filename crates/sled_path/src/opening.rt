@@ -1,0 +1,68 @@
+//! A database is opened in a folder.
+ghost use Rattle.std.specs.Prelude.{IfOk, IfErr};
+ghost use Rattle.sled_path.specs.Path.{OpensIn, is_why_closed};
+
+use crate::error::{OpenError, of_files, of_host};
+use sled::Db;
+use sled_files::FilePages;
+use sled_host::{HostFile, Opening, Pair, open_pair};
+
+/// Opens the database in the folder of this path, under this name: the one that was left there by a drop or a crash, or a new one where
+/// there is none. The folder is made in one that is there. No other process can open it as long as the database lives; where the file
+/// system has no locks it is refused, and `open_with` opens it all the same.
+///
+/// ```
+/// let mut db = open(&rt, "people.db", b"people")?;
+/// db.insert(&db.default_tree()?, b"ulm", b"21")?;
+/// db.flush()?; // No crash takes it back.
+/// ```
+pub fn open(rt: &HostRuntime, path: &str, name: &[u8]) -> Result<Db<FilePages<HostFile>>, OpenError>
+    ensures ok { IfOk result (OpensIn name.now) }
+    ensures err { IfErr result is_why_closed }
+{
+    let opening = Opening {
+        creates: true,
+        needs_lock: true,
+    };
+    match open_with(rt, path, name, opening) {
+        Ok((db, _)) => Ok(db),
+        Err(e) => Err(e),
+    }
+}
+
+/// The same, by these options, and whether the files are locked. Where they are not, the user has to see to it that nobody else opens
+/// them.
+///
+/// ```
+/// let only_old = Opening { creates: false, needs_lock: true };
+/// let (db, is_locked) = open_with(&rt, "people.db", b"people", only_old)?; // It is there already.
+/// ```
+pub fn open_with(
+    rt: &HostRuntime,
+    path: &str,
+    name: &[u8],
+    opening: Opening,
+) -> Result<(Db<FilePages<HostFile>>, bool), OpenError>
+    ensures ok { IfOk result (λ opened. OpensIn name.now opened.0) }
+    ensures err { IfErr result is_why_closed }
+{
+    let Pair {
+        first,
+        second,
+        is_locked,
+    } = match open_pair(rt, path, opening) {
+        Ok(pair) => pair,
+        Err(e) => return Err(of_host(e)),
+    };
+    let pages = match FilePages::open(rt.alloc(), first, second) {
+        Ok(pages) => pages,
+        Err(e) => return Err(of_files(e)),
+    };
+    match Db::open_checked(rt.alloc(), pages, name) {
+        Ok(db) => Ok((db, is_locked)),
+        Err((pages, e)) => {
+            drop(pages);
+            Err(OpenError::Database(e))
+        }
+    }
+}
