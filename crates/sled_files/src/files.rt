@@ -95,10 +95,6 @@ fn files_of<D: Disk>(alloc: Global, first: D, second: D, opened: Opened) -> (Two
 
 /// Opens two disks as the files of a store: the store that they stand for, or a new one where both are blank. Refused where they
 /// stand for none, for want of memory, or by a disk.
-///
-/// ```
-/// let (files, store) = open_files(alloc, first, second)?;
-/// ```
 pub fn open_files<D: Disk>(
     alloc: Global,
     first: D,

@@ -21,9 +21,10 @@ impl<D: Disk> FilePages<D> {
     /// of memory, or by a disk.
     ///
     /// ```
-    /// let first = MemoryDisk::new(alloc, Vec::new(alloc))?;
-    /// let second = MemoryDisk::new(alloc, Vec::new(alloc))?;
-    /// let store = FilePages::open(alloc, first, second)?; // A new one.
+    /// match FilePages::open(alloc, first, second) {
+    ///     Ok(store) => drop(store), // It can be opened again.
+    ///     Err(why) => drop(why),    // The files are as they were.
+    /// }
     /// ```
     pub fn open(alloc: Global, first: D, second: D) -> Result<FilePages<D>, OpenError>
         // Of what files stand for, they stand for nothing else.

@@ -12,9 +12,10 @@ use sled_host::{HostFile, Opening, Pair, open_pair};
 /// system has no locks it is refused, and `open_with` opens it all the same.
 ///
 /// ```
-/// let mut db = open(&rt, "people.db", b"people")?;
-/// db.insert(&db.default_tree()?, b"ulm", b"21")?;
-/// db.flush()?; // No crash takes it back.
+/// match open(rt, "people.db", b"people") {
+///     Ok(db) => drop(db),    // What was flushed is there when it is opened again.
+///     Err(why) => drop(why), // `why` is printed in words.
+/// }
 /// ```
 pub fn open(rt: &HostRuntime, path: &str, name: &[u8]) -> Result<Db<FilePages<HostFile>>, OpenError>
     ensures ok { IfOk result (OpensIn name.now) }
@@ -35,7 +36,9 @@ pub fn open(rt: &HostRuntime, path: &str, name: &[u8]) -> Result<Db<FilePages<Ho
 ///
 /// ```
 /// let only_old = Opening { creates: false, needs_lock: true };
-/// let (db, is_locked) = open_with(&rt, "people.db", b"people", only_old)?; // It is there already.
+/// if let Ok((db, is_locked)) = open_with(rt, "people.db", b"people", only_old) {
+///     drop(db); // It was there already.
+/// }
 /// ```
 pub fn open_with(
     rt: &HostRuntime,
