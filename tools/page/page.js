@@ -287,7 +287,8 @@ function fate(entry, keep) {
   return entry.kind === "parts" && entry.from < keep ? "in part" : "lost";
 }
 
-// What is said of a decided call, and how it looks. One that is not flushed is told to be safe or lost only where the slider was put somewhere.
+// What is said of a decided call, and how it looks. Of one that is not flushed it is said that it is kept, or lost, only where the slider was
+// put somewhere.
 function fateSaid(entry, isFlushed) {
   const is = fate(entry, Number($("keep").value));
   if (!is) return ["changes nothing", ""];

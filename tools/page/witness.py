@@ -219,8 +219,8 @@ class Witness:
         return [(tree.name, queue.prefix, queue.missed, queue.events) for tree, queue in self.shell.subscribers]
 
     def loose(self, but):
-        """Lines of a drawing for the pages that stand in none, and what each is: one of an image that was not opened yet, one that its call may
-        still bring into a tree, or one that was left behind."""
+        """Lines of a drawing for the pages that stand in none, and what each is: of an image that was not opened yet, of a call that brings it
+        in or frees it, or left behind."""
         store = [(view, self.is_of(view.pid)) for pid, view in sorted(self.store.pages.items()) if str(pid) not in but]
         noted = [(oracle.view_of(pid, 0, node), IMAGE) for pid, node in sorted(self.shell.noted[0].items())]
         return [(self.shell.page_drawn(view.pid, view.node, "", False, f" base {view.base} links {view.links}")[0], what) for view, what in store + noted]
