@@ -61,9 +61,9 @@ def die_as(child):
     os.kill(os.getpid(), -child.returncode)
 
 
-def fed(path, lines):
-    """Runs a program: its status. Where standard input cannot be read that is 2."""
-    child = subprocess.Popen([path], stdin=subprocess.PIPE, bufsize=0)
+def fed(path, lines, *words):
+    """Runs a program with these words: its status. Where standard input cannot be read that is 2."""
+    child = subprocess.Popen([path, *words], stdin=subprocess.PIPE, bufsize=0)
     pass_on(child)
     feed = Feed(lines, child.stdin)
     # It may wait for a line that nobody wants any more.
