@@ -1,7 +1,7 @@
 -- What a page weighs by how many entries it has.
 --
--- That each change of a repair lowers the sum of these weights rests on the sizes: a page of 17 entries splits, and one of 3 merges, and a half
--- of 17 has more than 3.
+-- That each change of a repair lowers the sum of these weights rests on the sizes: a page of 17 entries splits, and one of 3 merges, and
+-- a half of 17 has more than 3.
 use Rattle.std.specs.Prelude.{ℕ, ◌+◌, ◌-◌, ◌*◌, Bool, true, false}
 
 -- nothing from 8 to 10 entries, 2 for each entry below 8, 1 for each above 10

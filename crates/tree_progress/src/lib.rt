@@ -1,10 +1,10 @@
 //! What is left to repair in a tree, as a number of its pages (`to_do`), and what the changes of a repair do to it, as laws.
 //!
-//! A call that comes to a page that is too long, to a small one, to one without a pointer or to a half-done merge repairs it first. That
-//! calls in flight do not undo each other's repairs for ever is shown by a number: what each page weighs by how many entries it has, and a
-//! weight more for each page without a pointer and for each merge that is half done. It is a function of the pages and the root alone: down
-//! from the root by first pointers, and on each level along `next`, as the contents of a tree are. On well-formed pages it is the sum over
-//! the chains of the forest.
+//! A call that comes to a page that is too long, to a small one, to one without a pointer or to a half-done merge repairs it first. What is
+//! left to repair is a number that each repair lowers: what each page weighs by how many entries it has, and a weight more for each page
+//! without a pointer and for each merge that is half done. It is to show that calls in flight do not undo each other's repairs for ever;
+//! of runs nothing is proved here yet. It is a function of the pages and the root alone: down from the root by first pointers, and on each
+//! level along `next`, as the contents of a tree are. On well-formed pages it is the sum over the chains of the forest.
 //!
 //! - *A page of n entries*: nothing from 8 to 10, 2 for each entry below 8 and 1 for each above 10 (`weight`).
 //! - *The first page of a level*, which never merges: 1 for each entry above 10 (`first_weight`).
@@ -33,8 +33,8 @@ pub fn law_link()
     ensures { LinkRaises }
 {}
 
-/// Does nothing. A page of more than 16 entries that becomes its left half, whose `next` is the new page with its right half, lowers what is
-/// left to repair in its tree by 3 at least, though the new page has no pointer yet.
+/// Does nothing. A page of more than 16 entries that becomes its left half, whose `next` is the new page with its right half, lowers what
+/// is left to repair in its tree by 3 at least, though the new page has no pointer yet.
 ///
 /// ```
 /// law_install(); // From here on a proof knows it.
@@ -104,9 +104,9 @@ pub fn law_confirm()
     ensures { ConfirmLowers }
 {}
 
-/// Does nothing. A step of a call in flight (`Follows` of `sled_tree`), whichever its stage is, leaves what is left to repair in every tree as
-/// it is, or lowers it in its own. But the link of a change raises it by 2 at most, and an intention does as `law_intend` says. Of a call
-/// that is to make a page its left half it is asked that the halves are those that a split makes (`HasHalves`).
+/// Does nothing. A step of a call in flight (`Follows` of `sled_tree`), whichever its stage is, leaves what is left to repair in every tree
+/// as it is, or lowers it in its own. But the link of a change raises it by 2 at most, and an intention does as `law_intend` says. Of a
+/// call that is to make a page its left half it is asked that the halves are those that a split makes (`HasHalves`).
 ///
 /// ```
 /// law_step(); // From here on a proof knows it.
