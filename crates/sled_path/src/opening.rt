@@ -6,18 +6,24 @@ use crate::error::{OpenError, of_files, of_host};
 use sled::Db;
 use sled_files::FilePages;
 use sled_host::{HostFile, Opening, Pair, open_pair};
+use sled_model::MergeOperator;
 
 /// Opens the database in the folder of this path, under this name: the one that was left there by a drop or a crash, or a new one where
 /// there is none. The folder is made in one that is there. No other process can open it as long as the database lives; where the file
-/// system has no locks it is refused, and `open_with` opens it all the same.
+/// system has no locks it is refused, and `open_with` opens it all the same. Its merge operators are of the type M, as after
+/// `Db::with_operators`.
 ///
 /// ```
-/// match open(rt, "people.db", b"people") {
+/// match open::<Adds>(rt, "people.db", b"people") {
 ///     Ok(db) => drop(db),    // What was flushed is there when it is opened again.
 ///     Err(why) => drop(why), // `why` is printed in words.
 /// }
 /// ```
-pub fn open(rt: &HostRuntime, path: &str, name: &[u8]) -> Result<Db<FilePages<HostFile>>, OpenError>
+pub fn open<M: MergeOperator>(
+    rt: &HostRuntime,
+    path: &str,
+    name: &[u8],
+) -> Result<Db<FilePages<HostFile>, M>, OpenError>
     ensures ok { IfOk result (OpensIn name.now) }
     ensures err { IfErr result is_why_closed }
 {
@@ -36,16 +42,16 @@ pub fn open(rt: &HostRuntime, path: &str, name: &[u8]) -> Result<Db<FilePages<Ho
 ///
 /// ```
 /// let only_old = Opening { creates: false, needs_lock: true };
-/// if let Ok((db, is_locked)) = open_with(rt, "people.db", b"people", only_old) {
+/// if let Ok((db, is_locked)) = open_with::<Adds>(rt, "people.db", b"people", only_old) {
 ///     drop(db); // It was there already.
 /// }
 /// ```
-pub fn open_with(
+pub fn open_with<M: MergeOperator>(
     rt: &HostRuntime,
     path: &str,
     name: &[u8],
     opening: Opening,
-) -> Result<(Db<FilePages<HostFile>>, bool), OpenError>
+) -> Result<(Db<FilePages<HostFile>, M>, bool), OpenError>
     ensures ok { IfOk result (λ opened. OpensIn name.now opened.0) }
     ensures err { IfErr result is_why_closed }
 {
@@ -62,7 +68,7 @@ pub fn open_with(
         Err(e) => return Err(of_files(e)),
     };
     match Db::open_checked(rt.alloc(), pages, name) {
-        Ok(db) => Ok((db, is_locked)),
+        Ok(db) => Ok((db.with_operators::<M>(), is_locked)),
         Err((pages, e)) => {
             drop(pages);
             Err(OpenError::Database(e))

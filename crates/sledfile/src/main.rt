@@ -23,8 +23,8 @@ type Opened = Session<FilePages<HostFile>, NoOperator>;
 
 // Opens the database, and says why it is not opened.
 fn session_in(rt: &HostRuntime, path: &str, output: &mut impl Write) -> Result<Opened, Stopped> {
-    let db = match open(rt, path, DATABASE) {
-        Ok(db) => db.with_operators::<NoOperator>(),
+    let db = match open::<NoOperator>(rt, path, DATABASE) {
+        Ok(db) => db,
         Err(e) => {
             writeln!(output, "not opened: {e}")?;
             output.flush()?;
