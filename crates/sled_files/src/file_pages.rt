@@ -109,6 +109,32 @@ impl<D: Disk> FilePages<D> {
     }
 }
 
+impl<D: Disk> FilePages<D> {
+    /// The two disks, the first and the second, as they are. Nothing is written: what was not flushed is not in the files.
+    ///
+    /// ```
+    /// let (first, second) = store.into_disks();
+    /// ```
+    pub fn into_disks(self) -> (D, D)
+        ensures { result ≡ (self.files.first, self.files.second) }
+    {
+        let FilePages {
+            alloc: _,
+            pages,
+            files,
+            pending,
+            mark: _,
+            limit_pids: _,
+            limit_versions: _,
+            asked: _,
+            faults: _,
+        } = self;
+        drop(pages);
+        drop(pending);
+        files.into_disks()
+    }
+}
+
 // How many numbers and versions more a limit sets aside.
 const MORE: u64 = 1_000_000;
 

@@ -154,6 +154,26 @@ impl<D: Disk> TwoFiles<D> {
         laws_of(&self.first, &self.second);
     }
 
+    /// The two disks, the first and the second, as they are. Nothing is written.
+    ///
+    /// ```
+    /// let (first, second) = files.into_disks();
+    /// ```
+    pub fn into_disks(self) -> (D, D)
+        ensures { result ≡ (self.first, self.second) }
+    {
+        let TwoFiles {
+            alloc: _,
+            first,
+            second,
+            is_second: _,
+            gate: _,
+            generation: _,
+            failed: _,
+        } = self;
+        (first, second)
+    }
+
     /// How long the log is that counts, in bytes.
     ///
     /// ```
