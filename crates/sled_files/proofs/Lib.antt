@@ -10,6 +10,7 @@ pub mod Beginning
 pub mod Pairs
 pub mod Grows
 pub mod Over
+pub mod Snapping
 pub mod Sound
 pub mod Moments
 pub mod Added

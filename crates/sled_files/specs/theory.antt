@@ -6,3 +6,4 @@ pub mod Begun
 pub mod Given
 pub mod Spelled
 pub mod Kept
+pub mod Snapshot

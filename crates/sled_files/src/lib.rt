@@ -12,6 +12,7 @@ mod laws;
 mod open;
 mod opening;
 mod replay;
+mod snapshot;
 mod spelled;
 mod storing;
 mod two_files;

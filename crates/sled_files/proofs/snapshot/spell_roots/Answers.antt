@@ -1,0 +1,6 @@
+use Rattle.std.proofs.Common.{sym}
+use Rattle.sled_files.proofs.Snapping.{roots_push}
+use Rattle.sled_files.proofs.snapshot.spell_roots.Goals as goal
+
+pub loop-name-preserved : goal.loop-name-preserved
+loop-name-preserved c = roots_push c.in-Some.name c.as_ref.result.now c.in-Some.pid (sym c.as_ref.ensures) c.loop-name.invariant c.in-Some.ensures.items c.in_default-spelled.ensures.fits c.in_default-spelled.ensures.ok

@@ -1,0 +1,38 @@
+-- What a store is now, as changes that make it of nothing.
+use Rattle.std.specs.Prelude.{◌≡◌, ℕ, nat_lt, false, List, Option, Some, None, if◌then◌else◌}
+use Rattle.std.specs.FinMap.Entries.{find}
+use Rattle.sled_nodes.specs.Order.{Key, key_cmp}
+use Rattle.sled_store.specs.declared.page.Page.{Page}
+use Rattle.sled_store.specs.State.{State}
+use Rattle.sled_store.specs.Store.{Store, now}
+use Rattle.sled_bytes.specs.declared.change.Change.{Change}
+use Rattle.sled_bytes.specs.declared.change.Change.TheVariants.{Given}
+use Rattle.sled_files.specs.Change.{Durable, nothing_yet, changed, changed_all}
+use Rattle.sled_files.specs.Pending.{Spells}
+
+-- the bytes are those of changes that make this of nothing
+pub record Makes (bytes : List ℕ) (d : Durable) : Type 0 where
+  pub changes : List Change
+  pub spells : Spells bytes changes
+  pub makes : changed_all changes nothing_yet ≡ d
+
+-- with a page, if there is one
+abbrev pub with_page : ℕ → Option Page → Durable → Durable
+with_page pid None d = d
+with_page pid (Some page) d = changed (Given pid page.version page.node) d
+
+-- these pages and roots, and nothing else
+abbrev pub only : (ℕ → Option Page) → (Key → Option ℕ) → Durable
+only pages roots = record nothing_yet { state = record { pages = pages; roots = roots; in_group = false } }
+
+-- the pages of a state that have a number below this one
+abbrev pub pages_below : State → ℕ → Durable
+pages_below s upto = only (λ p. if nat_lt p upto then s.pages p else None) (λ _. None)
+
+-- all its pages, and these roots
+abbrev pub pages_rooted : State → List (Key × ℕ) → Durable
+pages_rooted s roots = only s.pages (λ name. find key_cmp name roots)
+
+-- what a file has of a store as it is now, with this mark and these limits, once no group is open
+abbrev pub durable_now : Store → ℕ → ℕ → ℕ → Durable
+durable_now s mark pids versions = record { state = record (now s) { in_group = false }; mark = mark; pids = pids; versions = versions }
