@@ -11,6 +11,7 @@ pub mod Pairs
 pub mod Grows
 pub mod Over
 pub mod Snapping
+pub mod Anew
 pub mod Sound
 pub mod Moments
 pub mod Added

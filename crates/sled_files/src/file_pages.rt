@@ -1,5 +1,5 @@
 //! A store of pages in two files.
-ghost use Rattle.std.specs.Prelude.{◌≡◌, ◌≤◌, ◌<◌, ◌∷◌, [], None, Some, IfOk, IfErr, OnOk, OnErr, length, true, false, ◌&&◌, not, if◌then◌else◌};
+ghost use Rattle.std.specs.Prelude.{◌/◌, nat_lt, nat_le, ℕ, OnErr, IfSome, ◌≡◌, ◌≤◌, ◌<◌, ◌∷◌, [], None, Some, IfOk, IfErr, OnOk, length, true, false, ◌&&◌, not, if◌then◌else◌};
 ghost use Rattle.sled_nodes.specs.declared.error.Error.TheVariants.{NoMemory};
 ghost use Rattle.sled_nodes.specs.Node.{after_link};
 ghost use Rattle.sled_store.specs.State.{GroupBegins, GroupEnds};
@@ -8,18 +8,34 @@ ghost use Rattle.sled_pages.specs.Memory.{store_of};
 ghost use Rattle.sled_files.specs.Lasting.{EachPair, IsLasting};
 ghost use Rattle.sled_files.specs.Stored.{asked_of, stored_as, AreWithin};
 
+use crate::snapshot::snapshot;
 use crate::spelled::{
     allocate, begin_group, cas_root, free, link, next_of, replace, seal_group, spelled,
 };
-use crate::storing::{add, fault};
+use crate::storing::{add, begin_anew, fault};
 use crate::two_files::TwoFiles;
 use sled_bytes::Change;
 use sled_disk::Disk;
-use sled_nodes::{IVec, Link, Node, Pid, Result, Version};
+use sled_nodes::{Error, IVec, Link, Node, Pid, Result, Version};
 use sled_pages::MemPages;
 use sled_store::{Pages, View};
 use std::alloc::Global;
 use std::marker::Model;
+
+/// Figures of a store in two files.
+///
+/// ```
+/// let is_long = store.stats().bytes > 1_000_000;
+/// ```
+#[derive(Clone, Copy)]
+pub struct FileStats {
+    /// How many page numbers were given, those of pages that are gone included.
+    pub pages: u64,
+    /// How long the log is that counts.
+    pub bytes: usize,
+    /// The generation of its file: one more each time that a file is begun anew.
+    pub generation: u64,
+}
 
 /// A store of pages in two files. Its pages are in memory too, where they are read. The changing calls change them there, and note what
 /// a flush adds to the files; a mark is added to the files at once. A crash leaves in the files what `Pages` allows, so the store is
@@ -39,6 +55,9 @@ pub struct FilePages<D: Disk> {
     // a mark that was refused by a disk, which may have it all the same
     asked: Option<u64>,
     faults: u64,
+    // the length of the log above which it is begun anew, and of the last snapshot, which it is to be twice as long as
+    longest: usize,
+    last: usize,
 }
 
 impl<D: Disk> Model for FilePages<D> {
@@ -68,6 +87,8 @@ impl<D: Disk> Drop for FilePages<D> {
             limit_versions: _,
             asked: _,
             faults: _,
+            longest: _,
+            last: _,
         } = self;
         drop(pages);
         drop(files);
@@ -105,6 +126,8 @@ impl<D: Disk> FilePages<D> {
             limit_versions: versions,
             asked: None,
             faults: 0,
+            longest: LONGEST,
+            last: 0,
         }
     }
 }
@@ -128,11 +151,23 @@ impl<D: Disk> FilePages<D> {
             limit_versions: _,
             asked: _,
             faults: _,
+            longest: _,
+            last: _,
         } = self;
         drop(pages);
         drop(pending);
         files.into_disks()
     }
+}
+
+// The length of the log from which on a flush begins it anew, where none is set.
+const LONGEST: usize = 4_000_000;
+
+// Whether a log is to be begun anew: it is longer than this, and longer than twice the last snapshot.
+fn is_long(len: usize, longest: usize, last: usize) -> bool
+    ensures { result ≡ (nat_lt longest len && nat_lt last (len / 2)) }
+{
+    longest < len && last < len / 2
 }
 
 // How many numbers and versions more a limit sets aside.
@@ -214,6 +249,142 @@ impl<D: Disk> FilePages<D> {
             Ok(()) => Ok((pid, version)),
             Err(e) => Err(e),
         }
+    }
+}
+
+impl<D: Disk> FilePages<D> {
+    ghost use Rattle.sled_files.specs.Stored.{stored_as, asked_of};
+    ghost use Rattle.sled_files.specs.theory.Snapshot.{Makes, durable_now};
+    ghost use Rattle.sled_files.specs.Files.{LeavesPairs, one_of, other_of};
+    ghost use Rattle.sled_files.specs.Lasting.{IsLasting};
+
+    /// Flushes, and begins the other file anew with a snapshot of all that the store is, which counts from then on. At any moment a crash
+    /// leaves files that are right for the store before. Nothing is done where a group is open. Refused for want of memory, and then
+    /// nothing changed, or by a disk.
+    ///
+    /// ```
+    /// store.compact()?; // The log has one block.
+    /// ```
+    pub fn compact(&mut self) -> Result<()>
+        ensures open { (now (stored_as self.old)).in_group ≡ true → (self.new ≡ self.old) × OnErr result ⊥ }
+        ensures ok { (now (stored_as self.old)).in_group ≡ false → OnOk result (stored_as self.new ≡ after_flush (stored_as self.old)) }
+        // The file that counted is the other one now.
+        ensures one { (now (stored_as self.old)).in_group ≡ false → OnOk result (other_of self.new.files ≡ one_of self.old.files) }
+        ensures err { IfErr result (λ e. IsRefused e (stored_as self.old) (stored_as self.new)) }
+        ensures asked { self.new.asked ≡ self.old.asked }
+        ensures limits { self.new.limits ≡ self.old.limits }
+        ensures any_moment { LeavesPairs D.moment D.left_since D.may_leave self.old.files self.new.files (IsLasting (asked_of self.old.asked) self.old.limits (stored_as self.old)) }
+    {
+        self.files.law_time();
+        if self.pages.in_group() {
+            return Ok(());
+        }
+        let whole = match snapshot(
+            self.alloc,
+            &self.pages,
+            self.mark,
+            self.limit_pids,
+            self.limit_versions,
+        ) {
+            Ok(whole) => whole,
+            Err(e) => return Err(e),
+        };
+        let flushed = self.flush_anew(&whole);
+        drop(whole);
+        match flushed {
+            Ok(_) => Ok(()),
+            Err(e) => Err(e),
+        }
+    }
+
+    /// Sets the length of the log, in bytes, above which a flush begins it anew once it is twice as long as the last snapshot. It is
+    /// 4,000,000 where none was set. What the store means stays the same.
+    ///
+    /// ```
+    /// store.compact_from(1000);
+    /// ```
+    pub fn compact_from(&mut self, len: usize)
+        ensures { self.new ≡ self.old }
+    {
+        self.longest = len;
+    }
+
+    /// How many page numbers were given, and how long the log is and of which generation.
+    ///
+    /// ```
+    /// let generation = store.stats().generation;
+    /// ```
+    pub fn stats(&self) -> FileStats
+        ensures pages { (p : ℕ) → 0 < p → (stored_as self.now).pids p ≡ nat_le p result.pages }
+        ensures bytes { result.bytes ≡ self.now.files.gate }
+        ensures generation { result.generation ≡ self.now.files.generation }
+    {
+        let (greatest, _) = self.pages.numbers_given();
+        FileStats {
+            pages: greatest.0,
+            bytes: self.files.len(),
+            generation: self.files.generation(),
+        }
+    }
+
+    // What the store is now, where the log has grown long, and there is memory for it.
+    fn whole(&self) -> Option<Vec<u8>>
+        ensures { IfSome result (λ bytes. Makes bytes.items (durable_now (stored_as self.now) self.now.mark self.now.limits.pids self.now.limits.versions)) }
+    {
+        if self.files.failed() || !is_long(self.files.len(), self.longest, self.last) {
+            return None;
+        }
+        match snapshot(
+            self.alloc,
+            &self.pages,
+            self.mark,
+            self.limit_pids,
+            self.limit_versions,
+        ) {
+            Ok(bytes) => Some(bytes),
+            Err(e) => {
+                drop(e);
+                None
+            }
+        }
+    }
+
+    // Flushes by a block more.
+    fn flush_on(&mut self) -> Result<usize>
+        requires { (now (stored_as self.old)).in_group ≡ false }
+        ensures ok { OnOk result (stored_as self.new ≡ after_flush (stored_as self.old)) }
+        ensures number { IfOk result (λ n. n ≡ length (stored_as self.old).recent) }
+        ensures err { IfErr result (λ e. IsRefused e (stored_as self.old) (stored_as self.new)) }
+        ensures asked { self.new.asked ≡ self.old.asked }
+        ensures limits { self.new.limits ≡ self.old.limits }
+        ensures any_moment { LeavesPairs D.moment D.left_since D.may_leave self.old.files self.new.files (IsLasting (asked_of self.old.asked) self.old.limits (stored_as self.old)) }
+    {
+        if let Err(e) = add(&mut self.files, &mut self.faults, &self.pending) {
+            return Err(e);
+        }
+        self.pending.clear();
+        Ok(self.pages.flush_uncounted())
+    }
+
+    // Flushes by a file that is begun anew with all that the store is.
+    fn flush_anew(&mut self, whole: &[u8]) -> Result<usize>
+        requires out { (now (stored_as self.old)).in_group ≡ false }
+        requires whole { Makes whole.now (durable_now (stored_as self.old) self.old.mark self.old.limits.pids self.old.limits.versions) }
+        ensures ok { OnOk result (stored_as self.new ≡ after_flush (stored_as self.old)) }
+        ensures number { IfOk result (λ n. n ≡ length (stored_as self.old).recent) }
+        ensures one { OnOk result (other_of self.new.files ≡ one_of self.old.files) }
+        ensures err { IfErr result (λ e. IsRefused e (stored_as self.old) (stored_as self.new)) }
+        ensures stays { IfErr result (λ e. e ≡ NoMemory → self.new.files.failed ≡ false → self.new ≡ self.old) }
+        ensures asked { self.new.asked ≡ self.old.asked }
+        ensures limits { self.new.limits ≡ self.old.limits }
+        ensures any_moment { LeavesPairs D.moment D.left_since D.may_leave self.old.files self.new.files (IsLasting (asked_of self.old.asked) self.old.limits (stored_as self.old)) }
+    {
+        if let Err(e) = begin_anew(&mut self.files, &mut self.faults, whole) {
+            return Err(e);
+        }
+        self.pending.clear();
+        self.last = whole.len();
+        Ok(self.pages.flush_uncounted())
     }
 }
 
@@ -345,7 +516,8 @@ impl<D: Disk + Send> Pages for FilePages<D> {
     }
 
     /// Makes all that was done durable. The number is that of the changing actions since the last flush. At any moment a crash leaves
-    /// files that are right for the store before.
+    /// files that are right for the store before. Once the log is longer than 4 MB and than twice the last snapshot, the other file is
+    /// begun anew with a snapshot, if there is memory for it, and counts from then on.
     fn flush(&mut self) -> Result<usize>
         requires { (now (stored_as self.old)).in_group ≡ false }
         ensures ok { OnOk result (stored_as self.new ≡ after_flush (stored_as self.old)) }
@@ -355,11 +527,16 @@ impl<D: Disk + Send> Pages for FilePages<D> {
         ensures limits { self.new.limits ≡ self.old.limits }
         ensures any_moment { LeavesPairs D.moment D.left_since D.may_leave self.old.files self.new.files (IsLasting (asked_of self.old.asked) self.old.limits (stored_as self.old)) }
     {
-        if let Err(e) = add(&mut self.files, &mut self.faults, &self.pending) {
-            return Err(e);
+        let Some(whole) = self.whole() else {
+            return self.flush_on();
+        };
+        let flushed = self.flush_anew(&whole);
+        drop(whole);
+        match flushed {
+            Ok(count) => Ok(count),
+            Err(Error::NoMemory) if !self.files.failed() => self.flush_on(),
+            Err(e) => Err(e),
         }
-        self.pending.clear();
-        Ok(self.pages.flush_uncounted())
     }
 
     /// Raises the mark, which is durable at once, also while a group is open. At any moment a crash leaves files that are right for the

@@ -18,7 +18,7 @@ mod storing;
 mod two_files;
 
 pub use begin::begin_file;
-pub use file_pages::{FilePages, law_lasts};
+pub use file_pages::{FilePages, FileStats, law_lasts};
 pub use found::OpenError;
 pub use laws::{law_flush_ends, law_flush_lasts, law_new_store_lasts, law_opened_goes_on};
 pub use two_files::TwoFiles;

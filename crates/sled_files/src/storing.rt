@@ -3,8 +3,9 @@ ghost use Rattle.std.specs.Prelude.{◌≡◌, ◌⊎◌, List, IfErr, OnOk, OnE
 ghost use Rattle.sled_store.specs.Faults.{IsFault};
 ghost use Rattle.sled_bytes.specs.declared.change.Change.{Change};
 ghost use Rattle.sled_files.specs.Change.{Durable, changed_all};
-ghost use Rattle.sled_files.specs.Files.{IsReady, KeepsTime, LeavesPairs, AreForEither};
+ghost use Rattle.sled_files.specs.Files.{IsReady, KeepsTime, LeavesPairs, AreForEither, one_of, other_of};
 ghost use Rattle.sled_files.specs.Pending.{Spells};
+ghost use Rattle.sled_files.specs.theory.Snapshot.{Makes};
 
 use crate::two_files::TwoFiles;
 use sled_disk::{Disk, DiskError};
@@ -57,6 +58,30 @@ pub fn add<D: Disk>(files: &mut TwoFiles<D>, faults: &mut u64, payload: &[u8]) -
         return Ok(());
     }
     match files.append(payload) {
+        Ok(()) => Ok(()),
+        Err(e) => Err(refusal(faults, e)),
+    }
+}
+
+/// Makes the files stand for what these changes make of nothing, in place of all that they have. Once a disk refused a call, the files
+/// stay as they are.
+pub fn begin_anew<D: Disk>(files: &mut TwoFiles<D>, faults: &mut u64, payload: &[u8]) -> Result<()>
+    ensures ready { OnOk result ((d made : Durable) → IsReady D.seen D.may_leave files.old d → Makes payload.now made → IsReady D.seen D.may_leave files.new made) }
+    ensures any_moment { (d made : Durable) → IsReady D.seen D.may_leave files.old d → Makes payload.now made → LeavesPairs D.moment D.left_since D.may_leave files.old files.new (AreForEither d made) }
+    ensures first { KeepsTime D.moment D.left_since D.may_leave files.old.first }
+    ensures second { KeepsTime D.moment D.left_since D.may_leave files.old.second }
+    ensures one { OnOk result (other_of files.new ≡ one_of files.old) }
+    ensures over { files.old.failed ≡ true → files.new ≡ files.old }
+    ensures up { OnOk result (files.old.failed ≡ false) }
+    ensures same { OnOk result (faults.new ≡ faults.old) }
+    ensures fault { IfErr result (λ e. IsFault faults.old faults.new e) }
+    ensures err { OnErr result ((files.new ≡ files.old) ⊎ (files.new.failed ≡ true)) }
+{
+    files.law_time();
+    if files.failed() {
+        return Err(fault(faults, FAILED));
+    }
+    match files.rewrite(payload) {
         Ok(()) => Ok(()),
         Err(e) => Err(refusal(faults, e)),
     }

@@ -154,6 +154,17 @@ impl<D: Disk> TwoFiles<D> {
         laws_of(&self.first, &self.second);
     }
 
+    /// The generation of the file that counts.
+    ///
+    /// ```
+    /// let generation = files.generation(); // 1 of a new store, and one more each time that a file is begun anew.
+    /// ```
+    pub fn generation(&self) -> u64
+        ensures { result ≡ self.now.generation }
+    {
+        self.generation
+    }
+
     /// The two disks, the first and the second, as they are. Nothing is written.
     ///
     /// ```

@@ -4,7 +4,7 @@ use Rattle.sled_pages.specs.Memory.{store_of}
 use Rattle.sled_files.specs.Stored.{Stored, stored_as}
 use Rattle.sled_files.proofs.Over.{own_fault}
 use Rattle.sled_files.proofs.Added.{sound_refused, sound_flushed, moments_flushed}
-use Rattle.sled_files.proofs.file_pages.FilePagesPages.flush.Goals as goal
+use Rattle.sled_files.proofs.file_pages.FilePages.flush_on.Goals as goal
 
 pub invariant_of-self : goal.invariant_of-self
 invariant_of-self g c =
