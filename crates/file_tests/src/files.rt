@@ -63,6 +63,24 @@ fn tell_calls(report: &Report, words: &str, files: Result<TwoFiles<MemoryDisk>>)
     }
 }
 
+// Tells the generation of two files, and how long each is.
+fn tell_disks(report: &Report, words: &str, files: Result<TwoFiles<MemoryDisk>>) {
+    match files {
+        Ok(files) => {
+            let generation = files.generation();
+            let (first, second) = files.into_disks();
+            report.tell(format_args!(
+                "{words}: generation {generation}, {} and {} bytes",
+                first.bytes().len(),
+                second.bytes().len()
+            ));
+            drop(first);
+            drop(second);
+        }
+        Err(e) => report.show(words, e),
+    }
+}
+
 pub fn tell(report: &Report) {
     let alloc = report.alloc();
     report.show_disk("a file is begun", begun(alloc, 0));
@@ -72,4 +90,5 @@ pub fn tell(report: &Report) {
     tell_calls(report, "a block is refused", files(alloc, 1, 7, 0));
     tell_calls(report, "a file is refused", files(alloc, 1, 0, 4));
     tell_calls(report, "the last generation", files(alloc, u64::MAX, 0, 0));
+    tell_disks(report, "the disks", files(alloc, 258, 0, 0));
 }

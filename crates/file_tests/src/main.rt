@@ -2,6 +2,7 @@
 //! are added to a log. It prints what came of each case; `stdout` has what should have come.
 #![tactic(auto)]
 
+mod compactions;
 mod disks;
 mod files;
 mod logs;
@@ -17,6 +18,7 @@ fn main(rt: HostRuntime) -> ExitCode {
     logs::tell(&report);
     files::tell(&report);
     openings::tell(&report);
+    compactions::tell(&report);
     if report.has_failed() {
         ExitCode::FAILURE
     } else {
