@@ -27,8 +27,7 @@ fn tell_compacted(report: &Report, store: &mut FilePages<MemoryDisk>) {
     tell_stats(report, "new", store);
     let done = store.cas_root(b"a", None, Some(Pid(1)));
     report.tell(format_args!("a root: {}", matches!(done, Ok(Ok(())))));
-    let flushed = store.flush();
-    report.show("flushed", flushed);
+    tell_flush(report, "rooted", store);
     if store.mark() <= 9 {
         let marked = store.set_aside(9);
         report.show("a mark", marked);
