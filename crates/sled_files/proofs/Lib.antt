@@ -12,6 +12,7 @@ pub mod Grows
 pub mod Over
 pub mod Snapping
 pub mod Anew
+pub mod Raising
 pub mod Sound
 pub mod Moments
 pub mod Added

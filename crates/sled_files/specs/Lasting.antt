@@ -11,6 +11,11 @@ pub record Limits : Type 0 where
   pub pids : ℕ
   pub versions : ℕ
 
+-- limits that are no lower than others
+pub record AreNoLower (limits raised : Limits) : Type 0 where
+  pub pids : limits.pids ≤ raised.pids
+  pub versions : limits.versions ≤ raised.versions
+
 -- the limits in the files are no lower
 pub record HasLimits (limits : Limits) (d : Durable) : Type 0 where
   pub pids : limits.pids ≤ d.pids

@@ -7,3 +7,4 @@ pub mod Given
 pub mod Spelled
 pub mod Kept
 pub mod Snapshot
+pub mod Ahead

@@ -5,12 +5,13 @@ ghost use Rattle.sled_nodes.specs.Node.{after_link};
 ghost use Rattle.sled_store.specs.State.{GroupBegins, GroupEnds};
 ghost use Rattle.sled_store.specs.Store.{now, after_action, after_flush, Allocates, IsRefused, Changes, Frees, SwapsRoot};
 ghost use Rattle.sled_pages.specs.Memory.{store_of};
-ghost use Rattle.sled_files.specs.Lasting.{EachPair, IsLasting};
+ghost use Rattle.sled_files.specs.Lasting.{EachPair, IsLasting, AreNoLower};
 ghost use Rattle.sled_files.specs.Stored.{asked_of, stored_as, AreWithin};
 
 use crate::snapshot::snapshot;
 use crate::spelled::{
-    allocate, begin_group, cas_root, free, link, next_of, replace, seal_group, spelled,
+    allocate, begin_group, cas_root, free, link, next_of, replace, seal_group, spell_limits,
+    spelled,
 };
 use crate::storing::{add, begin_anew, fault};
 use crate::two_files::TwoFiles;
@@ -181,6 +182,24 @@ fn raised(limit: u64, next: u64) -> u64
     ensures { limit ≤ result }
 {
     limit.max(next.saturating_add(MORE))
+}
+
+// How near the next number or version may come to its limit before a flush raises it.
+const NEAR: u64 = 200_000;
+
+// The limits that a flush sets: those that there are, or, where what comes next is near and there is a block to be added, higher ones.
+fn ahead(pages: &MemPages, is_idle: bool, pids: u64, versions: u64) -> (u64, u64)
+    ensures pids { pids ≤ result.0 }
+    ensures versions { versions ≤ result.1 }
+{
+    let Some((pid, version)) = next_of(pages) else {
+        return (pids, versions);
+    };
+    let is_far = pid.0 < pids.saturating_sub(NEAR) && version.0 < versions.saturating_sub(NEAR);
+    if is_idle || is_far {
+        return (pids, versions);
+    }
+    (raised(pids, pid.0), raised(versions, version.0))
 }
 
 // The mark that may be in the files after one was refused: this one, if a disk refused it just now.
@@ -356,13 +375,33 @@ impl<D: Disk> FilePages<D> {
         ensures number { IfOk result (λ n. n ≡ length (stored_as self.old).recent) }
         ensures err { IfErr result (λ e. IsRefused e (stored_as self.old) (stored_as self.new)) }
         ensures asked { self.new.asked ≡ self.old.asked }
-        ensures limits { self.new.limits ≡ self.old.limits }
+        ensures limits { AreNoLower self.old.limits self.new.limits }
         ensures any_moment { LeavesPairs D.moment D.left_since D.may_leave self.old.files self.new.files (IsLasting (asked_of self.old.asked) self.old.limits (stored_as self.old)) }
     {
+        self.files.law_time();
+        let (pids, versions) = ahead(
+            &self.pages,
+            self.pending.is_empty(),
+            self.limit_pids,
+            self.limit_versions,
+        );
+        let len = self.pending.len();
+        if let Err(e) = spell_limits(
+            &mut self.pending,
+            self.limit_pids,
+            self.limit_versions,
+            pids,
+            versions,
+        ) {
+            return Err(e);
+        }
         if let Err(e) = add(&mut self.files, &mut self.faults, &self.pending) {
+            self.pending.truncate(len);
             return Err(e);
         }
         self.pending.clear();
+        self.limit_pids = pids;
+        self.limit_versions = versions;
         Ok(self.pages.flush_uncounted())
     }
 
@@ -524,7 +563,7 @@ impl<D: Disk + Send> Pages for FilePages<D> {
         ensures number { IfOk result (λ n. n ≡ length (stored_as self.old).recent) }
         ensures err { IfErr result (λ e. IsRefused e (stored_as self.old) (stored_as self.new)) }
         ensures asked { self.new.asked ≡ self.old.asked }
-        ensures limits { self.new.limits ≡ self.old.limits }
+        ensures limits { AreNoLower self.old.limits self.new.limits }
         ensures any_moment { LeavesPairs D.moment D.left_since D.may_leave self.old.files self.new.files (IsLasting (asked_of self.old.asked) self.old.limits (stored_as self.old)) }
     {
         let Some(whole) = self.whole() else {

@@ -1,6 +1,6 @@
 //! The changing calls of the pages in memory. Beside each its change is spelled, before it is made, so that none is made that there is
 //! no memory to spell; one that was not made is taken out again.
-ghost use Rattle.std.specs.Prelude.{◌≡◌, ◌<◌, [], ◌∷◌, ◌++◌, ℕ, nat_lt, IfOk, IfErr, IfSome, OnOk, true, false};
+ghost use Rattle.std.specs.Prelude.{◌≡◌, ◌≤◌, ◌<◌, [], ◌∷◌, ◌++◌, ℕ, nat_lt, IfOk, IfErr, IfSome, OnOk, true, false};
 ghost use Rattle.sled_nodes.specs.declared.error.Error.TheVariants.{NoMemory};
 ghost use Rattle.sled_nodes.specs.Node.{after_link};
 ghost use Rattle.sled_store.specs.State.{GroupBegins, GroupEnds};
@@ -11,6 +11,7 @@ ghost use Rattle.sled_files.specs.Lasting.{Limits};
 ghost use Rattle.sled_files.specs.Pending.{Spells};
 ghost use Rattle.sled_files.specs.Stored.{AreWithin};
 ghost use Rattle.sled_files.specs.theory.Spelled.{IsSpelled, ComeNext};
+ghost use Rattle.sled_files.specs.theory.Ahead.{IsAhead};
 
 use sled_bytes::{Change, encode_change, encode_given, encode_linked, encode_rooted};
 use sled_nodes::{Error, Link, Node, Pid, Result, Version};
@@ -39,6 +40,25 @@ pub fn spelled(alloc: Global, change: Change) -> Result<Vec<u8>>
         Ok(()) => Ok(bytes),
         Err(e) => Err(e),
     }
+}
+
+/// Adds the limits to what is pending, where they are others than those that the files have.
+pub fn spell_limits(
+    pending: &mut Vec<u8>,
+    old_pids: u64,
+    old_versions: u64,
+    pids: u64,
+    versions: u64,
+) -> Result<()>
+    requires pids { old_pids ≤ pids }
+    requires versions { old_versions ≤ versions }
+    ensures ok { OnOk result (IsAhead (record { pids = old_pids; versions = old_versions }) (record { pids = pids; versions = versions }) pending.old.items pending.new.items) }
+    ensures err { IfErr result (λ e. (e ≡ NoMemory) × (pending.new.items ≡ pending.old.items)) }
+{
+    if pids == old_pids && versions == old_versions {
+        return Ok(());
+    }
+    spell(pending, Change::Limited(pids, versions))
 }
 
 /// The page number and the version that come next, while there is such a number.

@@ -1,34 +1,60 @@
-use Rattle.std.proofs.Common.{◌≡◌, ◌∙◌, inl, inr, ⊎_elim, refl, ap, false}
+use Rattle.std.proofs.Common.{rules, length, ◌≡◌, ◌∙◌, inl, inr, ⊎_elim, refl, ap, sym, subst, false, List, ℕ}
 use Rattle.sled_store.specs.Store.{now}
 use Rattle.sled_pages.specs.Memory.{store_of}
+use Rattle.sled_files.specs.Lasting.{Limits, AreNoLower}
 use Rattle.sled_files.specs.Stored.{Stored, stored_as}
+use Rattle.sled_files.specs.theory.Ahead.{IsAhead}
 use Rattle.sled_files.proofs.Over.{own_fault}
-use Rattle.sled_files.proofs.Added.{sound_refused, sound_flushed, moments_flushed}
+use Rattle.sled_files.proofs.Added.{sound_refused}
+use Rattle.sled_files.proofs.Moments.{moments_none}
+use Rattle.sled_files.proofs.Raising.{sound_ahead, moments_ahead, taken_out}
 use Rattle.sled_files.proofs.file_pages.FilePages.flush_on.Goals as goal
 
-pub invariant_of-self : goal.invariant_of-self
-invariant_of-self g c =
-    let out : (now (store_of c.self.inside.pages)).in_group ≡ false = ap (λ (v : Stored g.row.D.Denot). (now (stored_as v)).in_group) c.self.view_is ∙ c.requires in
-    sound_refused _ c.add.new.files c.self.inside.asked c.add.new.faults c.self.invariant (⊎_elim (λ e. inl (e, refl)) (λ e. inr e) c.in-Err.ensures.err)
-    (moments_flushed _ c.add.new.files c.deref.result.now c.add.ensures.first c.add.ensures.second c.self.invariant c.add.ensures.over c.add.ensures.any_moment c.deref.ensures.value out)
-
 pub returns-in-Err-clause-err : goal.returns-in-Err-clause-err
-returns-in-Err-clause-err g c = rw (← c.self.view_is) (own_fault (store_of c.self.inside.pages) c.in-Err.ensures.fault)
+returns-in-Err-clause-err g c = rw (← c.self.view_is, c.in-Err.ensures.err.0) (record { is = refl })
 
 pub returns-in-Err-clause-any_moment : goal.returns-in-Err-clause-any_moment
-returns-in-Err-clause-any_moment g c =
+returns-in-Err-clause-any_moment g c = rw (← c.self.view_is) (moments_none c.law_time.ensures.first c.law_time.ensures.second refl c.self.invariant.lasts)
+
+pub invariant_of-self-in-Err-add : goal.invariant_of-self-in-Err-add
+invariant_of-self-in-Err-add g c =
     let out : (now (store_of c.self.inside.pages)).in_group ≡ false = ap (λ (v : Stored g.row.D.Denot). (now (stored_as v)).in_group) c.self.view_is ∙ c.requires in
-    rw (← c.self.view_is)
-    (moments_flushed _ c.add.new.files c.deref.result.now c.add.ensures.first c.add.ensures.second c.self.invariant c.add.ensures.over c.add.ensures.any_moment c.deref.ensures.value out)
+    let raised : Limits = record { pids = c.ahead-pids.result.0; versions = c.ahead-pids.result.1 } in
+    let limits : Limits = record { pids = c.self.inside.limit_pids; versions = c.self.inside.limit_versions } in
+    let lower : AreNoLower limits raised = record { pids = c.ahead-pids.ensures.pids; versions = c.ahead-pids.ensures.versions } in
+    let more : IsAhead limits raised c.self.inside.pending.items c.deref.result.now = subst (λ (l : List ℕ). IsAhead limits raised c.self.inside.pending.items l) (sym c.deref.ensures.value) c.in_default.ensures.ok in
+    let same : c.len-len.result ≡ length c.self.inside.pending.items = search rules in
+    rw (c.truncate.ensures.items ∙ taken_out c.len-len.result c.in_default.ensures.ok same)
+    (sound_refused _ c.add.new.files c.self.inside.asked c.add.new.faults c.self.invariant (⊎_elim (λ e. inl (e, refl)) (λ e. inr e) c.in-Err-add.ensures.err)
+    (moments_ahead _ c.add.new.files c.deref.result.now c.self.invariant out raised lower more c.add.ensures.first c.add.ensures.second c.add.ensures.over c.add.ensures.any_moment))
+
+pub returns-in-Err-add-clause-err : goal.returns-in-Err-add-clause-err
+returns-in-Err-add-clause-err g c = rw (← c.self.view_is) (own_fault (store_of c.self.inside.pages) c.in-Err-add.ensures.fault)
+
+pub returns-in-Err-add-clause-any_moment : goal.returns-in-Err-add-clause-any_moment
+returns-in-Err-add-clause-any_moment g c =
+    let out : (now (store_of c.self.inside.pages)).in_group ≡ false = ap (λ (v : Stored g.row.D.Denot). (now (stored_as v)).in_group) c.self.view_is ∙ c.requires in
+    let raised : Limits = record { pids = c.ahead-pids.result.0; versions = c.ahead-pids.result.1 } in
+    let limits : Limits = record { pids = c.self.inside.limit_pids; versions = c.self.inside.limit_versions } in
+    let lower : AreNoLower limits raised = record { pids = c.ahead-pids.ensures.pids; versions = c.ahead-pids.ensures.versions } in
+    let more : IsAhead limits raised c.self.inside.pending.items c.deref.result.now = subst (λ (l : List ℕ). IsAhead limits raised c.self.inside.pending.items l) (sym c.deref.ensures.value) c.in_default.ensures.ok in
+    rw (← c.self.view_is) (moments_ahead _ c.add.new.files c.deref.result.now c.self.invariant out raised lower more c.add.ensures.first c.add.ensures.second c.add.ensures.over c.add.ensures.any_moment)
 
 pub invariant_of-self-2 : goal.invariant_of-self-2
 invariant_of-self-2 g c =
     let out : (now (store_of c.self.inside.pages)).in_group ≡ false = ap (λ (v : Stored g.row.D.Denot). (now (stored_as v)).in_group) c.self.view_is ∙ c.requires in
-    rw (c.in_default.ensures.same, c.clear.ensures.items)
-    (sound_flushed _ c.add.new.files c.flush_uncounted.new.self c.self.invariant c.in_default.ensures.up out (rw c.deref.ensures.value at c.in_default.ensures.ready) c.flush_uncounted.ensures.ok)
+    let raised : Limits = record { pids = c.ahead-pids.result.0; versions = c.ahead-pids.result.1 } in
+    let limits : Limits = record { pids = c.self.inside.limit_pids; versions = c.self.inside.limit_versions } in
+    let lower : AreNoLower limits raised = record { pids = c.ahead-pids.ensures.pids; versions = c.ahead-pids.ensures.versions } in
+    let more : IsAhead limits raised c.self.inside.pending.items c.deref.result.now = subst (λ (l : List ℕ). IsAhead limits raised c.self.inside.pending.items l) (sym c.deref.ensures.value) c.in_default.ensures.ok in
+    rw (c.in_default-add.ensures.same, c.clear.ensures.items)
+    (sound_ahead _ c.add.new.files c.deref.result.now c.self.invariant out raised lower more c.flush_uncounted.new.self c.in_default-add.ensures.up c.in_default-add.ensures.ready c.flush_uncounted.ensures.ok)
 
 pub returns-clause-any_moment : goal.returns-clause-any_moment
 returns-clause-any_moment g c =
     let out : (now (store_of c.self.inside.pages)).in_group ≡ false = ap (λ (v : Stored g.row.D.Denot). (now (stored_as v)).in_group) c.self.view_is ∙ c.requires in
-    rw (← c.self.view_is)
-    (moments_flushed _ c.add.new.files c.deref.result.now c.add.ensures.first c.add.ensures.second c.self.invariant c.add.ensures.over c.add.ensures.any_moment c.deref.ensures.value out)
+    let raised : Limits = record { pids = c.ahead-pids.result.0; versions = c.ahead-pids.result.1 } in
+    let limits : Limits = record { pids = c.self.inside.limit_pids; versions = c.self.inside.limit_versions } in
+    let lower : AreNoLower limits raised = record { pids = c.ahead-pids.ensures.pids; versions = c.ahead-pids.ensures.versions } in
+    let more : IsAhead limits raised c.self.inside.pending.items c.deref.result.now = subst (λ (l : List ℕ). IsAhead limits raised c.self.inside.pending.items l) (sym c.deref.ensures.value) c.in_default.ensures.ok in
+    rw (← c.self.view_is) (moments_ahead _ c.add.new.files c.deref.result.now c.self.invariant out raised lower more c.add.ensures.first c.add.ensures.second c.add.ensures.over c.add.ensures.any_moment)

@@ -1,0 +1,123 @@
+-- What a flush that raises the limits in its block makes of the files of a store, against the store.
+use Rattle.std.proofs.Common.{take, length, ◌≡◌, inl, arith, ℕ, true, false, List, [], ◌∷◌, ◌++◌, refl, sym, ◌∙◌, ap, subst}
+use Rattle.std.specs.Prelude.{Result, Ok, Err, OnOk}
+use Rattle.std.proofs.lemmas.List.{append-nil}
+use Rattle.std.proofs.Math.Seq.{take-append_seam}
+use Rattle.sled_store.specs.In.{In}
+use Rattle.sled_store.specs.State.{State}
+use Rattle.sled_store.specs.Store.{Store, now, after_flush}
+use Rattle.sled_store.specs.Crash.{crash_states}
+use Rattle.sled_pages.specs.declared.memory.MemPages.{MemPages}
+use Rattle.sled_pages.specs.Memory.{store_of}
+use Rattle.sled_bytes.specs.declared.change.Change.{Change}
+use Rattle.sled_bytes.specs.declared.change.Change.TheVariants.{Limited}
+use Rattle.sled_bytes.specs.Spelling.{change_bytes, FitsChange}
+use Rattle.sled_files.specs.Change.{Durable, changed_all}
+use Rattle.sled_files.specs.Files.{Files, IsReady, KeepsTime, LeavesPairs, AreForEither}
+use Rattle.sled_files.specs.Lasting.{Limits, HasLimits, IsRight, IsLasting, AreNoLower}
+use Rattle.sled_files.specs.Pending.{IsPending, Spells}
+use Rattle.sled_files.specs.Stored.{Stored, stored_as, over, asked_of, AreWithin, IsSound}
+use Rattle.sled_files.specs.theory.Given.{sealed_over}
+use Rattle.sled_files.specs.theory.Ahead.{IsAhead}
+use Rattle.sled_files.proofs.Adding.{changed_both}
+use Rattle.sled_files.proofs.Crashing.{last_left}
+use Rattle.sled_files.proofs.Flushing.{now_is, right_before}
+use Rattle.sled_files.proofs.Grows.{spells_none, spells_more}
+use Rattle.sled_files.proofs.Moments.{lasts_ready, moments_either, moments_none}
+
+pub no_lower : {limits raised : Limits} → raised ≡ limits → AreNoLower limits raised
+no_lower {limits} {raised} is = record { pids = omega (arith, ap (λ (l : Limits). l.pids) is); versions = omega (arith, ap (λ (l : Limits). l.versions) is) }
+
+pub ahead_none : (limits raised : Limits) {before after : List ℕ} → raised.pids ≡ limits.pids → raised.versions ≡ limits.versions → after ≡ before → IsAhead limits raised before after
+ahead_none limits raised {before} pids versions is = record {
+  rest = [];
+  bytes = is ∙ sym (append-nil before);
+  more = [];
+  spells = λ changes s. subst (λ (l : List ℕ). Spells l (changes ++ [])) (sym is) (subst (λ (l : List Change). Spells before l) (sym (append-nil changes)) s);
+  state = λ d. refl;
+  mark = λ d. refl;
+  limited = λ d h. record { pids = omega (arith, h.pids, pids); versions = omega (arith, h.versions, versions) };
+}
+
+pub ahead_more : (limits : Limits) (pids versions : ℕ) {before after : List ℕ} → FitsChange (Limited pids versions) → after ≡ before ++ change_bytes (Limited pids versions) → IsAhead limits (record { pids = pids; versions = versions }) before after
+ahead_more limits pids versions fits is = record {
+  rest = change_bytes (Limited pids versions);
+  bytes = is;
+  more = Limited pids versions ∷ [];
+  spells = λ changes s. subst (λ (l : List ℕ). Spells l (changes ++ Limited pids versions ∷ [])) (sym is) (spells_more s (Limited pids versions) fits);
+  state = λ d. refl;
+  mark = λ d. refl;
+  limited = λ d h. record { pids = omega arith; versions = omega arith };
+}
+
+-- where that is done
+pub ahead_done : {E : Type 0} (limits : Limits) (pids versions : ℕ) (before after : List ℕ) (r : Result (Unit {0}) E) → OnOk r (FitsChange (Limited pids versions)) → OnOk r (after ≡ before ++ change_bytes (Limited pids versions)) → OnOk r (IsAhead limits (record { pids = pids; versions = versions }) before after)
+ahead_done limits pids versions before after (Ok x) fits is = ahead_more limits pids versions fits is
+ahead_done limits pids versions before after (Err e) fits is = tt
+
+-- and taken out again
+pub taken_out : {limits raised : Limits} {before after : List ℕ} (n : ℕ) → IsAhead limits raised before after → n ≡ length before → take n after ≡ before
+taken_out {limits} {raised} {before} {after} n a is = ap (λ (k : ℕ). take k after) is ∙ ap (take (length before)) a.bytes ∙ take-append_seam before a.rest
+
+module _ {limits raised : Limits} {s : Store} {d : Durable} {bytes after : List ℕ} (p : IsPending limits s d bytes) (a : IsAhead limits raised bytes after) where
+  abbrev pub ahead_changes : List Change
+  ahead_changes = p.changes ++ a.more
+
+  pub ahead_spells : Spells after ahead_changes
+  ahead_spells = a.spells p.changes p.spells
+
+  both : changed_all ahead_changes d ≡ changed_all a.more (changed_all p.changes d)
+  both = changed_both p.changes a.more d
+
+  state_then : (changed_all ahead_changes d).state ≡ now s
+  state_then = ap (λ (x : Durable). x.state) both ∙ a.state (changed_all p.changes d) ∙ now_is p
+
+  mark_then : (changed_all ahead_changes d).mark ≡ s.mark
+  mark_then = ap (λ (x : Durable). x.mark) both ∙ a.mark (changed_all p.changes d) ∙ ap (λ x. x.0) (p.aside d) ∙ p.mark
+
+  limited_then : HasLimits raised (changed_all ahead_changes d)
+  limited_then = subst (HasLimits raised) (sym both) (a.limited (changed_all p.changes d) (record { pids = omega (arith, p.limited.pids, ap (λ x. x.1) (p.aside d)); versions = omega (arith, p.limited.versions, ap (λ x. x.2) (p.aside d)) }))
+
+  pub right_ahead : {asked : List ℕ} → AreNoLower limits raised → (now s).in_group ≡ false → IsRight asked limits s (changed_all ahead_changes d)
+  right_ahead lower out = record {
+    state = record { is = subst (λ (x : State). In x (crash_states s)) (sym state_then) (last_left s.base s.recent out) };
+    mark = inl mark_then;
+    limited = record { pids = omega (arith, lower.pids, limited_then.pids); versions = omega (arith, lower.versions, limited_then.versions) };
+  }
+
+  pub ends_ahead : IsPending raised (after_flush s) (changed_all ahead_changes d) []
+  ends_ahead = record {
+    base = state_then;
+    mark = mark_then;
+    limited = limited_then;
+    changes = [];
+    spells = spells_none;
+    acts = refl;
+    aside = λ whole. refl;
+  }
+
+module _ {D : Type 0} {seen : D → List ℕ} {may_leave : D → List ℕ → Type 0} (f : Stored D) (files : Files D) (payload : List ℕ) (sound : IsSound seen may_leave f) (out : (now (store_of f.pages)).in_group ≡ false)
+    (raised : Limits) (lower : AreNoLower f.limits raised) (a : IsAhead f.limits raised f.pending payload) where
+  pub sound_ahead : (pages : MemPages) → f.files.failed ≡ false → ((d : Durable) (list : List Change) → IsReady seen may_leave f.files d → Spells payload list → IsReady seen may_leave files (changed_all list d))
+      → store_of pages ≡ after_flush (store_of f.pages) → IsSound seen may_leave (record f { pages = pages; files = files; pending = []; limits = raised })
+  sound_ahead pages up ready is =
+      let st = sound.stands up in
+      let made = changed_all (ahead_changes st.pends a) st.durable in
+      let ready_now = ready st.durable (ahead_changes st.pends a) st.ready (ahead_spells st.pends a) in
+      let later : after_flush (stored_as f) ≡ over f.mark f.faults (store_of pages) = ap (over f.mark f.faults) (sym is) in
+      let pends = subst (λ (s : Store). IsPending raised s made []) later (ends_ahead st.pends a) in
+      record {
+        stands = λ _. record { durable = made; ready = ready_now; pends = pends };
+        lasts = lasts_ready ready_now (right_before pends (ap (λ (s : Store). s.base.in_group) is ∙ out));
+        within = subst (AreWithin raised) later (record { pids = λ p positive given. omega (arith, lower.pids, sound.within.pids p positive given); versions = λ v given. omega (arith, lower.versions, sound.within.versions v given) });
+      }
+
+module _ {D : Type 0} {moment : D → ℕ} {left_since : D → ℕ → List ℕ → Type 0} {seen : D → List ℕ} {may_leave : D → List ℕ → Type 0} (f : Stored D) (files : Files D) (payload : List ℕ) (sound : IsSound seen may_leave f) (out : (now (store_of f.pages)).in_group ≡ false)
+    (raised : Limits) (lower : AreNoLower f.limits raised) (a : IsAhead f.limits raised f.pending payload) where
+  pub moments_ahead : KeepsTime moment left_since may_leave f.files.first → KeepsTime moment left_since may_leave f.files.second → (f.files.failed ≡ true → files ≡ f.files)
+      → ((d : Durable) (list : List Change) → IsReady seen may_leave f.files d → Spells payload list → LeavesPairs moment left_since may_leave f.files files (AreForEither d (changed_all list d)))
+      → LeavesPairs moment left_since may_leave f.files files (IsLasting (asked_of f.asked) f.limits (stored_as f))
+  moments_ahead first second stays any = elim f.files.failed as (λ b. f.files.failed ≡ b → LeavesPairs moment left_since may_leave f.files files (IsLasting (asked_of f.asked) f.limits (stored_as f))) [
+    | true ↦ λ e. moments_none first second (stays e) sound.lasts
+    | false ↦ λ e. let st = sound.stands e in moments_either (right_before st.pends (sealed_over f)) (right_ahead st.pends a lower out) (any st.durable (ahead_changes st.pends a) st.ready (ahead_spells st.pends a))
+  ] refl

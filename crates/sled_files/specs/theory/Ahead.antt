@@ -1,0 +1,16 @@
+-- Limits that a flush raises in its own block.
+use Rattle.std.specs.Prelude.{◌≡◌, ℕ, List, ◌++◌}
+use Rattle.sled_bytes.specs.declared.change.Change.{Change}
+use Rattle.sled_files.specs.Change.{Durable, changed_all}
+use Rattle.sled_files.specs.Lasting.{Limits, HasLimits}
+use Rattle.sled_files.specs.Pending.{Spells}
+
+-- what is pending, and then changes that set these limits, where they are others
+pub record IsAhead (limits raised : Limits) (before after : List ℕ) : Type 0 where
+  pub rest : List ℕ
+  pub bytes : after ≡ before ++ rest
+  pub more : List Change
+  pub spells : (changes : List Change) → Spells before changes → Spells after (changes ++ more)
+  pub state : (d : Durable) → (changed_all more d).state ≡ d.state
+  pub mark : (d : Durable) → (changed_all more d).mark ≡ d.mark
+  pub limited : (d : Durable) → HasLimits limits d → HasLimits raised (changed_all more d)
