@@ -1,0 +1,134 @@
+//! A database in two files, and what it has, as bytes.
+ghost use Rattle.std.specs.Prelude.{None};
+
+use crate::maps::{KEYS, Map, Maps, SIDE, key_of, value_of};
+use crate::trouble::{Result, Trouble};
+use sled::{DEFAULT_TREE, Db, IVec, MergeOperator, Tree};
+use sled_disk::MemoryDisk;
+use sled_files::FilePages;
+use std::alloc::{AllocError, Global};
+
+/// A store in two files of a disk in memory.
+pub type Store = FilePages<MemoryDisk>;
+
+/// No tree has a merge operator.
+#[derive(Drop)]
+pub struct NoOperator;
+
+impl MergeOperator for NoOperator {
+    ghost meant = { λ _ _ _ _. None };
+
+    fn merge(
+        &self,
+        _alloc: Global,
+        _key: &[u8],
+        _old: Option<&[u8]>,
+        _new: &[u8],
+    ) -> std::result::Result<Option<Vec<u8>>, AllocError> {
+        Ok(None)
+    }
+}
+
+/// A database over it.
+pub type Files = Db<Store, NoOperator>;
+
+/// Two disks.
+pub type Disks = (MemoryDisk, MemoryDisk);
+
+/// Opens the store of two disks.
+pub fn open_store(alloc: Global, disks: Disks) -> Result<Store> {
+    match FilePages::open(alloc, disks.0, disks.1) {
+        Ok(store) => Ok(store),
+        Err(e) => Err(Trouble::Closed(e)),
+    }
+}
+
+/// Opens the database of a store.
+pub fn open_db(alloc: Global, store: Store) -> Result<Files> {
+    match Db::open_checked(alloc, store, b"weather") {
+        Ok(db) => Ok(db.with_operators::<NoOperator>()),
+        Err((store, e)) => {
+            drop(store);
+            Err(Trouble::Refused(e))
+        }
+    }
+}
+
+/// Opens the database of two disks.
+pub fn open(alloc: Global, disks: Disks) -> Result<Files> {
+    open_db(alloc, open_store(alloc, disks)?)
+}
+
+/// Lets go of a database, but for its disks.
+pub fn into_disks(db: Files) -> Disks {
+    db.into_pages().into_disks()
+}
+
+// Adds a pair.
+fn add_pair(image: &mut Vec<u8>, key: &[u8], value: &[u8]) -> Result<()> {
+    image.push(b' ')?;
+    image.extend_from_slice(key)?;
+    image.push(b'=')?;
+    image.extend_from_slice(value)?;
+    Ok(())
+}
+
+// Adds the name of a tree.
+fn add_name(image: &mut Vec<u8>, name: &[u8]) -> Result<()> {
+    image.push(b'/')?;
+    image.extend_from_slice(name)?;
+    Ok(())
+}
+
+// Adds the pairs of a map.
+fn add_map(alloc: Global, image: &mut Vec<u8>, map: &Map) -> Result<()> {
+    for key in 0..KEYS as u8 {
+        if let Some(Some(value)) = map.get(key as usize) {
+            let value = value_of(alloc, *value)?;
+            add_pair(image, &key_of(key), &value)?;
+            drop(value);
+        }
+    }
+    Ok(())
+}
+
+/// Maps, as bytes.
+pub fn image_of(alloc: Global, maps: &Maps) -> Result<Vec<u8>> {
+    let mut image = Vec::new(alloc);
+    add_name(&mut image, DEFAULT_TREE.as_bytes())?;
+    add_map(alloc, &mut image, &maps.main)?;
+    if let Some(side) = &maps.side {
+        add_name(&mut image, SIDE)?;
+        add_map(alloc, &mut image, side)?;
+    }
+    Ok(image)
+}
+
+// Adds the pairs of a tree.
+fn add_tree(db: &Files, tree: &Tree, image: &mut Vec<u8>) -> Result<()> {
+    for pair in db.iter(tree)? {
+        let (key, value) = pair?;
+        add_pair(image, key.as_ref(), value.as_ref())?;
+    }
+    Ok(())
+}
+
+// Adds a tree by its name.
+fn add_named(db: &mut Files, name: &IVec, image: &mut Vec<u8>) -> Result<()> {
+    add_name(image, name.as_ref())?;
+    let tree = db.open_tree(name.as_ref())?;
+    add_tree(db, &tree, image)?;
+    drop(tree);
+    Ok(())
+}
+
+/// All pairs of a database, as bytes.
+pub fn image(alloc: Global, db: &mut Files) -> Result<Vec<u8>> {
+    let mut image = Vec::new(alloc);
+    let names = db.tree_names()?;
+    for name in &names {
+        add_named(db, name, &mut image)?;
+    }
+    drop(names);
+    Ok(image)
+}
