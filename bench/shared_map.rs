@@ -116,8 +116,8 @@ fn measure(words: &[String]) -> Option<()> {
     let map = Arc::new(Mutex::new(pairs.loaded()));
     for workload in workloads {
         let percent = match &workload[..] {
-            "gets" => 0,
-            "mix" => INSERTS,
+            "gets" | "reads" => 0,
+            "mix" | "mixed_reads" => INSERTS,
             _ => return None,
         };
         let work = Work {

@@ -3,10 +3,14 @@
 //     stores versions
 //     stores lmdb FOLDER PAIRS CALLS SEED SHORTEST LONGEST FLUSH WORKLOAD..
 //     stores sqlite FILE PAIRS CALLS SEED SHORTEST LONGEST FLUSH WORKLOAD..
+//     stores durable-lmdb FOLDER ..
+//     stores durable-sqlite FILE ..
 //
 // The workloads are `load`, `gets`, `mix`, `removals` and `batches`. Where the database has a flush, a transaction ends here, and so it
 // does after each batch and each workload. LMDB syncs nothing, and keeps its pages in a file of the folder; FILE may be `:memory:`. An
-// insert and a removal answer the value that stood; where these stores want a call more for it, they make one.
+// insert and a removal answer the value that stood; where these stores want a call more for it, they make one. Those that are durable
+// bring each transaction to the disk before it ends, LMDB as it does by itself and SQLite by a log (WAL, synchronous=FULL), and their
+// times are times of the clock, since they wait for the disk.
 #include <lmdb.h>
 #include <sqlite3.h>
 #include <stdint.h>
@@ -59,10 +63,12 @@ static void lmdb_check(int code, const char *what) { check(code == MDB_SUCCESS, 
 static void lmdb_begin(int writes) { lmdb_check(mdb_txn_begin(env, NULL, writes ? 0 : MDB_RDONLY, &txn), "begin"); }
 static void lmdb_commit(void) { lmdb_check(mdb_txn_commit(txn), "commit"); }
 
+static int is_durable;
+
 static void lmdb_open(const char *folder) {
     lmdb_check(mdb_env_create(&env), "create");
     lmdb_check(mdb_env_set_mapsize(env, ROOM), "size");
-    lmdb_check(mdb_env_open(env, folder, MDB_NOSYNC | MDB_WRITEMAP | MDB_NOMETASYNC, 0600), "open");
+    lmdb_check(mdb_env_open(env, folder, is_durable ? 0 : MDB_NOSYNC | MDB_WRITEMAP | MDB_NOMETASYNC, 0600), "open");
     lmdb_begin(1);
     lmdb_check(mdb_dbi_open(txn, NULL, 0, &dbi), "table");
     lmdb_commit();
@@ -108,6 +114,8 @@ static void sqlite_check(int is_well, const char *what) { check(is_well, what, s
 
 static void sqlite_open(const char *file) {
     sqlite_check(sqlite3_open(file, &db) == SQLITE_OK, "open");
+    if (is_durable)
+        sqlite_check(sqlite3_exec(db, "PRAGMA journal_mode=WAL; PRAGMA synchronous=FULL", NULL, NULL, NULL) == SQLITE_OK, "log");
     const char *table = "CREATE TABLE pairs (key BLOB PRIMARY KEY, value BLOB NOT NULL) WITHOUT ROWID";
     sqlite_check(sqlite3_exec(db, table, NULL, NULL, NULL) == SQLITE_OK, "table");
     for (int it = 0; it < STATEMENTS; it++)
@@ -209,14 +217,21 @@ static uint64_t batch(uint64_t number) {
     return end - from;
 }
 
+// The time in microseconds: of the processor, or of the clock where the disk is waited for.
+static long long now(void) {
+    struct timespec time;
+    clock_gettime(is_durable ? CLOCK_MONOTONIC : CLOCK_PROCESS_CPUTIME_ID, &time);
+    return time.tv_sec * 1000000ll + time.tv_nsec / 1000;
+}
+
 // Runs a workload of so many turns, and prints what it came to and how long it took.
 static void measure(const char *name, uint64_t (*turn)(uint64_t), uint64_t turns, uint64_t told, int writes) {
     uint64_t sum = 0;
-    clock_t start = clock();
+    long long start = now();
     it->begin(writes);
     for (uint64_t number = 0; number < turns; number++) sum = (sum << 1 | sum >> 63) ^ turn(number);
     it->commit();
-    long long time = (long long)(clock() - start) * 1000000 / CLOCKS_PER_SEC;
+    long long time = now() - start;
     printf("%s %llu %016llx\n", name, (unsigned long long)told, (unsigned long long)sum);
     fprintf(stderr, "%s %lld\n", name, time);
 }
@@ -235,8 +250,11 @@ int main(int count, char **words) {
     uint64_t *const numbers[] = {&pairs, &calls, &seed, &shortest, &longest, &flush};
     if (count == 2 && !strcmp(words[1], "versions"))
         return printf("LMDB %d.%d.%d\nSQLite %s\n", MDB_VERSION_MAJOR, MDB_VERSION_MINOR, MDB_VERSION_PATCH, sqlite3_libversion()) < 0;
-    if (count < 9 || (strcmp(words[1], "lmdb") && strcmp(words[1], "sqlite"))) return 1;
-    it = strcmp(words[1], "lmdb") ? &SQLITE : &LMDB;
+    if (count < 9) return 1;
+    is_durable = !strncmp(words[1], "durable-", 8);
+    const char *kind = words[1] + (is_durable ? 8 : 0);
+    if (strcmp(kind, "lmdb") && strcmp(kind, "sqlite")) return 1;
+    it = strcmp(kind, "lmdb") ? &SQLITE : &LMDB;
     for (int place = 0; place < 6; place++) *numbers[place] = strtoull(words[3 + place], NULL, 10);
     row = malloc(STARTS + longest);
     check(row != NULL, "row", "no memory");

@@ -1,8 +1,8 @@
 //! A batch as it is filled, copied and compared.
-use crate::report::Report;
 use sled_batch::Batch;
 use sled_nodes::{IVec, Result};
 use std::alloc::Global;
+use test_report::Report;
 
 // Writes to a batch: of each key the last write stays.
 fn fill(report: &Report, batch: &mut Batch) {
@@ -52,6 +52,6 @@ pub fn tell(report: &Report) {
     fill(report, &mut batch);
     tell_batch(report, &batch);
     tell_copy(report, &batch);
-    report.show("writes:", written(report.alloc(), &batch));
+    report.show("writes", written(report.alloc(), &batch));
     drop(batch);
 }

@@ -1,5 +1,4 @@
 //! Calls as values, what is tested before a call, and looks at pages.
-use crate::report::{Report, is_same};
 use sled::{
     Call, Data, Db, Decision, Effect, IVec, MemPages, Pages, Reads, Reply, Result, Subscriber,
     Tree, View,
@@ -7,6 +6,7 @@ use sled::{
 use sled_lines::operator::NoOperator;
 use std::alloc::Global;
 use std::ops::Bound;
+use test_report::{Report, is_same};
 
 // A call of each kind at one key, and a scan from that key on.
 fn calls(report: &Report) -> Vec<Call> {
@@ -68,8 +68,8 @@ pub fn tell(report: &Report) {
     for call in &calls {
         tell_call(report, call);
         let value = report.bytes(b"21");
-        report.show("at a link:", link_of(report.alloc(), call, value));
-        report.show("at a link:", link_of(report.alloc(), call, None));
+        report.show("at a link", link_of(report.alloc(), call, value));
+        report.show("at a link", link_of(report.alloc(), call, None));
     }
     drop(calls);
 }
@@ -127,7 +127,7 @@ fn is_told_alike(db: &mut Db<MemPages>, tree: &Tree) -> Result<bool> {
 /// Prints what comes of tests, of a copy of a subscriber, and of a look at a page. The database comes back.
 pub fn tell_on(report: &Report, mut db: Db<MemPages>, tree: &Tree) -> Db<MemPages> {
     tell_tests(report, &db, tree);
-    report.show("a subscriber:", is_told_alike(&mut db, tree));
-    report.show("pairs of the root:", root_of(report.alloc(), &db, tree));
+    report.show("a subscriber", is_told_alike(&mut db, tree));
+    report.show("pairs of the root", root_of(report.alloc(), &db, tree));
     db
 }

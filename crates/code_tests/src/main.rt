@@ -6,15 +6,14 @@ mod batches;
 mod calls;
 mod nodes;
 mod replies;
-mod report;
 mod step_kept;
 mod streams;
 mod transactions;
 mod whole_kept;
 
-use report::Report;
 use sled::{Db, MemPages, empty_pages};
 use std::process::ExitCode;
+use test_report::Report;
 
 // What is told of a new database.
 #[derive(Clone, Copy)]
@@ -75,9 +74,5 @@ fn main(rt: HostRuntime) -> ExitCode {
     tell_case(&report, Case::Calls);
     tell_case(&report, Case::Steps);
     tell_case(&report, Case::Wholes);
-    if report.has_failed() {
-        ExitCode::FAILURE
-    } else {
-        ExitCode::SUCCESS
-    }
+    report.status()
 }

@@ -1,8 +1,8 @@
 //! Copies of what lies in a page, the greatest page number that it names, and changes of a node that several hold.
-use crate::report::Report;
 use sled::{Data, Error, IVec, Index, Leaf, Link, Node, Pid, Shared};
 use std::fmt::Debug;
 use std::slice::from_ref;
+use test_report::Report;
 
 // A leaf with a pair at `a`.
 fn leaf(report: &Report) -> Option<Data> {
@@ -127,11 +127,11 @@ fn show<T: Debug + Drop>(report: &Report, words: &str, made: Option<T>) {
 
 /// Prints what they come to.
 pub fn tell(report: &Report) {
-    show(report, "entries of copies:", all_counts(report));
-    show(report, "greatest pages:", greatest(report));
+    show(report, "entries of copies", all_counts(report));
+    show(report, "greatest pages", greatest(report));
     show(
         report,
-        "a change, one beside another holder, what that one has, made again:",
+        "a change, one beside another holder, what that one has, made again",
         all_changes(report),
     );
 }

@@ -1,6 +1,6 @@
 //! A reply of each kind, and its copy.
-use crate::report::{Report, is_same};
 use sled::{CompareAndSwapError, Event, Next, Reply, Subscriber, Tree};
+use test_report::{Report, is_same};
 
 // Prints a reply, and whether its copy is the same.
 fn tell_reply(report: &Report, reply: Reply) {

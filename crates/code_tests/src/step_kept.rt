@@ -1,9 +1,9 @@
 //! Steps of a machine that keep copies of the reply.
 use crate::calls::watched;
-use crate::report::Report;
 use sled::{Call, Db, MemPages, Outcome, Reply, Result, Slot, Subscriber, Tree};
 use sled_calls::Machine;
 use std::ops::Bound;
+use test_report::Report;
 
 // More steps than any of the calls takes.
 const STEPS: usize = 20;
@@ -77,7 +77,7 @@ fn tell_events(report: &Report, db: &mut Db<MemPages>, subscriber: &Subscriber) 
         let Some(next) = db.next(subscriber) else {
             return;
         };
-        report.show("told:", next);
+        report.show("told", next);
     }
 }
 

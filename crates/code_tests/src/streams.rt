@@ -1,9 +1,9 @@
 //! Readers and writers that fail, and a reader that waits for each answer.
-use crate::report::Report;
 use sled_lines::serve::serve;
 use std::alloc::Global;
 use std::cell::Cell;
 use std::io::{self, BufRead, ErrorKind, Read, Write};
+use test_report::Report;
 
 // A reader that gives one line at a time. It fails where a line is not answered yet, and at its end if it is cut.
 #[derive(Drop)]

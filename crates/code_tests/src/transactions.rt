@@ -1,5 +1,4 @@
 //! The errors of transactions, with their texts and clones, and how often a closure is run.
-use crate::report::{Report, is_same};
 use sled::{
     ConflictableTransactionError, Db, MemPages, TransactionError, TransactionResult,
     UnabortableTransactionError,
@@ -8,6 +7,7 @@ use sled_model::Tree;
 use sled_nodes::{Error, IVec, Result};
 use std::cell::Cell;
 use std::fmt::{Debug, Display};
+use test_report::{Report, is_same};
 
 // Prints an error, and whether its clone is the same.
 fn tell_error<E: Debug + Display + PartialEq + Drop>(report: &Report, error: E, copy: Result<E>) {
@@ -104,7 +104,7 @@ fn tell_move(report: &Report, db: &mut Db<MemPages>, from: &Tree) {
     if let Some(to) = report.keep(db.open_tree(b"other")) {
         let moved = move_value(db, from, &to);
         drop(to);
-        report.show("a value is moved to another tree:", moved);
+        report.show("a value is moved to another tree", moved);
     }
 }
 

@@ -1,9 +1,9 @@
 //! Whole calls whose reply is kept, with the number of parts that they did.
-use crate::report::Report;
 use sled::{Db, MemPages};
 use sled_calls::Machine;
 use sled_model::{Collection, Outcome, Reply, Subscriber, Tree, Whole};
 use std::fmt::Debug;
+use test_report::Report;
 
 // Bytes of a type or a name.
 fn label(report: &Report, bytes: &[u8]) -> Vec<u8> {

@@ -1,6 +1,5 @@
 //! Files that are begun anew beside one that counts, with each call of the disk refused in turn, and crashes after that.
 use crate::crashes::crash_twice;
-use crate::report::Report;
 use crate::runs::Run;
 use crate::starts::{Start, changes_of, first, later};
 use crate::store::Disks;
@@ -9,6 +8,7 @@ use crate::trouble::{Result, expect};
 use sled_disk::MemoryDisk;
 use sled_files::begin_file;
 use std::alloc::Global;
+use test_report::Report;
 
 // How many seeds each crash is chosen by.
 const SEEDS: u64 = 12;

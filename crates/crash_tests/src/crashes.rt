@@ -1,16 +1,17 @@
 //! Each call of a disk refused in turn, and crashes after that; and crashes after each call of a script.
-use crate::report::Report;
 use crate::runs::{Run, flush, flush_all, is_fault, look, run_script};
 use crate::script::STEPS;
 use crate::seeds::crash;
 use crate::starts::{Kind, Start, prepare};
-use crate::store::{Disks, Files, NoOperator, Store, image, into_disks, open};
+use crate::store::{Disks, Files, Store, image, into_disks, open};
 use crate::tally::{Numbered, Tally};
 use crate::trouble::{Result, Trouble, expect};
+use example_parts::Adds;
 use sled::Db;
 use sled_files::{FilePages, OpenError};
 use std::alloc::Global;
 use std::fmt::{self, Display, Formatter, Write};
+use test_report::Report;
 
 // How many seeds each crash is chosen by.
 const SEEDS: u64 = 6;
@@ -78,7 +79,7 @@ fn ended(mut db: Files, mut run: Run, script: u64, steps: u64) -> Result<(Disks,
 // Opens a database whose disks may refuse a call, and runs a script.
 fn run_store(store: Store, mut run: Run, script: u64) -> Result<(Disks, Run)> {
     match Db::open_checked(run.alloc, store, b"weather") {
-        Ok(db) => ended_over(db.with_operators::<NoOperator>(), run, script),
+        Ok(db) => ended_over(db.with_operators::<Adds>(), run, script),
         Err((store, e)) => {
             let is_fault = is_fault(&e);
             drop(e);

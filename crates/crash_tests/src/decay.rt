@@ -1,6 +1,5 @@
 //! Files of which a bit is turned, or that are cut: they are refused by name, or opened with the same maps.
 use crate::maps::Maps;
-use crate::report::Report;
 use crate::starts::{Kind, Start, prepare};
 use crate::store::{Disks, Store, image, image_of, into_disks, open_db};
 use crate::tally::{Numbered, Tally};
@@ -8,6 +7,7 @@ use crate::trouble::{Result, Trouble, expect};
 use sled_disk::MemoryDisk;
 use sled_files::{FilePages, OpenError};
 use std::alloc::Global;
+use test_report::Report;
 
 // The bits of a byte.
 const BITS: [u8; 8] = [1, 2, 4, 8, 16, 32, 64, 128];
@@ -213,7 +213,7 @@ fn tell_pair(report: &Report, kind: Kind, is_second: bool, change: Change, words
             Change::Turned => turn_all(report, Pair::new(start, is_second), words),
             Change::Cut => cut_all(report, Pair::new(start, is_second), words),
         },
-        Err(e) => report.fail(e),
+        Err(e) => report.tell_failed(e),
     }
 }
 

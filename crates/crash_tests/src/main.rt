@@ -1,6 +1,10 @@
 //! What crashes and refused calls leave of a database in two files, and what files that decayed are opened as. Disks in memory crash and
 //! refuse calls, each call in turn, and the maps that are found are compared with maps that the test keeps itself. It prints how many
 //! cases there were and how many passed, and of each that failed the numbers that make it again.
+//!
+//! Its words say what is run: `calls` (each call of a disk refused, and crashes after that and after each step), `files` (a file that is
+//! begun anew), `bits` (each bit of a file turned, and each cut of one), and `numbers` (that none is given twice). It prints each of them
+//! before what comes of it.
 #![tactic(auto)]
 
 mod begun;
@@ -8,7 +12,6 @@ mod crashes;
 mod decay;
 mod maps;
 mod numbers;
-mod report;
 mod runs;
 mod script;
 mod seeds;
@@ -17,18 +20,43 @@ mod store;
 mod tally;
 mod trouble;
 
-use report::Report;
 use std::process::ExitCode;
+use std::{env, io};
+use test_report::Report;
+
+// The words that the program was called with, behind its name.
+fn words_of(rt: &HostRuntime) -> io::Result<Vec<String>> {
+    Ok(env::args(rt)?.skip(1).collect(rt.alloc())?)
+}
+
+// Runs a part by its word: whether there is one.
+fn run(report: &Report, word: &str) -> bool {
+    match word {
+        "calls" => crashes::tell(report),
+        "files" => begun::tell(report),
+        "bits" => decay::tell(report),
+        "numbers" => numbers::tell(report),
+        _ => return false,
+    }
+    true
+}
+
+// Runs the parts that the words of the program name.
+fn run_words(report: &Report, words: &[String]) {
+    for word in words {
+        report.tell(word.as_str());
+        if !run(report, word.as_str()) {
+            report.tell_failed(format_args!("there is no part {word}"));
+        }
+    }
+}
 
 fn main(rt: HostRuntime) -> ExitCode {
+    let words = words_of(&rt);
     let report = Report::new(rt);
-    crashes::tell(&report);
-    begun::tell(&report);
-    decay::tell(&report);
-    numbers::tell(&report);
-    if report.has_failed() {
-        ExitCode::FAILURE
-    } else {
-        ExitCode::SUCCESS
+    match words {
+        Ok(words) => run_words(&report, words.as_slice()),
+        Err(e) => report.tell_failed(e),
     }
+    report.status()
 }

@@ -1,5 +1,4 @@
 //! Page numbers, versions and ids, which no later opening gives again, whether or not there was a flush.
-use crate::report::Report;
 use crate::seeds::crash;
 use crate::store::{Disks, Files, Store, into_disks, open_db, open_store};
 use crate::tally::{Numbered, Tally};
@@ -7,6 +6,7 @@ use crate::trouble::{Result, expect};
 use sled::{Data, IVec, Leaf, Node, Pages};
 use sled_disk::MemoryDisk;
 use std::alloc::Global;
+use test_report::Report;
 
 // How many openings follow each other.
 const OPENINGS: u64 = 5;

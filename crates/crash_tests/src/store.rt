@@ -1,36 +1,17 @@
 //! A database in two files, and what it has, as bytes.
-ghost use Rattle.std.specs.Prelude.{None};
-
 use crate::maps::{KEYS, Map, Maps, SIDE, key_of, value_of};
 use crate::trouble::{Result, Trouble};
-use sled::{DEFAULT_TREE, Db, IVec, MergeOperator, Tree};
+use example_parts::Adds;
+use sled::{DEFAULT_TREE, Db, IVec, Tree};
 use sled_disk::MemoryDisk;
 use sled_files::FilePages;
-use std::alloc::{AllocError, Global};
+use std::alloc::Global;
 
 /// A store in two files of a disk in memory.
 pub type Store = FilePages<MemoryDisk>;
 
-/// No tree has a merge operator.
-#[derive(Drop)]
-pub struct NoOperator;
-
-impl MergeOperator for NoOperator {
-    ghost meant = { λ _ _ _ _. None };
-
-    fn merge(
-        &self,
-        _alloc: Global,
-        _key: &[u8],
-        _old: Option<&[u8]>,
-        _new: &[u8],
-    ) -> std::result::Result<Option<Vec<u8>>, AllocError> {
-        Ok(None)
-    }
-}
-
-/// A database over it.
-pub type Files = Db<Store, NoOperator>;
+/// A database over it. No tree is given a merge operator.
+pub type Files = Db<Store, Adds>;
 
 /// Two disks.
 pub type Disks = (MemoryDisk, MemoryDisk);
@@ -46,7 +27,7 @@ pub fn open_store(alloc: Global, disks: Disks) -> Result<Store> {
 /// Opens the database of a store.
 pub fn open_db(alloc: Global, store: Store) -> Result<Files> {
     match Db::open_checked(alloc, store, b"weather") {
-        Ok(db) => Ok(db.with_operators::<NoOperator>()),
+        Ok(db) => Ok(db.with_operators::<Adds>()),
         Err((store, e)) => {
             drop(store);
             Err(Trouble::Refused(e))

@@ -1,7 +1,7 @@
 //! How many cases there were, and how many passed.
-use crate::report::Report;
 use crate::trouble::Result;
 use std::fmt::{self, Display, Formatter, Write};
+use test_report::Report;
 
 /// What a case is called: words, and two numbers.
 #[derive(Clone, Copy, Drop)]
@@ -42,7 +42,7 @@ impl<'a> Tally<'a> {
                 drop(words);
                 self.passed = self.passed.saturating_add(1);
             }
-            Err(e) => self.report.fail(format_args!("{words}: {e}")),
+            Err(e) => self.report.tell_failed(format_args!("{words}: {e}")),
         }
     }
 

@@ -1,10 +1,10 @@
 //! A store in two files whose log is begun anew.
-use crate::report::Report;
 use sled_disk::MemoryDisk;
 use sled_files::FilePages;
 use sled_nodes::Pid;
 use sled_store::Pages;
 use std::alloc::Global;
+use test_report::Report;
 
 // A new store.
 fn new_store(alloc: Global) -> Option<FilePages<MemoryDisk>> {

@@ -1,7 +1,7 @@
 //! A disk in memory: what a read returns, what crashes leave, and what is refused.
-use crate::report::Report;
 use sled_disk::{Choices, Disk, MemoryDisk, Result};
 use std::alloc::Global;
+use test_report::Report;
 
 // A file of two bytes on the disk, of which one is written over and two more are added, and no sync.
 fn written(alloc: Global) -> Result<MemoryDisk> {
@@ -88,19 +88,30 @@ fn chosen(alloc: Global) -> Result<[usize; 3]> {
     ])
 }
 
+/// Prints a line of these words and the bytes that a read of a disk returns, or why there is none.
+pub fn show_disk(report: &Report, words: &str, disk: Result<MemoryDisk>) {
+    match disk {
+        Ok(disk) => {
+            report.tell(format_args!("{words}: {:?}", disk.bytes()));
+            drop(disk);
+        }
+        Err(e) => report.show(words, e),
+    }
+}
+
 pub fn tell(report: &Report) {
     let alloc = report.alloc();
-    report.show_disk("written", written(alloc));
+    show_disk(report, "written", written(alloc));
     report.show("the last byte", last(alloc));
-    report.show_disk("a crash loses the write", left(alloc, &[0, 1]));
-    report.show_disk("a crash tears the write", left(alloc, &[1, 0, 42]));
-    report.show_disk("a crash keeps the write", left(alloc, &[2]));
-    report.show_disk("a sync keeps the write", synced(alloc));
-    report.show_disk("one byte is written", left_of_one(alloc, 0));
-    report.show_disk("one byte is lost", left_of_one(alloc, 1));
-    report.show_disk("a cut is there", cut(alloc, 0));
-    report.show_disk("a cut is cut short", cut(alloc, 2));
-    report.show_disk("a write is refused", refused_write(alloc));
-    report.show_disk("a sync is refused", refused_sync(alloc));
+    show_disk(report, "a crash loses the write", left(alloc, &[0, 1]));
+    show_disk(report, "a crash tears the write", left(alloc, &[1, 0, 42]));
+    show_disk(report, "a crash keeps the write", left(alloc, &[2]));
+    show_disk(report, "a sync keeps the write", synced(alloc));
+    show_disk(report, "one byte is written", left_of_one(alloc, 0));
+    show_disk(report, "one byte is lost", left_of_one(alloc, 1));
+    show_disk(report, "a cut is there", cut(alloc, 0));
+    show_disk(report, "a cut is cut short", cut(alloc, 2));
+    show_disk(report, "a write is refused", refused_write(alloc));
+    show_disk(report, "a sync is refused", refused_sync(alloc));
     report.show("chosen", chosen(alloc));
 }

@@ -3,10 +3,11 @@ ghost use Rattle.std.specs.Prelude.{IfOk};
 ghost use Rattle.sled_disk.specs.Disk.{Only};
 ghost use Rattle.sled_disk.specs.Memory.{bytes_of, outcomes_of};
 
-use crate::report::Report;
+use crate::disks::show_disk;
 use sled_disk::{MemoryDisk, Result};
 use sled_files::{TwoFiles, begin_file};
 use std::alloc::Global;
+use test_report::Report;
 
 // A file of no bytes, of which the call of the disk with this number is refused.
 fn empty(alloc: Global, refused: u64) -> Result<MemoryDisk>
@@ -83,9 +84,9 @@ fn tell_disks(report: &Report, words: &str, files: Result<TwoFiles<MemoryDisk>>)
 
 pub fn tell(report: &Report) {
     let alloc = report.alloc();
-    report.show_disk("a file is begun", begun(alloc, 0));
-    report.show_disk("its gate is not closed", begun(alloc, 1));
-    report.show_disk("its block is not there", begun(alloc, 3));
+    show_disk(report, "a file is begun", begun(alloc, 0));
+    show_disk(report, "its gate is not closed", begun(alloc, 1));
+    show_disk(report, "its block is not there", begun(alloc, 3));
     tell_calls(report, "two files", files(alloc, 1, 0, 0));
     tell_calls(report, "a block is refused", files(alloc, 1, 7, 0));
     tell_calls(report, "a file is refused", files(alloc, 1, 0, 4));

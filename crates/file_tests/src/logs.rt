@@ -1,8 +1,8 @@
 //! Blocks that are added to a log, and logs that are read.
-use crate::report::Report;
 use sled_disk::{MemoryDisk, Result};
 use sled_log::{append, block_of, digest_of, read_all, read_log};
 use std::alloc::Global;
+use test_report::Report;
 
 // A log of nothing, to which a block is added, where the call of the disk with this number is refused.
 fn appended(alloc: Global, refused: u64) -> Result<MemoryDisk> {

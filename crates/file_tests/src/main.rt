@@ -7,10 +7,9 @@ mod disks;
 mod files;
 mod logs;
 mod openings;
-mod report;
 
-use report::Report;
 use std::process::ExitCode;
+use test_report::Report;
 
 fn main(rt: HostRuntime) -> ExitCode {
     let report = Report::new(rt);
@@ -19,9 +18,5 @@ fn main(rt: HostRuntime) -> ExitCode {
     files::tell(&report);
     openings::tell(&report);
     compactions::tell(&report);
-    if report.has_failed() {
-        ExitCode::FAILURE
-    } else {
-        ExitCode::SUCCESS
-    }
+    report.status()
 }

@@ -1,10 +1,10 @@
 //! Two files are opened as a store, or told why not.
-use crate::report::Report;
 use sled_disk::{MemoryDisk, Result};
 use sled_files::{FilePages, begin_file};
 use sled_log::{append, block_of};
 use sled_store::Pages;
 use std::alloc::Global;
+use test_report::Report;
 
 // A file of these bytes.
 fn of_bytes(alloc: Global, bytes: &[u8]) -> Result<MemoryDisk> {

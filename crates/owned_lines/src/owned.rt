@@ -13,7 +13,7 @@ use shell_words::tell::Result;
 use sled::Db;
 use sled_model::{Reply, Subscriber, Tree};
 use sled_nodes::{IVec, Result as Answer};
-use sled_pages::MemPages;
+use sled_store::Pages;
 use std::alloc::Global;
 use transaction_lines::run::tell_owned_transaction;
 
@@ -27,9 +27,9 @@ fn shown_of(verb: Verb) -> Shown {
 }
 
 // Makes a call on a key, and answers the value that stood there, or of a merge and of an update the new one.
-fn write(
+fn write<P: Pages>(
     alloc: Global,
-    db: &mut Db<MemPages, Operator>,
+    db: &mut Db<P, Operator>,
     tree: &Tree,
     verb: Verb,
     arguments: &Arguments,
@@ -48,15 +48,15 @@ fn write(
 }
 
 // Swaps the value at a key.
-fn swap(db: &mut Db<MemPages, Operator>, tree: &Tree, arguments: &Arguments) -> Answer<Reply> {
+fn swap<P: Pages>(db: &mut Db<P, Operator>, tree: &Tree, arguments: &Arguments) -> Answer<Reply> {
     let key = arguments.bytes(0);
     let swapped = db.compare_and_swap(tree, key, arguments.value(1), arguments.value(2));
     swapped.map(Reply::Swapped)
 }
 
 // Takes out the keys within the bounds of a line, and answers how many.
-fn remove_range(
-    db: &mut Db<MemPages, Operator>,
+fn remove_range<P: Pages>(
+    db: &mut Db<P, Operator>,
     tree: &Tree,
     arguments: &Arguments,
 ) -> Answer<Reply> {
@@ -65,8 +65,8 @@ fn remove_range(
 }
 
 // Makes a call on a tree, or on the database.
-fn whole(
-    db: &mut Db<MemPages, Operator>,
+fn whole<P: Pages>(
+    db: &mut Db<P, Operator>,
     tree: &Tree,
     verb: Verb,
     arguments: &Arguments,
@@ -86,7 +86,7 @@ fn whole(
 }
 
 // Takes what a subscriber is told next, or ends it.
-fn hear(db: &mut Db<MemPages, Operator>, verb: Verb, subscriber: &Subscriber) -> Reply {
+fn hear<P: Pages>(db: &mut Db<P, Operator>, verb: Verb, subscriber: &Subscriber) -> Reply {
     match verb {
         Verb::Next => Reply::Next(db.next(subscriber)),
         _ => {
@@ -97,9 +97,9 @@ fn hear(db: &mut Db<MemPages, Operator>, verb: Verb, subscriber: &Subscriber) ->
 }
 
 // Makes the writes of the batch that a line spells.
-fn apply(
+fn apply<P: Pages>(
     alloc: Global,
-    db: &mut Db<MemPages, Operator>,
+    db: &mut Db<P, Operator>,
     tree: &Tree,
     line: &[u8],
 ) -> Result<Answer<Reply>> {
@@ -108,10 +108,10 @@ fn apply(
 }
 
 /// Makes the call of a database that the line says, and adds what it answers.
-pub fn make_owned(
+pub fn make_owned<P: Pages>(
     lines: &mut Lines,
     subscribers: &mut Subscribers,
-    db: &mut Db<MemPages, Operator>,
+    db: &mut Db<P, Operator>,
     tree: &Tree,
     verb: Verb,
 ) -> Result<()> {

@@ -1,5 +1,6 @@
-//! Runs the callers in `examples`, `machine_examples` and `transaction_examples` where there is memory, and a database over the store in
-//! `store_examples`: no contract says that they do not give up. It prints what came of each; `stdout` has what should have come.
+//! Runs the callers in `examples`, `machine_examples`, `transaction_examples` and `file_examples` where there is memory, and a database
+//! over the store in `store_examples`: no contract says that they do not give up. It prints what came of each; `stdout` has what should
+//! have come.
 #![tactic(auto)]
 
 mod batches;
@@ -10,6 +11,7 @@ mod counters;
 mod crashes;
 mod endings;
 mod events;
+mod files;
 mod flights;
 mod fresh;
 mod index;
@@ -29,6 +31,7 @@ use cases::{Case, seen_of};
 use crashes::{
     Example, JOBS, ONE_TRANSFER, STOCK, TRANSFERS, USERS, after_crashes, leaves_batches, throughout,
 };
+use files::survives_in_files;
 use flights::{Flight, answers};
 use seen::Seen;
 use std::process::ExitCode;
@@ -73,6 +76,8 @@ fn run(lines: &mut Lines) {
     lines.tell(what, Seen::of(answers(alloc, Flight::Scans)));
     let what = "a new database survives a crash";
     lines.tell(what, Seen::of(survives(alloc)));
+    let what = "a crash leaves of a database in two files what was flushed";
+    lines.tell(what, survives_in_files(alloc));
     let what = "the entries of an index under a number are found";
     lines.tell_case(what, Case::FindsEntries);
     let what = "readings of a user's own type are read in their order";

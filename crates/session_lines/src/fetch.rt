@@ -8,13 +8,13 @@ use shell_words::table::Verb;
 use sled_lines::session::Session;
 use sled_model::Tree;
 use sled_nodes::{IVec, Result as Answer};
-use sled_pages::MemPages;
+use sled_store::Pages;
 use std::alloc::Global;
 
 /// Reads a value of the current tree, and writes what is made of it.
-pub fn fetch(
+pub fn fetch<P: Pages>(
     alloc: Global,
-    session: &mut Session<MemPages, Operator>,
+    session: &mut Session<P, Operator>,
     verb: Verb,
     arguments: &Arguments,
 ) -> Answer<Option<IVec>> {

@@ -8,18 +8,18 @@ use shell_words::tell::{Result, Told};
 use shell_words::words::words_of;
 use sled_lines::session::Session;
 use sled_model::{MergeOperator, Tree};
-use sled_pages::MemPages;
+use sled_store::Pages;
 use std::alloc::Global;
 use transaction_lines::run::{Ended, Run};
 
 // Runs it on the current tree. Nothing is said of what that does, so that nobody who tells it has more to prove; nor below.
-fn run_on_current<M: MergeOperator>(session: &mut Session<MemPages, M>, run: &Run) -> Ended {
+fn run_on_current<P: Pages, M: MergeOperator>(session: &mut Session<P, M>, run: &Run) -> Ended {
     session.transaction(|tree| run.attempt_on_tree(tree))
 }
 
 // Runs it on trees.
-fn run_on_trees<M: MergeOperator>(
-    session: &mut Session<MemPages, M>,
+fn run_on_trees<P: Pages, M: MergeOperator>(
+    session: &mut Session<P, M>,
     trees: &[&Tree],
     run: &Run,
 ) -> Ended {
@@ -27,9 +27,9 @@ fn run_on_trees<M: MergeOperator>(
 }
 
 /// Runs the transaction that a line spells on the current tree, and adds what each part answers and how that came out.
-pub fn tell_transaction<M: MergeOperator>(
+pub fn tell_transaction<P: Pages, M: MergeOperator>(
     alloc: Global,
-    session: &mut Session<MemPages, M>,
+    session: &mut Session<P, M>,
     line: &[u8],
     out: &mut Told,
 ) -> Result<()> {
@@ -39,9 +39,9 @@ pub fn tell_transaction<M: MergeOperator>(
 }
 
 // Runs the transaction that words spell on trees.
-fn tell_on_trees<M: MergeOperator>(
+fn tell_on_trees<P: Pages, M: MergeOperator>(
     alloc: Global,
-    session: &mut Session<MemPages, M>,
+    session: &mut Session<P, M>,
     trees: &[Tree],
     words: &[&[u8]],
     out: &mut Told,
@@ -53,9 +53,9 @@ fn tell_on_trees<M: MergeOperator>(
 }
 
 // Runs the transaction that words spell on the trees that those before the first `;` name; or adds why they name none.
-fn tell_listed<M: MergeOperator, N: TreeNames>(
+fn tell_listed<P: Pages, M: MergeOperator, N: TreeNames>(
     alloc: Global,
-    session: &mut Session<MemPages, M>,
+    session: &mut Session<P, M>,
     names: &N,
     words: &[&[u8]],
     out: &mut Told,
@@ -73,9 +73,9 @@ fn tell_listed<M: MergeOperator, N: TreeNames>(
 }
 
 /// Runs the transaction that a line spells on the trees that it names; or adds why it names none.
-pub fn tell_transaction_all<M: MergeOperator, N: TreeNames>(
+pub fn tell_transaction_all<P: Pages, M: MergeOperator, N: TreeNames>(
     alloc: Global,
-    session: &mut Session<MemPages, M>,
+    session: &mut Session<P, M>,
     names: &N,
     line: &[u8],
     out: &mut Told,

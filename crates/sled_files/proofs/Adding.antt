@@ -10,11 +10,12 @@ use Rattle.sled_bytes.specs.declared.change.Change.{Change}
 use Rattle.sled_bytes.specs.declared.refusal.Flaw.{Flaw}
 use Rattle.sled_bytes.specs.Reading.{changes_of}
 use Rattle.sled_bytes.proofs.Again.{changes_again}
-use Rattle.sled_files.specs.Change.{Durable, changed, changed_all, nothing_yet}
+use Rattle.sled_files.specs.Change.{Durable, changed, changed_all, nothing_yet, AreAdded}
 use Rattle.sled_files.specs.Header.{header}
 use Rattle.sled_files.specs.Standing.{joined, all_changes, StandsFor, StandsAt, IsBlank, IsOlder}
 use Rattle.sled_files.specs.Pending.{Spells}
 use Rattle.sled_files.specs.Files.{AreForEither}
+use Rattle.sled_files.proofs.OfStore.{of_both}
 
 joined_swap : (x : Result (List Change) Flaw) → joined x (Ok []) ≡ joined (Ok []) x
 joined_swap (Ok front) = ap (λ (l : List Change). Ok l) (append-nil front)
@@ -45,25 +46,28 @@ alone {bytes} {changes} s = ap (λ (r : Result (List Change) Flaw). joined r (Ok
 
 module _ {file : List ℕ} {generation : ℕ} {d : Durable} (s : StandsFor file generation d) where
   abbrev pub payloads : List (List ℕ)
-  payloads = (header generation ++ s.first) ∷ s.others
+  payloads = (header generation ++ s.has.first) ∷ s.has.others
 
   -- a file that is read as the same payloads stands for the same
   pub stands_same : (c : List ℕ) → log_of digest c ≡ Ok payloads → StandsFor c generation d
-  stands_same c log = record { fits = s.fits; first = s.first; others = s.others; log = log; changes = s.changes; decoded = s.decoded; makes = s.makes }
+  stands_same c log = record { changes = s.changes; has = record { fits = s.has.fits; first = s.has.first; others = s.has.others; log = log; decoded = s.has.decoded }; makes = s.makes; made = s.made }
 
   -- with one payload more it stands for what that one's changes make
-  abbrev pub stands_more : (payload : List ℕ) (more : List Change) (longer : List ℕ) → changes_of payload ≡ Ok more → log_of digest longer ≡ Ok (payloads ++ payload ∷ []) → StandsFor longer generation (changed_all more d)
-  stands_more payload more longer says log = record {
-    fits = s.fits;
-    first = s.first;
-    others = s.others ++ payload ∷ [];
-    log = log;
+  abbrev pub stands_more : (payload : List ℕ) (more : List Change) (longer : List ℕ) → changes_of payload ≡ Ok more → AreAdded more d → log_of digest longer ≡ Ok (payloads ++ payload ∷ []) → StandsFor longer generation (changed_all more d)
+  stands_more payload more longer says added log = record {
     changes = s.changes ++ more;
-    decoded = changes_push (s.first ∷ s.others) payload ∙ ap (λ (r : Result (List Change) Flaw). joined r (changes_of payload)) s.decoded ∙ ap (λ (r : Result (List Change) Flaw). joined (Ok s.changes) r) says;
+    has = record {
+      fits = s.has.fits;
+      first = s.has.first;
+      others = s.has.others ++ payload ∷ [];
+      log = log;
+      decoded = changes_push (s.has.first ∷ s.has.others) payload ∙ ap (λ (r : Result (List Change) Flaw). joined r (changes_of payload)) s.has.decoded ∙ ap (λ (r : Result (List Change) Flaw). joined (Ok s.changes) r) says;
+    };
     makes = changed_both s.changes more nothing_yet ∙ ap (changed_all more) s.makes;
+    made = of_both s.changes more d s.made added;
   }
 
-module _ {one : List ℕ} {gate generation : ℕ} {d : Durable} (at : StandsAt one gate generation d) {payload : List ℕ} {changes : List Change} (spells : Spells payload changes) (few : length payload < 2 ^ 64) where
+module _ {one : List ℕ} {gate generation : ℕ} {d : Durable} (at : StandsAt one gate generation d) {payload : List ℕ} {changes : List Change} (spells : Spells payload changes) (added : AreAdded changes d) (few : length payload < 2 ^ 64) where
   -- the block of the payload is one for the file
   abbrev pub block_for : (block : List ℕ) → block ≡ behind_gate digest payload → IsBlockFor one gate block
   block_for block is = record { digest = digest; small = digest_small; payloads = payloads at.stands; log = at.log; payload = payload; fits = few; bytes_are = is }
@@ -71,8 +75,8 @@ module _ {one : List ℕ} {gate generation : ℕ} {d : Durable} (at : StandsAt o
   -- what a crash leaves while it is added, beside the other file
   pub before_or_after : (block : List ℕ) (is : block ≡ behind_gate digest payload) (c other : List ℕ) → IsBlank other ⊎ IsOlder generation other → IsBeforeOrAfter (block_for block is) c → AreForEither d (changed_all changes d) c other
   before_or_after block is c other behind (inl log) = inl (record { generation = generation; which = inl (record { stands = stands_same at.stands c log; behind = behind }) })
-  before_or_after block is c other behind (inr log) = inr (record { generation = generation; which = inl (record { stands = stands_more at.stands payload changes c (says spells) log; behind = behind }) })
+  before_or_after block is c other behind (inr log) = inr (record { generation = generation; which = inl (record { stands = stands_more at.stands payload changes c (says spells) added log; behind = behind }) })
 
   -- once it is added
   pub stands_after : (longer : List ℕ) (place : ℕ) → IsLog digest longer (payloads at.stands ++ payload ∷ []) place → StandsAt longer place generation (changed_all changes d)
-  stands_after longer place log = record { stands = stands_more at.stands payload changes longer (says spells) (log_read digest_small log); log = log }
+  stands_after longer place log = record { stands = stands_more at.stands payload changes longer (says spells) added (log_read digest_small log); log = log }

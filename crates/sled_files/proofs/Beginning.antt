@@ -25,7 +25,7 @@ closed_or_not (x ∷ rest) c generation d torn = ⊎_elim (λ is. inl is) (λ is
 
 module _ {block : List ℕ} {generation : ℕ} {changes : List Change} (first : IsFirstBlock block generation changes) where
   abbrev stands_new : (c : List ℕ) → log_of digest c ≡ Ok ((header generation ++ first.payload) ∷ []) → StandsFor c generation (changed_all changes nothing_yet)
-  stands_new c log = record { fits = first.fits; first = first.payload; others = []; log = log; changes = changes; decoded = alone first.spells; makes = refl }
+  stands_new c log = record { changes = changes; has = record { fits = first.fits; first = first.payload; others = []; log = log; decoded = alone first.spells }; makes = refl; made = first.made }
 
   module _ (file mid : List ℕ) (written_is : mid ≡ written 0 (closed ∷ []) file) where
     -- the first block is one for the file behind its closed gate

@@ -11,12 +11,12 @@ use Rattle.sled_files.specs.declared.replay.Made.{Made}
 use Rattle.sled_files.specs.declared.replay.Halt.TheVariants as halt
 use Rattle.sled_files.specs.declared.found.OpenError.{OpenError}
 use Rattle.sled_files.specs.declared.found.OpenError.TheVariants.{NoMemory, NotAStore, OtherFormat, Decayed, Disk}
-use Rattle.sled_files.specs.Change.{Durable, nothing_yet, changed_all}
+use Rattle.sled_files.specs.Change.{Durable, nothing_yet, changed_all, AreOfStore}
 use Rattle.sled_files.specs.Header.{header}
-use Rattle.sled_files.specs.Standing.{all_changes, StandsFor, IsBlank, IsOlder, Counts, AreFor, AreBlank}
+use Rattle.sled_files.specs.Standing.{all_changes, HasChanges, StandsFor, IsBlank, IsOlder, Counts, AreFor, AreBlank}
 use Rattle.sled_files.specs.theory.Found.{IsFileOf, IsNoFile, is_why_no_file}
 use Rattle.sled_files.proofs.Finding.{ok_logs}
-use Rattle.sled_files.specs.Opening.{AreOfStore, AreOfNone, changes_in, is_why_unopened}
+use Rattle.sled_files.specs.Opening.{AreOfNone, is_why_unopened}
 use Rattle.sled_files.specs.theory.Chosen.{IsRead, fails, IsMade, is_why_unmade, is_why_unread, IsOpened}
 
 -- a header says its generation
@@ -69,46 +69,48 @@ IsBehind generation bytes = IsBlank bytes ⊎ Lower generation bytes
 
 -- a file of which another is behind counts, and that other does not
 module _ {one : List ℕ} {g gate : ℕ} {f : List ℕ} {os : List (List ℕ)} (file : IsFileOf one g gate f os) where
-  same_stands : {h : ℕ} {d : Durable} (s : StandsFor one h d) → all_changes (f ∷ os) ≡ Ok s.changes
-  same_stands {h} {d} s =
+  same_has : {h : ℕ} {changes : List Change} (s : HasChanges one h changes) → all_changes (f ∷ os) ≡ Ok changes
+  same_has {h} {changes} s =
       let t = file_same h s.first s.others file s.fits s.log in
       ap (λ (l : List ℕ). all_changes (l ∷ os)) t.1 ∙ ap (λ (l : List (List ℕ)). all_changes (s.first ∷ l)) t.2 ∙ s.decoded
 
-  not_other_from : (other : List ℕ) (h : ℕ) (d : Durable) (s : StandsFor other h d) → IsBlank one ⊎ IsOlder h one → IsBehind g other → ⊥
-  not_other_from other h d s behind (inl blank) = no_blank_log other _ _ blank s.log
-  not_other_from other h d s (inl blank) (inr lower) = no_blank_log one _ _ blank file.log
-  not_other_from other h d s (inr older) (inr lower) =
+  not_other_from : (other : List ℕ) (h : ℕ) (changes : List Change) (s : HasChanges other h changes) → IsBlank one ⊎ IsOlder h one → IsBehind g other → ⊥
+  not_other_from other h changes s behind (inl blank) = no_blank_log other _ _ blank s.log
+  not_other_from other h changes s (inl blank) (inr lower) = no_blank_log one _ _ blank file.log
+  not_other_from other h changes s (inr older) (inr lower) =
       let a = file_same h s.first s.others lower.is s.fits s.log in
-      let b = file_same older.earlier older.stands.first older.stands.others file older.stands.fits older.stands.log in
+      let b = file_same older.earlier older.has.first older.has.others file older.has.fits older.has.log in
       omega (arith, a.0, b.0, lower.below, older.below)
 
   not_other : (other : List ℕ) (h : ℕ) (d : Durable) → Counts other one h d → IsBehind g other → ⊥
-  not_other other h d c behind = not_other_from other h d c.stands c.behind behind
+  not_other other h d c behind = not_other_from other h c.stands.changes c.stands.has c.behind behind
 
 -- what two files stand for is what is read of the one
-pub record IsReadOf (read : Result (List Change) Flaw) (changes : List Change) (d : Durable) : Type 0 where
+pub record IsReadOf (read : Result (List Change) Flaw) (d : Durable) : Type 0 where
+  pub changes : List Change
   pub is : read ≡ Ok changes
   pub makes : changed_all changes nothing_yet ≡ d
+  pub made : AreOfStore changes d
 
 abbrev pub UnmadeOf : Result (List Change) Flaw → Type 0
 UnmadeOf read = (changes : List Change) → read ≡ Ok changes → AreOfStore changes (changed_all changes nothing_yet) → ⊥
 
 module _ {read : Result (List Change) Flaw} where
-  alone_of : {store : Made} (m : IsMade read store) (changes : List Change) (d : Durable) → IsReadOf read changes d → d ≡ changed_all m.changes nothing_yet
-  alone_of m changes d r = sym r.makes ∙ ap (λ (l : List Change). changed_all l nothing_yet) (ok_changes read _ _ r.is m.is)
+  alone_of : {store : Made} (m : IsMade read store) (d : Durable) → IsReadOf read d → d ≡ changed_all m.changes nothing_yet
+  alone_of m d r = sym r.makes ∙ ap (λ (l : List Change). changed_all l nothing_yet) (ok_changes read _ _ r.is m.is)
 
-  unmade_from : UnmadeOf read → (changes : List Change) (d : Durable) → IsReadOf read changes d → AreOfStore changes d → ⊥
-  unmade_from why changes d r made = why changes r.is (subst (λ (x : Durable). AreOfStore changes x) (sym r.makes) made)
+  unmade_from : UnmadeOf read → (d : Durable) → IsReadOf read d → ⊥
+  unmade_from why d r = why r.changes r.is (subst (λ (x : Durable). AreOfStore r.changes x) (sym r.makes) r.made)
 
 abbrev stands_for : {one : List ℕ} {g gate : ℕ} {f : List ℕ} {os : List (List ℕ)} {store : Made} → IsFileOf one g gate f os → (m : IsMade (all_changes (f ∷ os)) store) → StandsFor one g (changed_all m.changes nothing_yet)
-stands_for {one} {g} {gate} {f} {os} file m = record { fits = file.fits; first = f; others = os; log = file.log; changes = m.changes; decoded = m.is; makes = refl }
+stands_for {one} {g} {gate} {f} {os} file m = record { changes = m.changes; has = record { fits = file.fits; first = f; others = os; log = file.log; decoded = m.is }; makes = refl; made = m.made }
 
 module _ {first second : List ℕ} {g gate : ℕ} {f : List ℕ} {os : List (List ℕ)} (file : IsFileOf first g gate f os) (behind : IsBehind g second) where
-  by_first : (h : ℕ) (d : Durable) (w : Counts first second h d ⊎ Counts second first h d) → IsReadOf (all_changes (f ∷ os)) (changes_in (record { generation = h; which = w })) d
-  by_first h d (inl c) = record { is = same_stands file c.stands; makes = c.stands.makes }
+  by_first : (h : ℕ) (d : Durable) (w : Counts first second h d ⊎ Counts second first h d) → IsReadOf (all_changes (f ∷ os)) d
+  by_first h d (inl c) = record { changes = c.stands.changes; is = same_has file c.stands.has; makes = c.stands.makes; made = c.stands.made }
   by_first h d (inr c) = absurd (not_other file second h d c behind)
 
-  read_first : (d : Durable) (a : AreFor first second d) → IsReadOf (all_changes (f ∷ os)) (changes_in a) d
+  read_first : (d : Durable) (a : AreFor first second d) → IsReadOf (all_changes (f ∷ os)) d
   read_first d a = by_first a.generation d a.which
 
   pub opened_first : {store : Made} → IsBlank second ⊎ IsOlder g second → IsMade (all_changes (f ∷ os)) store → IsOpened first second false gate g store
@@ -116,18 +118,18 @@ module _ {first second : List ℕ} {g gate : ℕ} {f : List ℕ} {os : List (Lis
     durable = changed_all m.changes nothing_yet;
     stands = record { stands = stands_for file m; log = file.is };
     behind = older;
-    of_store = record { stand = record { generation = g; which = inl (record { stands = stands_for file m; behind = older }) }; made = m.made };
+    stand = record { generation = g; which = inl (record { stands = stands_for file m; behind = older }) };
     reopened = m.reopened;
     pids = m.pids;
     versions = m.versions;
     named = m.named;
-    alone = λ d a. alone_of m (changes_in a) d (read_first d a);
+    alone = λ d a. alone_of m d (read_first d a);
   }
 
   unmade_first : UnmadeOf (all_changes (f ∷ os)) → AreOfNone first second
   unmade_first why = record {
     no_blanks = λ b. no_blank_log first _ _ b.first_is file.log;
-    no_store = λ d s. unmade_from why (changes_in s.stand) d (read_first d s.stand) s.made;
+    no_store = λ d a. unmade_from why d (read_first d a);
   }
 
   pub why_unmade_first : (e : OpenError) → is_why_unmade e (all_changes (f ∷ os)) → is_why_unopened e first second
@@ -138,11 +140,11 @@ module _ {first second : List ℕ} {g gate : ℕ} {f : List ℕ} {os : List (Lis
   why_unmade_first (Disk e) why = absurd why
 
 module _ {first second : List ℕ} {g gate : ℕ} {f : List ℕ} {os : List (List ℕ)} (file : IsFileOf second g gate f os) (behind : IsBehind g first) where
-  by_second : (h : ℕ) (d : Durable) (w : Counts first second h d ⊎ Counts second first h d) → IsReadOf (all_changes (f ∷ os)) (changes_in (record { generation = h; which = w })) d
+  by_second : (h : ℕ) (d : Durable) (w : Counts first second h d ⊎ Counts second first h d) → IsReadOf (all_changes (f ∷ os)) d
   by_second h d (inl c) = absurd (not_other file first h d c behind)
-  by_second h d (inr c) = record { is = same_stands file c.stands; makes = c.stands.makes }
+  by_second h d (inr c) = record { changes = c.stands.changes; is = same_has file c.stands.has; makes = c.stands.makes; made = c.stands.made }
 
-  read_second : (d : Durable) (a : AreFor first second d) → IsReadOf (all_changes (f ∷ os)) (changes_in a) d
+  read_second : (d : Durable) (a : AreFor first second d) → IsReadOf (all_changes (f ∷ os)) d
   read_second d a = by_second a.generation d a.which
 
   pub opened_second : {store : Made} → IsBlank first ⊎ IsOlder g first → IsMade (all_changes (f ∷ os)) store → IsOpened first second true gate g store
@@ -150,18 +152,18 @@ module _ {first second : List ℕ} {g gate : ℕ} {f : List ℕ} {os : List (Lis
     durable = changed_all m.changes nothing_yet;
     stands = record { stands = stands_for file m; log = file.is };
     behind = older;
-    of_store = record { stand = record { generation = g; which = inr (record { stands = stands_for file m; behind = older }) }; made = m.made };
+    stand = record { generation = g; which = inr (record { stands = stands_for file m; behind = older }) };
     reopened = m.reopened;
     pids = m.pids;
     versions = m.versions;
     named = m.named;
-    alone = λ d a. alone_of m (changes_in a) d (read_second d a);
+    alone = λ d a. alone_of m d (read_second d a);
   }
 
   unmade_second : UnmadeOf (all_changes (f ∷ os)) → AreOfNone first second
   unmade_second why = record {
     no_blanks = λ b. no_blank_log second _ _ b.second_is file.log;
-    no_store = λ d s. unmade_from why (changes_in s.stand) d (read_second d s.stand) s.made;
+    no_store = λ d a. unmade_from why d (read_second d a);
   }
 
   pub why_unmade_second : (e : OpenError) → is_why_unmade e (all_changes (f ∷ os)) → is_why_unopened e first second
@@ -199,8 +201,8 @@ pub is_older : {g h gate : ℕ} {other f : List ℕ} {os : List (List ℕ)} → 
 is_older {g} {h} {gate} {other} {f} {os} file below read = record {
   earlier = h;
   below = below;
-  durable = changed_all read.changes nothing_yet;
-  stands = record { fits = file.fits; first = f; others = os; log = file.log; changes = read.changes; decoded = read.is; makes = refl };
+  changes = read.changes;
+  has = record { fits = file.fits; first = f; others = os; log = file.log; decoded = read.is };
 }
 
 -- an older file that cannot be read
@@ -208,7 +210,7 @@ is_older {g} {h} {gate} {other} {f} {os} file below read = record {
 module _ {one other : List ℕ} {g h gate gate2 : ℕ} {f q : List ℕ} {os qs : List (List ℕ)} (file : IsFileOf one g gate f os) (older : IsFileOf other h gate2 q qs) (below : h < g) (why : fails halt.Flawed (all_changes (q ∷ qs))) where
   unread_behind : (k : ℕ) → IsBlank other ⊎ IsOlder k other → ⊥
   unread_behind k (inl blank) = no_blank_log other _ _ blank older.log
-  unread_behind k (inr o) = why o.stands.changes (same_stands older o.stands)
+  unread_behind k (inr o) = why o.changes (same_has older o.has)
 
   unread_counts : (k : ℕ) (d : Durable) → Counts one other k d ⊎ Counts other one k d → ⊥
   unread_counts k d (inl c) = unread_behind k c.behind
@@ -220,8 +222,8 @@ swapped (inr c) = inl c
 
 unread_none : (is_second : Bool) (first second : List ℕ) {g h gate gate2 : ℕ} {f q : List ℕ} {os qs : List (List ℕ)} → IsFileOf (one_is is_second first second) g gate f os → IsFileOf (other_is is_second first second) h gate2 q qs → h < g
     → fails halt.Flawed (all_changes (q ∷ qs)) → AreOfNone first second
-unread_none true first second file older below why = record { no_blanks = λ b. no_blank_log second _ _ b.second_is file.log; no_store = λ d s. unread_counts file older below why s.stand.generation d (swapped s.stand.which) }
-unread_none false first second file older below why = record { no_blanks = λ b. no_blank_log first _ _ b.first_is file.log; no_store = λ d s. unread_counts file older below why s.stand.generation d s.stand.which }
+unread_none true first second file older below why = record { no_blanks = λ b. no_blank_log second _ _ b.second_is file.log; no_store = λ d s. unread_counts file older below why s.generation d (swapped s.which) }
+unread_none false first second file older below why = record { no_blanks = λ b. no_blank_log first _ _ b.first_is file.log; no_store = λ d s. unread_counts file older below why s.generation d s.which }
 
 pub unread_as : (is_second : Bool) (first second : List ℕ) {g h gate gate2 : ℕ} {f q : List ℕ} {os qs : List (List ℕ)} (e : OpenError) → IsFileOf (one_is is_second first second) g gate f os → IsFileOf (other_is is_second first second) h gate2 q qs → h < g
     → is_why_unread e (all_changes (q ∷ qs)) → is_why_unopened e first second
@@ -239,12 +241,12 @@ even_counts {one} {other} {g} {h} file older even k d c = go c.behind
     go : IsBlank other ⊎ IsOlder k other → ⊥
     go (inl blank) = no_blank_log other _ _ blank older.log
     go (inr o) =
-        let a = file_same k c.stands.first c.stands.others file c.stands.fits c.stands.log in
-        let b = file_same o.earlier o.stands.first o.stands.others older o.stands.fits o.stands.log in
+        let a = file_same k c.stands.has.first c.stands.has.others file c.stands.has.fits c.stands.has.log in
+        let b = file_same o.earlier o.has.first o.has.others older o.has.fits o.has.log in
         omega (arith, a.0, b.0, even, o.below)
 
 pub even_none : (first second : List ℕ) {g h gate gate2 : ℕ} {f q : List ℕ} {os qs : List (List ℕ)} → IsFileOf first g gate f os → IsFileOf second h gate2 q qs → g ≡ h → AreOfNone first second
-even_none first second {g} {h} file older even = record { no_blanks = λ b. no_blank_log first _ _ b.first_is file.log; no_store = λ d s. go s.stand.generation d s.stand.which }
+even_none first second {g} {h} file older even = record { no_blanks = λ b. no_blank_log first _ _ b.first_is file.log; no_store = λ d s. go s.generation d s.which }
   where
     go : (k : ℕ) (d : Durable) → Counts first second k d ⊎ Counts second first k d → ⊥
     go k d (inl c) = even_counts file older even k d c
@@ -253,26 +255,26 @@ even_none first second {g} {h} file older even = record { no_blanks = λ b. no_b
 -- a file that is none of a store
 
 none_first : (first second : List ℕ) → IsNoFile first → AreOfNone first second
-none_first first second n = record { no_blanks = λ b. n.no_blank b.first_is; no_store = λ d s. go s.stand.generation d s.stand.which }
+none_first first second n = record { no_blanks = λ b. n.no_blank b.first_is; no_store = λ d s. go s.generation d s.which }
   where
     behind : (k : ℕ) → IsBlank first ⊎ IsOlder k first → ⊥
     behind k (inl blank) = n.no_blank blank
-    behind k (inr o) = n.no_log o.earlier o.stands.first o.stands.others o.stands.log
+    behind k (inr o) = n.no_log o.earlier o.has.first o.has.others o.has.log
 
     go : (k : ℕ) (d : Durable) → Counts first second k d ⊎ Counts second first k d → ⊥
-    go k d (inl c) = n.no_log k c.stands.first c.stands.others c.stands.log
+    go k d (inl c) = n.no_log k c.stands.has.first c.stands.has.others c.stands.has.log
     go k d (inr c) = behind k c.behind
 
 none_second : (first second : List ℕ) → IsNoFile second → AreOfNone first second
-none_second first second n = record { no_blanks = λ b. n.no_blank b.second_is; no_store = λ d s. go s.stand.generation d s.stand.which }
+none_second first second n = record { no_blanks = λ b. n.no_blank b.second_is; no_store = λ d s. go s.generation d s.which }
   where
     behind : (k : ℕ) → IsBlank second ⊎ IsOlder k second → ⊥
     behind k (inl blank) = n.no_blank blank
-    behind k (inr o) = n.no_log o.earlier o.stands.first o.stands.others o.stands.log
+    behind k (inr o) = n.no_log o.earlier o.has.first o.has.others o.has.log
 
     go : (k : ℕ) (d : Durable) → Counts first second k d ⊎ Counts second first k d → ⊥
     go k d (inl c) = behind k c.behind
-    go k d (inr c) = n.no_log k c.stands.first c.stands.others c.stands.log
+    go k d (inr c) = n.no_log k c.stands.has.first c.stands.has.others c.stands.has.log
 
 pub no_first : (e : OpenError) (first second : List ℕ) → is_why_no_file e first → is_why_unopened e first second
 no_first NoMemory first second why = tt
@@ -293,5 +295,5 @@ pub blanks_or_store : {first second : List ℕ} {d : Durable} → AreBlank first
 blanks_or_store {first} {second} {d} blanks a = go a.which
   where
     go : Counts first second a.generation d ⊎ Counts second first a.generation d → ⊥
-    go (inl c) = no_blank_log first _ _ blanks.first_is c.stands.log
-    go (inr c) = no_blank_log second _ _ blanks.second_is c.stands.log
+    go (inl c) = no_blank_log first _ _ blanks.first_is c.stands.has.log
+    go (inr c) = no_blank_log second _ _ blanks.second_is c.stands.has.log

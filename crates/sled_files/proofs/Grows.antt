@@ -1,5 +1,5 @@
 -- What is pending of a store, as its actions go on.
-use Rattle.std.proofs.Common.{◌≡◌, inl, inr, ⊎_elim, ℕ, List, [], ◌∷◌, ◌++◌, refl, sym, ◌∙◌, ap, subst}
+use Rattle.std.proofs.Common.{arith, ◌≡◌, inl, inr, ⊎_elim, ℕ, List, [], ◌∷◌, ◌++◌, refl, sym, ◌∙◌, ap, subst}
 use Rattle.std.specs.Prelude.{Option, Some, None}
 use Rattle.std.specs.List.{flat_map}
 use Rattle.std.proofs.lemmas.List.{append-nil}
@@ -12,7 +12,7 @@ use Rattle.sled_store.specs.Crash.{left_from}
 use Rattle.sled_bytes.specs.declared.change.Change.{Change}
 use Rattle.sled_bytes.specs.declared.change.Change.TheVariants.{Given, Linked, Freed, Rooted, Begun, Sealed, Marked, Limited}
 use Rattle.sled_bytes.specs.Spelling.{change_bytes, FitsChange}
-use Rattle.sled_files.specs.Change.{Durable, action_of, acted, changed, changed_all, with_action, actions_of}
+use Rattle.sled_files.specs.Change.{Durable, action_of, acted, changed, changed_all, with_action, actions_of, IsWithin}
 use Rattle.sled_files.specs.Lasting.{IsLasting, Limits}
 use Rattle.sled_files.specs.Pending.{IsPending, Spells, aside_of}
 use Rattle.sled_files.proofs.Adding.{changed_both}
@@ -59,14 +59,15 @@ spells_one c fits = spells_more spells_none c fits
 
 module _ {limits : Limits} {s : Store} {d : Durable} {bytes : List ℕ} (p : IsPending limits s d bytes) where
   -- a change that is an action of the store is pending where the store makes that action
-  pub pends_more : (later : Store) (c : Change) (a : Action) → FitsChange c → action_of c (now s) ≡ Some a → later.base ≡ s.base → later.recent ≡ s.recent ++ a ∷ [] → later.mark ≡ s.mark
+  pub pends_more : (later : Store) (c : Change) (a : Action) → FitsChange c → IsWithin d c → action_of c (now s) ≡ Some a → later.base ≡ s.base → later.recent ≡ s.recent ++ a ∷ [] → later.mark ≡ s.mark
       → IsPending limits later d (bytes ++ change_bytes c)
-  pends_more later c a fits is base recent mark = record {
+  pends_more later c a fits within is base recent mark = record {
     base = p.base ∙ sym base;
     mark = p.mark ∙ sym mark;
     limited = p.limited;
     changes = p.changes ++ c ∷ [];
     spells = spells_more p.spells c fits;
+    within = All-push (IsWithin d) p.changes c p.within within;
     acts = ap (λ (x : State). actions_of (p.changes ++ c ∷ []) x) base
         ∙ actions_push p.changes c s.base
         ∙ ap (λ (l : List Action). l ++ with_action (action_of c (after_all l s.base)) []) p.acts
@@ -83,6 +84,7 @@ module _ {limits : Limits} {s : Store} {d : Durable} {bytes : List ℕ} (p : IsP
     limited = p.limited;
     changes = p.changes;
     spells = p.spells;
+    within = p.within;
     acts = ap (λ (x : State). actions_of p.changes x) base ∙ p.acts ∙ sym recent;
     aside = p.aside;
   }
@@ -96,6 +98,7 @@ lasts_more {asked} {limits} {s} l later c base recent mark = record {
   right = record {
     state = record { is = subst (λ (x : State). In l.durable.state (left_from x later.recent)) (sym base) (subst (λ (list : List Action). In l.durable.state (left_from s.base list)) (sym recent) (left_stays l.durable.state s.base s.recent c l.right.state.is)) };
     mark = ⊎_elim (λ is. inl (is ∙ sym mark)) (λ one. inr one) l.right.mark;
+    no_lower = omega (arith, mark, l.right.no_lower);
     limited = l.right.limited;
   };
 }
@@ -109,6 +112,7 @@ lasts_same {asked} {limits} {s} l later base recent mark = record {
   right = record {
     state = record { is = subst (λ (x : State). In l.durable.state (left_from x later.recent)) (sym base) (subst (λ (list : List Action). In l.durable.state (left_from s.base list)) (sym recent) l.right.state.is) };
     mark = ⊎_elim (λ is. inl (is ∙ sym mark)) (λ one. inr one) l.right.mark;
+    no_lower = omega (arith, mark, l.right.no_lower);
     limited = l.right.limited;
   };
 }

@@ -1,4 +1,5 @@
 pub mod Crashing
+pub mod OfStore
 pub mod Replaying
 pub mod Finishing
 pub mod Headers
@@ -20,4 +21,5 @@ pub mod Numbers
 pub mod Calls
 pub mod Flushing
 pub mod Readying
+pub mod Meanwhile
 pub mod Reopening

@@ -10,10 +10,10 @@ use Rattle.sled_bytes.specs.declared.refusal.Flaw.{Flaw}
 use Rattle.sled_pages.specs.Memory.{store_of, calls_refused}
 use Rattle.sled_files.specs.declared.replay.Replay.{Replay}
 use Rattle.sled_files.specs.declared.replay.Made.{Made}
-use Rattle.sled_files.specs.Change.{Durable, nothing_yet, changed_all}
+use Rattle.sled_files.specs.Change.{Durable, nothing_yet, changed_all, IsWithin, AreOfStore}
 use Rattle.sled_files.specs.Standing.{all_changes}
 use Rattle.sled_files.specs.theory.Replay.{Numbers, numbers_after, numbers_after_all, HasPlace, AreBelow, IsWhole, IsReplay, replayed_of}
-use Rattle.sled_files.specs.Opening.{IsWithin, AreOfStore, IsReopened}
+use Rattle.sled_files.specs.Opening.{IsReopened}
 use Rattle.sled_files.specs.theory.Chosen.{IsMade}
 
 -- numbers do not fall

@@ -21,7 +21,7 @@ pub asks_more : {asked : List ℕ} {limits : Limits} {s : Store} {a b : List ℕ
 asks_more more on l = record {
   durable = l.durable;
   stands = l.stands;
-  right = record { state = l.right.state; mark = ⊎_elim (λ is. inl is) (λ one. inr (on l.durable.mark one)) l.right.mark; limited = l.right.limited };
+  right = record { state = l.right.state; mark = ⊎_elim (λ is. inl is) (λ one. inr (on l.durable.mark one)) l.right.mark; no_lower = l.right.no_lower; limited = l.right.limited };
 }
 
 -- two files that are ready stand for this, whichever of them counts

@@ -67,18 +67,21 @@ put_below given n limit p below other is = elim (nat_eq p n) as (λ b. nat_eq p 
 module _ {limits : Limits} {s t : Store} (w : AreWithin limits s) where
   pub within_same : t.pids ≡ s.pids → t.versions ≡ s.versions → AreWithin limits t
   within_same pids versions = record {
+    numbered = ap (λ (f : ℕ → Bool). f 0) pids ∙ w.numbered;
     pids = λ p positive is. w.pids p positive (sym (ap (λ (f : ℕ → Bool). f p) pids) ∙ is);
     versions = λ v is. w.versions v (sym (ap (λ (f : ℕ → Bool). f v) versions) ∙ is);
   }
 
   pub within_version : (n : ℕ) → n < limits.versions → t.pids ≡ s.pids → t.versions ≡ put_at s.versions n true → AreWithin limits t
   within_version n below pids versions = record {
+    numbered = ap (λ (f : ℕ → Bool). f 0) pids ∙ w.numbered;
     pids = λ p positive is. w.pids p positive (sym (ap (λ (f : ℕ → Bool). f p) pids) ∙ is);
     versions = λ v is. put_below s.versions n limits.versions v below (w.versions v) (sym (ap (λ (f : ℕ → Bool). f v) versions) ∙ is);
   }
 
-  pub within_both : (m n : ℕ) → m < limits.pids → n < limits.versions → t.pids ≡ put_at s.pids m true → t.versions ≡ put_at s.versions n true → AreWithin limits t
-  within_both m n pid version pids versions = record {
+  pub within_both : (m n : ℕ) → 0 < m → m < limits.pids → n < limits.versions → t.pids ≡ put_at s.pids m true → t.versions ≡ put_at s.versions n true → AreWithin limits t
+  within_both m n positive pid version pids versions = record {
+    numbered = ap (λ (f : ℕ → Bool). f 0) pids ∙ put_elsewhere s.pids m 0 true (omega (arith, positive)) ∙ w.numbered;
     pids = λ p positive is. put_below s.pids m limits.pids p pid (w.pids p positive) (sym (ap (λ (f : ℕ → Bool). f p) pids) ∙ is);
     versions = λ v is. put_below s.versions n limits.versions v version (w.versions v) (sym (ap (λ (f : ℕ → Bool). f v) versions) ∙ is);
   }

@@ -6,8 +6,8 @@ use Rattle.sled_log.specs.Digest.{digest}
 use Rattle.sled_log.specs.Append.{behind_gate, IsBeforeOrAfter}
 use Rattle.sled_log.proofs.Moments.{begun}
 use Rattle.sled_bytes.specs.declared.change.Change.{Change}
-use Rattle.sled_files.specs.Change.{Durable, changed_all}
-use Rattle.sled_files.specs.Standing.{StandsFor, StandsAt, IsBlank, IsOlder, IsBegun, AreFor}
+use Rattle.sled_files.specs.Change.{Durable, changed_all, AreAdded}
+use Rattle.sled_files.specs.Standing.{HasChanges, StandsFor, StandsAt, IsBlank, IsOlder, IsBegun, AreFor}
 use Rattle.sled_files.specs.Pending.{Spells}
 use Rattle.sled_files.proofs.Adding.{block_for, before_or_after}
 use Rattle.sled_files.specs.Files.{Files, picked, one_of, other_of, IsReady, KeepsTime, LeavesPairs, AreForEither}
@@ -26,7 +26,7 @@ begun_beside {one} {other} {gate} {generation} {d} {e} at behind next below a b 
 begun_beside {one} {other} {gate} {generation} {d} {e} at behind next below a b is (inr (inl blank)) = inl (record { generation = generation; which = inl (record { stands = subst (λ (c : List ℕ). StandsFor c generation d) (sym is) at.stands; behind = inl blank }) })
 begun_beside {one} {other} {gate} {generation} {d} {e} at behind next below a b is (inr (inr stands)) = inr (record {
   generation = next;
-  which = inr (record { stands = stands; behind = inr (record { earlier = generation; below = below; durable = d; stands = subst (λ (c : List ℕ). StandsFor c generation d) (sym is) at.stands }) });
+  which = inr (record { stands = stands; behind = inr (record { earlier = generation; below = below; changes = at.stands.changes; has = subst (λ (c : List ℕ). HasChanges c generation at.stands.changes) (sym is) at.stands.has }) });
 })
 
 -- one of two, where both have what is said
@@ -85,14 +85,14 @@ module _ {D : Type 0} (seen : D → List ℕ) (moment : D → ℕ) (left_since :
       (either_swapped d e)
 
   -- while a block is added to the file that counts
-  pub while_added : (old new : Files D) (d : Durable) → IsTimed old.first → IsTimed old.second → IsTimed new.first → IsTimed new.second → (ready : IsReady seen may_leave old d) {payload : List ℕ} {changes : List Change} (spells : Spells payload changes) (few : length payload < 2 ^ 64) (block : List ℕ) (block_is : block ≡ behind_gate digest payload)
-      → LeavesOnly moment left_since (one_of old) (picked old.is_second new.first new.second) (IsBeforeOrAfter (block_for ready.stands spells few block block_is))
+  pub while_added : (old new : Files D) (d : Durable) → IsTimed old.first → IsTimed old.second → IsTimed new.first → IsTimed new.second → (ready : IsReady seen may_leave old d) {payload : List ℕ} {changes : List Change} (spells : Spells payload changes) (added : AreAdded changes d) (few : length payload < 2 ^ 64) (block : List ℕ) (block_is : block ≡ behind_gate digest payload)
+      → LeavesOnly moment left_since (one_of old) (picked old.is_second new.first new.second) (IsBeforeOrAfter (block_for ready.stands spells added few block block_is))
       → picked old.is_second new.second new.first ≡ other_of old → LeavesPairs moment left_since may_leave old new (AreForEither d (changed_all changes d))
-  while_added old new d old_first old_second new_first new_second ready {payload} {changes} spells few block block_is run same =
-      by_file moment left_since may_leave old.is_second old new (IsBeforeOrAfter (block_for ready.stands spells few block block_is)) (λ b. b ≡ seen (other_of old)) (AreForEither d (changed_all changes d)) new_first new_second
+  while_added old new d old_first old_second new_first new_second ready {payload} {changes} spells added few block block_is run same =
+      by_file moment left_since may_leave old.is_second old new (IsBeforeOrAfter (block_for ready.stands spells added few block block_is)) (λ b. b ≡ seen (other_of old)) (AreForEither d (changed_all changes d)) new_first new_second
       run
       (unmoved (other_of old) (picked old.is_second new.second new.first) (picked_has IsTimed old.is_second old.second old.first old_second old_first) (other_only old d ready) same)
-      (λ a b either is. before_or_after ready.stands spells few block block_is a b (subst (λ (c : List ℕ). IsBlank c ⊎ IsOlder old.generation c) (sym is) ready.behind) either)
+      (λ a b either is. before_or_after ready.stands spells added few block block_is a b (subst (λ (c : List ℕ). IsBlank c ⊎ IsOlder old.generation c) (sym is) ready.behind) either)
       (either_swapped d (changed_all changes d))
 
   -- while the other file is begun anew
@@ -132,4 +132,4 @@ module _ {D : Type 0} (seen : D → List ℕ) (moment : D → ℕ) (left_since :
       (subst IsSteady (sym (turned old.is_second first second)) steady)
       (subst IsSteady (sym (turned old.is_second second first)) (subst IsSteady (sym same) (one_only old d ready)))
       (subst (λ (x : D). StandsAt (seen x) gate next e) (sym (turned old.is_second first second)) at)
-      (inr (record { earlier = old.generation; below = below; durable = d; stands = subst (λ (x : D). StandsFor (seen x) old.generation d) (sym (turned old.is_second second first)) (subst (λ (x : D). StandsFor (seen x) old.generation d) (sym same) ready.stands.stands) }))
+      (inr (record { earlier = old.generation; below = below; changes = ready.stands.stands.changes; has = subst (λ (x : D). HasChanges (seen x) old.generation ready.stands.stands.changes) (sym (turned old.is_second second first)) (subst (λ (x : D). HasChanges (seen x) old.generation ready.stands.stands.changes) (sym same) ready.stands.stands.has) }))

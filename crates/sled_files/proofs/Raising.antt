@@ -1,7 +1,8 @@
 -- What a flush that raises the limits in its block makes of the files of a store, against the store.
-use Rattle.std.proofs.Common.{take, length, ◌≡◌, inl, arith, ℕ, true, false, List, [], ◌∷◌, ◌++◌, refl, sym, ◌∙◌, ap, subst}
+use Rattle.std.proofs.Common.{take, length, ◌≤◌, ◌<◌, ◌^◌, ◌≡◌, inl, arith, ℕ, true, false, List, [], ◌∷◌, ◌++◌, refl, sym, ◌∙◌, ap, subst}
 use Rattle.std.specs.Prelude.{Result, Ok, Err, OnOk}
 use Rattle.std.proofs.lemmas.List.{append-nil}
+use Rattle.std.proofs.lemmas.List.Elements.{All-nil, All-cons, All-append}
 use Rattle.std.proofs.Math.Seq.{take-append_seam}
 use Rattle.sled_store.specs.In.{In}
 use Rattle.sled_store.specs.State.{State}
@@ -12,14 +13,15 @@ use Rattle.sled_pages.specs.Memory.{store_of}
 use Rattle.sled_bytes.specs.declared.change.Change.{Change}
 use Rattle.sled_bytes.specs.declared.change.Change.TheVariants.{Limited}
 use Rattle.sled_bytes.specs.Spelling.{change_bytes, FitsChange}
-use Rattle.sled_files.specs.Change.{Durable, changed_all}
+use Rattle.sled_files.specs.Change.{Durable, changed_all, IsWithin, AreOfStore, AreAdded}
 use Rattle.sled_files.specs.Files.{Files, IsReady, KeepsTime, LeavesPairs, AreForEither}
-use Rattle.sled_files.specs.Lasting.{Limits, HasLimits, IsRight, IsLasting, AreNoLower}
+use Rattle.sled_files.specs.Lasting.{Limits, AreLimits, IsRight, IsLasting, AreNoLower}
 use Rattle.sled_files.specs.Pending.{IsPending, Spells}
 use Rattle.sled_files.specs.Stored.{Stored, stored_as, over, asked_of, AreWithin, IsSound}
 use Rattle.sled_files.specs.theory.Given.{sealed_over}
 use Rattle.sled_files.specs.theory.Ahead.{IsAhead}
 use Rattle.sled_files.proofs.Adding.{changed_both}
+use Rattle.sled_files.proofs.OfStore.{all_higher}
 use Rattle.sled_files.proofs.Crashing.{last_left}
 use Rattle.sled_files.proofs.Flushing.{now_is, right_before}
 use Rattle.sled_files.proofs.Grows.{spells_none, spells_more}
@@ -36,7 +38,9 @@ ahead_none limits raised {before} pids versions is = record {
   spells = λ changes s. subst (λ (l : List ℕ). Spells l (changes ++ [])) (sym is) (subst (λ (l : List Change). Spells before l) (sym (append-nil changes)) s);
   state = λ d. refl;
   mark = λ d. refl;
-  limited = λ d h. record { pids = omega (arith, h.pids, pids); versions = omega (arith, h.versions, versions) };
+  limited = λ d h. record { pids = h.pids ∙ sym pids; versions = h.versions ∙ sym versions };
+  within = λ d. All-nil (IsWithin d);
+  fits = λ d lt. lt;
 }
 
 pub ahead_more : (limits : Limits) (pids versions : ℕ) {before after : List ℕ} → FitsChange (Limited pids versions) → after ≡ before ++ change_bytes (Limited pids versions) → IsAhead limits (record { pids = pids; versions = versions }) before after
@@ -47,7 +51,9 @@ ahead_more limits pids versions fits is = record {
   spells = λ changes s. subst (λ (l : List ℕ). Spells l (changes ++ Limited pids versions ∷ [])) (sym is) (spells_more s (Limited pids versions) fits);
   state = λ d. refl;
   mark = λ d. refl;
-  limited = λ d h. record { pids = omega arith; versions = omega arith };
+  limited = λ d h. record { pids = refl; versions = refl };
+  within = λ d. All-cons (IsWithin d) (Limited pids versions) [] tt (All-nil (IsWithin d));
+  fits = λ d lt. fits.1;
 }
 
 -- where that is done
@@ -75,13 +81,32 @@ module _ {limits raised : Limits} {s : Store} {d : Durable} {bytes after : List 
   mark_then : (changed_all ahead_changes d).mark ≡ s.mark
   mark_then = ap (λ (x : Durable). x.mark) both ∙ a.mark (changed_all p.changes d) ∙ ap (λ x. x.0) (p.aside d) ∙ p.mark
 
-  limited_then : HasLimits raised (changed_all ahead_changes d)
-  limited_then = subst (HasLimits raised) (sym both) (a.limited (changed_all p.changes d) (record { pids = omega (arith, p.limited.pids, ap (λ x. x.1) (p.aside d)); versions = omega (arith, p.limited.versions, ap (λ x. x.2) (p.aside d)) }))
+  limits_pending : AreLimits limits (changed_all p.changes d)
+  limits_pending = record { pids = ap (λ x. x.1) (p.aside d) ∙ p.limited.pids; versions = ap (λ x. x.2) (p.aside d) ∙ p.limited.versions }
+
+  limited_then : AreLimits raised (changed_all ahead_changes d)
+  limited_then = subst (AreLimits raised) (sym both) (a.limited (changed_all p.changes d) limits_pending)
+
+  pub added_ahead : {olds : List Change} → AreOfStore olds d → AreNoLower limits raised → (now s).in_group ≡ false → AreAdded ahead_changes d
+  added_ahead {olds} old lower out =
+      let e = changed_all ahead_changes d in
+      let pids : d.pids ≤ e.pids = omega (arith, p.limited.pids, limited_then.pids, lower.pids) in
+      let versions : d.versions ≤ e.versions = omega (arith, p.limited.versions, limited_then.versions, lower.versions) in
+      record {
+        of_store = record {
+          within = All-append (IsWithin e) p.changes a.more (all_higher d e pids versions p.changes p.within) (a.within e);
+          fits = subst (λ (x : Durable). x.versions < 2 ^ 64) (sym both) (a.fits (changed_all p.changes d) (omega (arith, old.fits, p.limited.versions, limits_pending.versions)));
+          sealed = ap (λ (x : State). x.in_group) state_then ∙ out;
+        };
+        pids = pids;
+        versions = versions;
+      }
 
   pub right_ahead : {asked : List ℕ} → AreNoLower limits raised → (now s).in_group ≡ false → IsRight asked limits s (changed_all ahead_changes d)
   right_ahead lower out = record {
     state = record { is = subst (λ (x : State). In x (crash_states s)) (sym state_then) (last_left s.base s.recent out) };
     mark = inl mark_then;
+    no_lower = omega (arith, mark_then);
     limited = record { pids = omega (arith, lower.pids, limited_then.pids); versions = omega (arith, lower.versions, limited_then.versions) };
   }
 
@@ -92,32 +117,33 @@ module _ {limits raised : Limits} {s : Store} {d : Durable} {bytes after : List 
     limited = limited_then;
     changes = [];
     spells = spells_none;
+    within = All-nil (IsWithin (changed_all ahead_changes d));
     acts = refl;
     aside = λ whole. refl;
   }
 
 module _ {D : Type 0} {seen : D → List ℕ} {may_leave : D → List ℕ → Type 0} (f : Stored D) (files : Files D) (payload : List ℕ) (sound : IsSound seen may_leave f) (out : (now (store_of f.pages)).in_group ≡ false)
     (raised : Limits) (lower : AreNoLower f.limits raised) (a : IsAhead f.limits raised f.pending payload) where
-  pub sound_ahead : (pages : MemPages) → f.files.failed ≡ false → ((d : Durable) (list : List Change) → IsReady seen may_leave f.files d → Spells payload list → IsReady seen may_leave files (changed_all list d))
+  pub sound_ahead : (pages : MemPages) → f.files.failed ≡ false → ((d : Durable) (list : List Change) → IsReady seen may_leave f.files d → Spells payload list → AreAdded list d → IsReady seen may_leave files (changed_all list d))
       → store_of pages ≡ after_flush (store_of f.pages) → IsSound seen may_leave (record f { pages = pages; files = files; pending = []; limits = raised })
   sound_ahead pages up ready is =
       let st = sound.stands up in
       let made = changed_all (ahead_changes st.pends a) st.durable in
-      let ready_now = ready st.durable (ahead_changes st.pends a) st.ready (ahead_spells st.pends a) in
+      let ready_now = ready st.durable (ahead_changes st.pends a) st.ready (ahead_spells st.pends a) (added_ahead st.pends a st.ready.stands.stands.made lower out) in
       let later : after_flush (stored_as f) ≡ over f.mark f.faults (store_of pages) = ap (over f.mark f.faults) (sym is) in
       let pends = subst (λ (s : Store). IsPending raised s made []) later (ends_ahead st.pends a) in
       record {
         stands = λ _. record { durable = made; ready = ready_now; pends = pends };
         lasts = lasts_ready ready_now (right_before pends (ap (λ (s : Store). s.base.in_group) is ∙ out));
-        within = subst (AreWithin raised) later (record { pids = λ p positive given. omega (arith, lower.pids, sound.within.pids p positive given); versions = λ v given. omega (arith, lower.versions, sound.within.versions v given) });
+        within = subst (AreWithin raised) later (record { numbered = sound.within.numbered; pids = λ p positive given. omega (arith, lower.pids, sound.within.pids p positive given); versions = λ v given. omega (arith, lower.versions, sound.within.versions v given) });
       }
 
 module _ {D : Type 0} {moment : D → ℕ} {left_since : D → ℕ → List ℕ → Type 0} {seen : D → List ℕ} {may_leave : D → List ℕ → Type 0} (f : Stored D) (files : Files D) (payload : List ℕ) (sound : IsSound seen may_leave f) (out : (now (store_of f.pages)).in_group ≡ false)
     (raised : Limits) (lower : AreNoLower f.limits raised) (a : IsAhead f.limits raised f.pending payload) where
   pub moments_ahead : KeepsTime moment left_since may_leave f.files.first → KeepsTime moment left_since may_leave f.files.second → (f.files.failed ≡ true → files ≡ f.files)
-      → ((d : Durable) (list : List Change) → IsReady seen may_leave f.files d → Spells payload list → LeavesPairs moment left_since may_leave f.files files (AreForEither d (changed_all list d)))
+      → ((d : Durable) (list : List Change) → IsReady seen may_leave f.files d → Spells payload list → AreAdded list d → LeavesPairs moment left_since may_leave f.files files (AreForEither d (changed_all list d)))
       → LeavesPairs moment left_since may_leave f.files files (IsLasting (asked_of f.asked) f.limits (stored_as f))
   moments_ahead first second stays any = elim f.files.failed as (λ b. f.files.failed ≡ b → LeavesPairs moment left_since may_leave f.files files (IsLasting (asked_of f.asked) f.limits (stored_as f))) [
     | true ↦ λ e. moments_none first second (stays e) sound.lasts
-    | false ↦ λ e. let st = sound.stands e in moments_either (right_before st.pends (sealed_over f)) (right_ahead st.pends a lower out) (any st.durable (ahead_changes st.pends a) st.ready (ahead_spells st.pends a))
+    | false ↦ λ e. let st = sound.stands e in moments_either (right_before st.pends (sealed_over f)) (right_ahead st.pends a lower out) (any st.durable (ahead_changes st.pends a) st.ready (ahead_spells st.pends a) (added_ahead st.pends a st.ready.stands.stands.made lower out))
   ] refl

@@ -33,7 +33,7 @@ module _ {D : Type 0} (seen : D → List ℕ) (may_leave : D → List ℕ → Ty
       → (f : Files D) → f ≡ record { first = first; second = second; is_second = is_second; gate = gate; generation = generation; failed = false } → OpensStore seen may_leave (seen first) (seen second) f store
   opens_store {is_second} {gate} {generation} o f is = record {
     durable = o.durable;
-    of_store = o.of_store;
+    stand = o.stand;
     alone = o.alone;
     ready = subst (λ (x : Files D). IsReady seen may_leave x o.durable) (sym is) (ready_of is_second gate generation o);
     first_stays = ap (λ (x : Files D). seen x.first) is;

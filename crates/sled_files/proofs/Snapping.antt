@@ -4,6 +4,7 @@ use Rattle.std.proofs.Math.Path.{fun_ext}
 use Rattle.std.proofs.lemmas.Bool.Decides.{nat_tests}
 use Rattle.std.proofs.lemmas.Bool.{eqb-true}
 use Rattle.std.proofs.lemmas.List.{append-nil}
+use Rattle.std.proofs.lemmas.List.Elements.{All-nil, All-push}
 use Rattle.std.proofs.lemmas.Map.Text.{is_eq-slice_cmp}
 use Rattle.std.specs.Str.{bytes_eq}
 use Rattle.std.specs.Ordering.{eq_by_cmp}
@@ -21,26 +22,30 @@ use Rattle.sled_bytes.specs.declared.change.Change.TheVariants.{Given, Rooted, M
 use Rattle.sled_bytes.specs.Spelling.{change_bytes, FitsChange}
 use Rattle.sled_files.specs.Change.{Durable, nothing_yet, changed}
 use Rattle.sled_files.specs.theory.Snapshot.{Makes, with_page, only, pages_below, pages_rooted, durable_now}
+use Rattle.sled_files.specs.theory.Spelled.{WereGiven}
 use Rattle.sled_files.proofs.Adding.{changed_both}
 use Rattle.sled_files.proofs.Grows.{spells_none, spells_more}
 
 -- with the bytes of a change more
-pub makes_more : {before after : List ℕ} {d : Durable} (c : Change) → Makes before d → FitsChange c → after ≡ before ++ change_bytes c → Makes after (changed c d)
-makes_more {before} {after} {d} c m fits is = subst (λ (l : List ℕ). Makes l (changed c d)) (sym is) (record {
+pub makes_more : {store : Store} {before after : List ℕ} {d : Durable} (c : Change) → Makes store before d → FitsChange c → WereGiven store c → after ≡ before ++ change_bytes c → Makes store after (changed c d)
+makes_more {store} {before} {after} {d} c m fits given is = subst (λ (l : List ℕ). Makes store l (changed c d)) (sym is) (record {
   changes = m.changes ++ c ∷ [];
   spells = spells_more m.spells c fits;
   makes = changed_both m.changes (c ∷ []) nothing_yet ∙ ap (changed c) m.makes;
+  given = All-push (WereGiven store) m.changes c m.given given;
 })
 
-pub makes_same : {bytes : List ℕ} {d e : Durable} → d ≡ e → Makes bytes d → Makes bytes e
-makes_same {bytes} is m = subst (Makes bytes) is m
+pub makes_same : {store : Store} {bytes : List ℕ} {d e : Durable} → d ≡ e → Makes store bytes d → Makes store bytes e
+makes_same {store} {bytes} is m = subst (Makes store bytes) is m
 
-pub makes_as : {bytes other : List ℕ} {d : Durable} → other ≡ bytes → Makes bytes d → Makes other d
-makes_as {bytes} {other} {d} is m = subst (λ (l : List ℕ). Makes l d) (sym is) m
+pub makes_as : {store : Store} {bytes other : List ℕ} {d : Durable} → other ≡ bytes → Makes store bytes d → Makes store other d
+makes_as {store} {bytes} {other} {d} is m = subst (λ (l : List ℕ). Makes store l d) (sym is) m
 
 -- a page that is there
-makes_page : {before after : List ℕ} {d : Durable} (pid : ℕ) {page : Option Page} (g : Page) → page ≡ Some g → Makes before d → FitsChange (Given pid g.version g.node) → after ≡ before ++ change_bytes (Given pid g.version g.node) → Makes after (with_page pid page d)
-makes_page {before} {after} {d} pid {page} g there m fits is = subst (λ (o : Option Page). Makes after (with_page pid o d)) (sym there) (makes_more (Given pid g.version g.node) m fits is)
+makes_page : {store : Store} {before after : List ℕ} {d : Durable} (pid : ℕ) (g : Page) → AreGiven store → (now store).pages pid ≡ Some g → Makes store before d → FitsChange (Given pid g.version g.node) → after ≡ before ++ change_bytes (Given pid g.version g.node)
+    → Makes store after (with_page pid ((now store).pages pid) d)
+makes_page {store} {before} {after} {d} pid g given there m fits is =
+    subst (λ (o : Option Page). Makes store after (with_page pid o d)) (sym there) (makes_more (Given pid g.version g.node) m fits (given.pid pid g there, given.version pid g there) is)
 
 -- a page as it was read
 module _ (pid : ℕ) where
@@ -61,12 +66,13 @@ module _ {A E : Type 0} {P Q R : Type 0} where
   on_both (Err e) p q f = tt
 
 -- what spells a page that was read
-pub spells_page : {E : Type 0} (before after : List ℕ) (pid : ℕ) (page : Option Page) (v : View) (node : Node) (spelled : Result (Unit {0}) E) → Some v ≡ view_of pid page → node ≡ v.node → OnOk spelled (after ≡ before ++ change_bytes (Given pid v.version node)) → OnOk spelled (FitsChange (Given pid v.version node))
-    → OnOk spelled ((d : Durable) → Makes before d → Makes after (with_page pid page d))
-spells_page before after pid page v node spelled is same bytes fits = on_both spelled bytes fits (λ b f d m. makes_page pid (record { version = v.version; node = node }) (seen pid page v is ∙ ap (λ (n : Node). Some (record { version = v.version; node = n })) (sym same)) m f b)
+pub spells_page : {E : Type 0} (store : Store) (before after : List ℕ) (pid : ℕ) (v : View) (node : Node) (spelled : Result (Unit {0}) E) → AreGiven store → Some v ≡ view_of pid ((now store).pages pid) → node ≡ v.node → OnOk spelled (after ≡ before ++ change_bytes (Given pid v.version node)) → OnOk spelled (FitsChange (Given pid v.version node))
+    → OnOk spelled ((d : Durable) → Makes store before d → Makes store after (with_page pid ((now store).pages pid) d))
+spells_page store before after pid v node spelled given is same bytes fits =
+    on_both spelled bytes fits (λ b f d m. makes_page pid (record { version = v.version; node = node }) given (seen pid ((now store).pages pid) v is ∙ ap (λ (n : Node). Some (record { version = v.version; node = n })) (sym same)) m f b)
 
-pub spells_no_page : {bytes : List ℕ} (pid : ℕ) (page : Option Page) → None ≡ view_of pid page → (d : Durable) → Makes bytes d → Makes bytes (with_page pid page d)
-spells_no_page {bytes} pid page is d m = subst (λ (o : Option Page). Makes bytes (with_page pid o d)) (sym (missing pid page is)) m
+pub spells_no_page : {store : Store} {bytes : List ℕ} (pid : ℕ) (page : Option Page) → None ≡ view_of pid page → (d : Durable) → Makes store bytes d → Makes store bytes (with_page pid page d)
+spells_no_page {store} {bytes} pid page is d m = subst (λ (o : Option Page). Makes store bytes (with_page pid o d)) (sym (missing pid page is)) m
 
 -- pages below a number, and the one of it
 module _ (f : ℕ → Option Page) where
@@ -126,8 +132,8 @@ none_below s = ap (λ (f : ℕ → Option Page). only f (λ _. None)) (fun_ext (
     go p true e = absurd (grind (arith, nat_tests))
     go p false e = refl
 
-pub makes_nothing : {bytes : List ℕ} (s : State) → bytes ≡ [] → Makes bytes (pages_below s 0)
-makes_nothing s is = makes_same (sym (none_below s)) (makes_as is (record { changes = []; spells = spells_none; makes = refl }))
+pub makes_nothing : {store : Store} {bytes : List ℕ} (s : State) → bytes ≡ [] → Makes store bytes (pages_below s 0)
+makes_nothing {store} s is = makes_same (sym (none_below s)) (makes_as is (record { changes = []; spells = spells_none; makes = refl; given = All-nil (WereGiven store) }))
 
 -- two names tie where they are one
 module _ (q name : Key) where
@@ -143,31 +149,31 @@ pub roots_all : (s : State) (roots : List (Key × ℕ)) → IsRoots s roots → 
 roots_all s roots r = ap (only s.pages) (fun_ext (λ name. sym (r.is name)))
 
 -- while roots are added: those that were, and those that are left
-pub record Roots (s : State) (before : List ℕ) (left : List (Key × ℕ)) (bytes : List ℕ) : Type 0 where
+pub record Roots (store : Store) (before : List ℕ) (left : List (Key × ℕ)) (bytes : List ℕ) : Type 0 where
   pub all : List (Key × ℕ)
-  pub is : IsRoots s all
+  pub is : IsRoots (now store) all
   pub done : List (Key × ℕ)
   pub are : left ++ done ≡ all
-  pub made : Makes before (only s.pages (λ _. None)) → Makes bytes (pages_rooted s done)
+  pub made : Makes store before (only (now store).pages (λ _. None)) → Makes store bytes (pages_rooted (now store) done)
 
-pub roots_none : {s : State} {all : List (Key × ℕ)} (bytes : List ℕ) → IsRoots s all → Roots s bytes all bytes
-roots_none {s} {all} bytes is = record { all = all; is = is; done = []; are = append-nil all; made = λ m. m }
+pub roots_none : {store : Store} {all : List (Key × ℕ)} (bytes : List ℕ) → IsRoots (now store) all → Roots store bytes all bytes
+roots_none {store} {all} bytes is = record { all = all; is = is; done = []; are = append-nil all; made = λ m. m }
 
-pub roots_push : {s : State} {before bytes after : List ℕ} {left rest : List (Key × ℕ)} (key name : Key) (pid : ℕ) → key ≡ name → Roots s before left bytes → left ≡ rest ++ (key, pid) ∷ [] → FitsChange (Rooted name (Some pid)) → after ≡ bytes ++ change_bytes (Rooted name (Some pid))
-    → Roots s before rest after
-roots_push {s} {before} {bytes} {after} {left} {rest} key name pid same r is fits more = record {
+pub roots_push : {store : Store} {before bytes after : List ℕ} {left rest : List (Key × ℕ)} (key name : Key) (pid : ℕ) → key ≡ name → Roots store before left bytes → left ≡ rest ++ (key, pid) ∷ [] → FitsChange (Rooted name (Some pid)) → after ≡ bytes ++ change_bytes (Rooted name (Some pid))
+    → Roots store before rest after
+roots_push {store} {before} {bytes} {after} {left} {rest} key name pid same r is fits more = record {
   all = r.all;
   is = r.is;
   done = (name, pid) ∷ r.done;
   are = sym (append_assoc rest ((name, pid) ∷ []) r.done) ∙ ap (λ (l : List (Key × ℕ)). l ++ r.done) (ap (λ (k : Key). rest ++ (k, pid) ∷ []) (sym same) ∙ sym is) ∙ r.are;
-  made = λ m. makes_same (root_more s r.done name pid) (makes_more (Rooted name (Some pid)) (r.made m) fits more);
+  made = λ m. makes_same (root_more (now store) r.done name pid) (makes_more (Rooted name (Some pid)) (r.made m) fits tt more);
 }
 
-pub roots_done : {s : State} {before bytes : List ℕ} {left : List (Key × ℕ)} → Roots s before left bytes → left ≡ [] → Makes before (only s.pages (λ _. None)) → Makes bytes (only s.pages s.roots)
-roots_done {s} {before} {bytes} {left} r none m =
-    makes_same (ap (pages_rooted s) (ap (λ (l : List (Key × ℕ)). l ++ r.done) (sym none) ∙ r.are) ∙ roots_all s r.all r.is) (r.made m)
+pub roots_done : {store : Store} {before bytes : List ℕ} {left : List (Key × ℕ)} → Roots store before left bytes → left ≡ [] → Makes store before (only (now store).pages (λ _. None)) → Makes store bytes (only (now store).pages (now store).roots)
+roots_done {store} {before} {bytes} {left} r none m =
+    makes_same (ap (pages_rooted (now store)) (ap (λ (l : List (Key × ℕ)). l ++ r.done) (sym none) ∙ r.are) ∙ roots_all (now store) r.all r.is) (r.made m)
 
 -- the mark and the limits are set at last
-pub makes_durable : {one two three : List ℕ} (s : Store) (mark pids versions : ℕ) → Makes one (only (now s).pages (now s).roots) → FitsChange (Marked mark) → two ≡ one ++ change_bytes (Marked mark)
-    → FitsChange (Limited pids versions) → three ≡ two ++ change_bytes (Limited pids versions) → Makes three (durable_now s mark pids versions)
-makes_durable s mark pids versions m fits is also more = makes_more (Limited pids versions) (makes_more (Marked mark) m fits is) also more
+pub makes_durable : {one two three : List ℕ} (s : Store) (mark pids versions : ℕ) → Makes s one (only (now s).pages (now s).roots) → FitsChange (Marked mark) → two ≡ one ++ change_bytes (Marked mark)
+    → FitsChange (Limited pids versions) → three ≡ two ++ change_bytes (Limited pids versions) → Makes s three (durable_now s mark pids versions)
+makes_durable s mark pids versions m fits is also more = makes_more (Limited pids versions) (makes_more (Marked mark) m fits tt is) also tt more

@@ -1,5 +1,6 @@
 -- What changes make of a store's state, and which actions of a store they are.
-use Rattle.std.specs.Prelude.{ℕ, false, List, [], ◌∷◌, Option, Some, None, option_map}
+use Rattle.std.specs.Prelude.{◌≡◌, ◌≤◌, ◌<◌, ◌^◌, ℕ, false, List, [], ◌∷◌, Option, Some, None, option_map}
+use Rattle.std.specs.List.{All}
 use Rattle.sled_nodes.specs.Node.{after_link}
 use Rattle.sled_nodes.specs.declared.link.Link.{Link}
 use Rattle.sled_store.specs.declared.page.Page.{Page}
@@ -65,3 +66,21 @@ with_action None actions = actions
 abbrev pub actions_of : List Change → State → List Action
 actions_of [] s = []
 actions_of (c ∷ changes) s = with_action (action_of c s) (actions_of changes (acted (action_of c s) s))
+
+-- numbers of pages and versions are below the limits, and no page has number 0
+abbrev pub IsWithin : Durable → Change → Type 0
+IsWithin d (Given pid version node) = (0 < pid) × (pid < d.pids) × (version < d.versions)
+IsWithin d (Linked pid version link) = (0 < pid) × (version < d.versions)
+IsWithin d _ = Unit {0}
+
+-- Changes of a store and what they make: their numbers are below the limits, which have 64 bits, and no group is left open
+pub record AreOfStore (changes : List Change) (d : Durable) : Type 0 where
+  pub within : All (IsWithin d) changes
+  pub fits : d.versions < 2 ^ 64
+  pub sealed : d.state.in_group ≡ false
+
+-- changes that a store adds to what its files have: they make the limits no lower
+pub record AreAdded (changes : List Change) (before : Durable) : Type 0 where
+  pub of_store : AreOfStore changes (changed_all changes before)
+  pub pids : before.pids ≤ (changed_all changes before).pids
+  pub versions : before.versions ≤ (changed_all changes before).versions

@@ -21,11 +21,17 @@ pub record HasLimits (limits : Limits) (d : Durable) : Type 0 where
   pub pids : limits.pids ≤ d.pids
   pub versions : limits.versions ≤ d.versions
 
--- what two files stand for is right for a store: a state that a crash may leave of it, the mark that was set aside or one that
--- was asked for, and the limits
+-- the limits in the files are these
+pub record AreLimits (limits : Limits) (d : Durable) : Type 0 where
+  pub pids : d.pids ≡ limits.pids
+  pub versions : d.versions ≡ limits.versions
+
+-- what two files stand for is right for a store: a state that a crash may leave of it, the mark that was set aside or a higher one
+-- that was asked for, and the limits
 pub record IsRight (asked : List ℕ) (limits : Limits) (s : Store) (d : Durable) : Type 0 where
   pub state : IsCrashState s d.state
   pub mark : (d.mark ≡ s.mark) ⊎ In d.mark asked
+  pub no_lower : s.mark ≤ d.mark
   pub limited : HasLimits limits d
 
 -- what a crash may leave of two files is right for a store

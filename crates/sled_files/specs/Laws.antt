@@ -1,14 +1,15 @@
 -- What holds of the files of all stores.
-use Rattle.std.specs.Prelude.{◌≡◌, ◌⊎◌, ◌<◌, ℕ, true, false, List, []}
+use Rattle.std.specs.Prelude.{◌≡◌, ◌⊎◌, ◌<◌, ◌≤◌, ℕ, true, false, List, []}
 use Rattle.sled_store.specs.Store.{Store, now, after_flush}
 use Rattle.sled_store.specs.In.{In}
 use Rattle.sled_store.specs.Crash.{IsCrashState}
+use Rattle.sled_files.specs.declared.found.OpenError.{OpenError}
 use Rattle.sled_files.specs.Change.{Durable, changed_all}
 use Rattle.sled_files.specs.Standing.{IsBegun, AreFor, AreBlank}
 use Rattle.sled_files.specs.Lasting.{Limits, IsLasting}
 use Rattle.sled_files.specs.Pending.{IsPending}
 use Rattle.sled_files.specs.Files.{AreForEither}
-use Rattle.sled_files.specs.Opening.{IsReopened}
+use Rattle.sled_files.specs.Opening.{IsReopened, is_why_closed, is_refusal}
 
 -- While no group is open, files without what is pending of a store and with it are right for the store
 abbrev pub FlushLasts : Type 0
@@ -22,12 +23,13 @@ FlushEnds = (limits : Limits) (s : Store) (d : Durable) (bytes : List ℕ) (p : 
 abbrev pub NewStoreLasts : Type 0
 NewStoreLasts = (generation : ℕ) (d : Durable) (first second left : List ℕ) → AreBlank first second → IsBegun first generation d left → AreBlank left second ⊎ AreFor left second d
 
--- What a store that is opened has of the one before: a state that a crash may leave of it, the mark that was set aside or one that was
--- asked for, and all numbers below the limits count as given
+-- What a store that is opened has of the one before: a state that a crash may leave of it, the mark that was set aside or a higher one
+-- that was asked for, and all numbers below the limits count as given
 pub record GoesOn (asked : List ℕ) (limits : Limits) (before opened : Store) : Type 0 where
   pub base : IsCrashState before opened.base
   pub recent : opened.recent ≡ []
   pub mark : (opened.mark ≡ before.mark) ⊎ In opened.mark asked
+  pub no_lower : before.mark ≤ opened.mark
   pub recovered : opened.recovered ≡ true
   pub pids : (p : ℕ) → 0 < p → p < limits.pids → opened.pids p ≡ true
   pub versions : (v : ℕ) → v < limits.versions → opened.versions v ≡ true
@@ -35,3 +37,7 @@ pub record GoesOn (asked : List ℕ) (limits : Limits) (before opened : Store) :
 -- a store that is opened of files that are right for one goes on from it
 abbrev pub OpenedGoesOn : Type 0
 OpenedGoesOn = (asked : List ℕ) (limits : Limits) (before opened : Store) (first second : List ℕ) → IsLasting asked limits before first second → ((d : Durable) → AreFor first second d → IsReopened d opened) → GoesOn asked limits before opened
+
+-- files that are right for a store are opened, unless a disk refuses a call or there is no memory
+abbrev pub OpensAgain : Type 0
+OpensAgain = (asked : List ℕ) (limits : Limits) (s : Store) (first second : List ℕ) → IsLasting asked limits s first second → (e : OpenError) → is_why_closed e first second → is_refusal e

@@ -1,46 +1,25 @@
 -- What the two files of a store are found to be, and the store that is opened of them.
-use Rattle.std.specs.Prelude.{◌≡◌, ◌⊎◌, ◌<◌, ◌^◌, ℕ, true, false, ◌&&◌, nat_lt, List, [], ◌∷◌, take, drop, Ok}
-use Rattle.std.proofs.Common.{inl, inr}
+use Rattle.std.specs.Prelude.{◌≡◌, ◌⊎◌, ℕ, true, ◌&&◌, nat_lt, List, [], ◌∷◌, take, drop, Ok}
 use Rattle.std.specs.Int.{w32, from_le_bytes}
-use Rattle.std.specs.List.{All}
 use Rattle.sled_store.specs.Store.{Store}
 use Rattle.sled_log.specs.Digest.{digest}
 use Rattle.sled_log.specs.Log.{log_of}
-use Rattle.sled_bytes.specs.declared.change.Change.{Change}
-use Rattle.sled_bytes.specs.declared.change.Change.TheVariants.{Given, Linked}
 use Rattle.sled_pages.specs.Memory.{empty_store}
 use Rattle.sled_files.specs.declared.found.OpenError.{OpenError}
 use Rattle.sled_files.specs.declared.found.OpenError.TheVariants.{NoMemory, NotAStore, OtherFormat, Decayed, Disk}
 use Rattle.sled_files.specs.Change.{Durable, nothing_yet}
 use Rattle.sled_files.specs.Header.{magic, format}
-use Rattle.sled_files.specs.Standing.{AreFor, AreBlank}
+use Rattle.sled_files.specs.Standing.{AreFor, AreBlank, IsBegun}
 use Rattle.sled_files.specs.Files.{Files, IsReady}
 
--- numbers of pages and versions are below the limits, and no page has number 0
-abbrev pub IsWithin : Durable → Change → Type 0
-IsWithin d (Given pid version node) = (0 < pid) × (pid < d.pids) × (version < d.versions)
-IsWithin d (Linked pid version link) = (0 < pid) × (version < d.versions)
-IsWithin d _ = Unit {0}
-
--- Changes of a store and what they make: their numbers are below the limits, which have 64 bits, and no group is left open
-pub record AreOfStore (changes : List Change) (d : Durable) : Type 0 where
-  pub within : All (IsWithin d) changes
-  pub fits : d.versions < 2 ^ 64
-  pub sealed : d.state.in_group ≡ false
-
--- the changes in the one of two files that counts
-abbrev pub changes_in : {first second : List ℕ} {d : Durable} → AreFor first second d → List Change
-changes_in a = elim a.which [ inl c ↦ c.stands.changes | inr c ↦ c.stands.changes ]
-
--- two files stand for this, and a store made it
-pub record AreForStore (first second : List ℕ) (d : Durable) : Type 0 where
-  pub stand : AreFor first second d
-  pub made : AreOfStore (changes_in stand) d
+-- two files are those of a store, or of one that is still to be made
+abbrev pub AreOpenable : List ℕ → List ℕ → Type 0
+AreOpenable first second = AreBlank first second ⊎ ((d : Durable) × AreFor first second d)
 
 -- two files are those of no store, nor of one that is still to be made
 pub record AreOfNone (first second : List ℕ) : Type 0 where
   pub no_blanks : AreBlank first second → ⊥
-  pub no_store : (d : Durable) → AreForStore first second d → ⊥
+  pub no_store : (d : Durable) → AreFor first second d → ⊥
 
 -- A store that was opened: the state, the mark, and the limits below which all numbers count as given, and no others
 pub record IsReopened (d : Durable) (s : Store) : Type 0 where
@@ -75,15 +54,27 @@ is_why_unopened (OtherFormat other) first second = AreOfNone first second × (Ha
 is_why_unopened (Decayed place) first second = AreOfNone first second
 is_why_unopened (Disk e) first second = ⊥
 
+-- a disk refused a call, for memory or for a fault
+abbrev pub is_refusal : OpenError → Type 0
+is_refusal NoMemory = Unit {0}
+is_refusal (Disk e) = Unit {0}
+is_refusal _ = ⊥
+
 -- why no store was opened: a disk refused a call, or as the two files are of none
 abbrev pub is_why_closed : OpenError → List ℕ → List ℕ → Type 0
 is_why_closed (Disk e) first second = Unit {0}
 is_why_closed e first second = is_why_unopened e first second
 
+-- What a crash leaves while two disks are opened: of each what it might have left of it before; of the first, where both files are
+-- blank, also what is left of a store's first file while it is begun
+pub record LeavesWhileOpened {D : Type 0} (seen : D → List ℕ) (moment : D → ℕ) (left_since : D → ℕ → List ℕ → Type 0) (may_leave : D → List ℕ → Type 0) (first second : D) (files : Files D) : Type 0 where
+  pub first_is : (c : List ℕ) → left_since files.first (moment first) c → may_leave first c ⊎ (AreBlank (seen first) (seen second) × IsBegun (seen first) 1 nothing_yet c)
+  pub second_is : (c : List ℕ) → left_since files.second (moment second) c → may_leave second c
+
 -- the store that two files stand for was opened, they stand for nothing else, and they stay as they were
 pub record Recovers {D : Type 0} (seen : D → List ℕ) (may_leave : D → List ℕ → Type 0) (first second : List ℕ) (files : Files D) (s : Store) : Type 0 where
   pub durable : Durable
-  pub of_store : AreForStore first second durable
+  pub stand : AreFor first second durable
   pub alone : (d : Durable) → AreFor first second d → d ≡ durable
   pub ready : IsReady seen may_leave files durable
   pub first_stays : seen files.first ≡ first

@@ -5,7 +5,7 @@ use Rattle.sled_log.specs.Log.{log_of, IsLog}
 use Rattle.sled_bytes.specs.declared.change.Change.{Change}
 use Rattle.sled_bytes.specs.declared.refusal.Flaw.{Flaw}
 use Rattle.sled_bytes.specs.Reading.{changes_of}
-use Rattle.sled_files.specs.Change.{Durable, nothing_yet, changed_all}
+use Rattle.sled_files.specs.Change.{Durable, nothing_yet, changed_all, AreOfStore}
 use Rattle.sled_files.specs.Header.{header}
 
 -- the changes of one payload before those of others, or the first flaw
@@ -19,20 +19,25 @@ all_changes [] = Ok []
 all_changes (payload ∷ payloads) = joined (changes_of payload) (all_changes payloads)
 
 -- The bytes of a file are a log whose first payload begins with the header of this generation, and what is behind the header and
--- the other payloads are changes that make this of nothing
-pub record StandsFor (bytes : List ℕ) (generation : ℕ) (d : Durable) : Type 0 where
+-- the other payloads are these changes
+pub record HasChanges (bytes : List ℕ) (generation : ℕ) (changes : List Change) : Type 0 where
   pub fits : generation < 2 ^ 64
   pub first : List ℕ
   pub others : List (List ℕ)
   pub log : log_of digest bytes ≡ Ok ((header generation ++ first) ∷ others)
-  pub changes : List Change
   pub decoded : all_changes (first ∷ others) ≡ Ok changes
+
+-- its changes are those of a store, and make this of nothing
+pub record StandsFor (bytes : List ℕ) (generation : ℕ) (d : Durable) : Type 0 where
+  pub changes : List Change
+  pub has : HasChanges bytes generation changes
   pub makes : changed_all changes nothing_yet ≡ d
+  pub made : AreOfStore changes d
 
 -- and the closed gate of the log is at this place
 pub record StandsAt (file : List ℕ) (gate generation : ℕ) (d : Durable) : Type 0 where
   pub stands : StandsFor file generation d
-  pub log : IsLog digest file ((header generation ++ stands.first) ∷ stands.others) gate
+  pub log : IsLog digest file ((header generation ++ stands.has.first) ∷ stands.has.others) gate
 
 -- a file in which nothing counts: at most one byte, or a closed gate at its front
 abbrev pub IsBlank : List ℕ → Type 0
@@ -42,8 +47,8 @@ IsBlank bytes = (length bytes ≤ 1) ⊎ (log_of digest bytes ≡ Ok [])
 pub record IsOlder (generation : ℕ) (bytes : List ℕ) : Type 0 where
   pub earlier : ℕ
   pub below : earlier < generation
-  pub durable : Durable
-  pub stands : StandsFor bytes earlier durable
+  pub changes : List Change
+  pub has : HasChanges bytes earlier changes
 
 -- What a crash may leave of a file that is begun anew: what it was, nothing that counts, or what it is to stand for
 abbrev pub IsBegun : List ℕ → ℕ → Durable → List ℕ → Type 0

@@ -30,8 +30,9 @@ abbrev pub asked_of : Option ℕ → List ℕ
 asked_of None = []
 asked_of (Some upto) = upto ∷ []
 
--- page numbers and versions that were given are below the limits
+-- page numbers and versions that were given are below the limits, and no page has number 0
 pub record AreWithin (limits : Limits) (s : Store) : Type 0 where
+  pub numbered : s.pids 0 ≡ false
   pub pids : (p : ℕ) → 0 < p → s.pids p ≡ true → p < limits.pids
   pub versions : (v : ℕ) → s.versions v ≡ true → v < limits.versions
 

@@ -161,6 +161,21 @@ impl<D: Disk> FilePages<D> {
     }
 }
 
+impl<D: Disk> FilePages<D> {
+    /// The two disks, the first and the second, to be looked at.
+    ///
+    /// ```
+    /// let (first, _) = store.disks();
+    /// let left = first.crash(&mut choices)?; // Where they are in memory: what a crash would leave now.
+    /// ```
+    pub fn disks(&self) -> (&D, &D)
+        ensures first { result.0.now ≡ self.now.files.first }
+        ensures second { result.1.now ≡ self.now.files.second }
+    {
+        self.files.disks()
+    }
+}
+
 // The length of the log from which on a flush begins it anew, where none is set.
 const LONGEST: usize = 4_000_000;
 
@@ -348,7 +363,7 @@ impl<D: Disk> FilePages<D> {
 
     // What the store is now, where the log has grown long, and there is memory for it.
     fn whole(&self) -> Option<Vec<u8>>
-        ensures { IfSome result (λ bytes. Makes bytes.items (durable_now (stored_as self.now) self.now.mark self.now.limits.pids self.now.limits.versions)) }
+        ensures { IfSome result (λ bytes. Makes (store_of self.now.pages) bytes.items (durable_now (stored_as self.now) self.now.mark self.now.limits.pids self.now.limits.versions)) }
     {
         if self.files.failed() || !is_long(self.files.len(), self.longest, self.last) {
             return None;
@@ -408,7 +423,7 @@ impl<D: Disk> FilePages<D> {
     // Flushes by a file that is begun anew with all that the store is.
     fn flush_anew(&mut self, whole: &[u8]) -> Result<usize>
         requires out { (now (stored_as self.old)).in_group ≡ false }
-        requires whole { Makes whole.now (durable_now (stored_as self.old) self.old.mark self.old.limits.pids self.old.limits.versions) }
+        requires whole { Makes (store_of self.old.pages) whole.now (durable_now (stored_as self.old) self.old.mark self.old.limits.pids self.old.limits.versions) }
         ensures ok { OnOk result (stored_as self.new ≡ after_flush (stored_as self.old)) }
         ensures number { IfOk result (λ n. n ≡ length (stored_as self.old).recent) }
         ensures one { OnOk result (other_of self.new.files ≡ one_of self.old.files) }

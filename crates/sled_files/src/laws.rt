@@ -1,5 +1,5 @@
 //! What holds of the files of all stores. The functions do nothing: each has a law as its contract.
-ghost use Rattle.sled_files.specs.Laws.{FlushLasts, FlushEnds, NewStoreLasts, OpenedGoesOn};
+ghost use Rattle.sled_files.specs.Laws.{FlushLasts, FlushEnds, NewStoreLasts, OpenedGoesOn, OpensAgain};
 
 /// Does nothing. While what is pending of a store is added to its files, they are right for the store, with it and without it.
 pub fn law_flush_lasts()
@@ -24,4 +24,14 @@ pub fn law_new_store_lasts()
 /// ```
 pub fn law_opened_goes_on()
     ensures { OpenedGoesOn }
+{}
+
+/// Does nothing. Files that are right for a store, as a crash leaves them, are opened: `FilePages::open` refuses them for want of memory
+/// or as a disk refused a call, and for nothing else.
+///
+/// ```
+/// law_opens_again(); // From here on a proof knows that what a crash left is no `NotAStore`, `OtherFormat` or `Decayed`.
+/// ```
+pub fn law_opens_again()
+    ensures { OpensAgain }
 {}

@@ -20,5 +20,7 @@ mod two_files;
 pub use begin::begin_file;
 pub use file_pages::{FilePages, FileStats, law_lasts};
 pub use found::OpenError;
-pub use laws::{law_flush_ends, law_flush_lasts, law_new_store_lasts, law_opened_goes_on};
+pub use laws::{
+    law_flush_ends, law_flush_lasts, law_new_store_lasts, law_opened_goes_on, law_opens_again,
+};
 pub use two_files::TwoFiles;

@@ -15,7 +15,7 @@ use std::alloc::Global;
 
 // Adds what makes a page, if there is the page.
 fn spell_page(alloc: Global, pages: &MemPages, out: &mut Vec<u8>, pid: Pid) -> Result<()>
-    ensures ok { OnOk result ((d : Durable) → Makes out.old.items d → Makes out.new.items (with_page pid ((now (store_of pages.now)).pages pid) d)) }
+    ensures ok { OnOk result ((d : Durable) → Makes (store_of pages.now) out.old.items d → Makes (store_of pages.now) out.new.items (with_page pid ((now (store_of pages.now)).pages pid) d)) }
     ensures err { IfErr result (λ e. e ≡ NoMemory) }
 {
     match pages.read(alloc, pid) {
@@ -34,7 +34,7 @@ fn spell_page(alloc: Global, pages: &MemPages, out: &mut Vec<u8>, pid: Pid) -> R
 
 // What makes all pages.
 fn spell_pages(alloc: Global, pages: &MemPages) -> Result<Vec<u8>>
-    ensures ok { IfOk result (λ bytes. Makes bytes.items (only (now (store_of pages.now)).pages (λ _. None))) }
+    ensures ok { IfOk result (λ bytes. Makes (store_of pages.now) bytes.items (only (now (store_of pages.now)).pages (λ _. None))) }
     ensures err { IfErr result (λ e. e ≡ NoMemory) }
 {
     law_given(pages);
@@ -53,7 +53,7 @@ fn spell_pages(alloc: Global, pages: &MemPages) -> Result<Vec<u8>>
 
 // Adds what makes all roots. The last of them is spelled first.
 fn spell_roots(alloc: Global, pages: &MemPages, out: &mut Vec<u8>) -> Result<()>
-    ensures ok { OnOk result (Makes out.old.items (only (now (store_of pages.now)).pages (λ _. None)) → Makes out.new.items (only (now (store_of pages.now)).pages (now (store_of pages.now)).roots)) }
+    ensures ok { OnOk result (Makes (store_of pages.now) out.old.items (only (now (store_of pages.now)).pages (λ _. None)) → Makes (store_of pages.now) out.new.items (only (now (store_of pages.now)).pages (now (store_of pages.now)).roots)) }
     ensures err { IfErr result (λ e. e ≡ NoMemory) }
 {
     let mut roots = match pages.roots(alloc) {
@@ -81,7 +81,7 @@ pub fn snapshot(
     pids: u64,
     versions: u64,
 ) -> Result<Vec<u8>>
-    ensures ok { IfOk result (λ bytes. Makes bytes.items (durable_now (store_of pages.now) mark pids versions)) }
+    ensures ok { IfOk result (λ bytes. Makes (store_of pages.now) bytes.items (durable_now (store_of pages.now) mark pids versions)) }
     ensures err { IfErr result (λ e. e ≡ NoMemory) }
 {
     let mut out = match spell_pages(alloc, pages) {

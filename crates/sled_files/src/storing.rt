@@ -2,10 +2,10 @@
 ghost use Rattle.std.specs.Prelude.{◌≡◌, ◌⊎◌, List, IfErr, OnOk, OnErr, true, false};
 ghost use Rattle.sled_store.specs.Faults.{IsFault};
 ghost use Rattle.sled_bytes.specs.declared.change.Change.{Change};
-ghost use Rattle.sled_files.specs.Change.{Durable, changed_all};
+ghost use Rattle.sled_files.specs.Change.{Durable, changed_all, AreAdded};
 ghost use Rattle.sled_files.specs.Files.{IsReady, KeepsTime, LeavesPairs, AreForEither, one_of, other_of};
 ghost use Rattle.sled_files.specs.Pending.{Spells};
-ghost use Rattle.sled_files.specs.theory.Snapshot.{Makes};
+ghost use Rattle.sled_files.specs.theory.Snapshot.{MakesAnew};
 
 use crate::two_files::TwoFiles;
 use sled_disk::{Disk, DiskError};
@@ -40,8 +40,8 @@ fn refusal(faults: &mut u64, e: DiskError) -> Error
 
 /// Adds changes to the files, and does nothing where there is none. Once a disk refused a call, the files stay as they are.
 pub fn add<D: Disk>(files: &mut TwoFiles<D>, faults: &mut u64, payload: &[u8]) -> Result<()>
-    ensures ready { OnOk result ((d : Durable) (changes : List Change) → IsReady D.seen D.may_leave files.old d → Spells payload.now changes → IsReady D.seen D.may_leave files.new (changed_all changes d)) }
-    ensures any_moment { (d : Durable) (changes : List Change) → IsReady D.seen D.may_leave files.old d → Spells payload.now changes → LeavesPairs D.moment D.left_since D.may_leave files.old files.new (AreForEither d (changed_all changes d)) }
+    ensures ready { OnOk result ((d : Durable) (changes : List Change) → IsReady D.seen D.may_leave files.old d → Spells payload.now changes → AreAdded changes d → IsReady D.seen D.may_leave files.new (changed_all changes d)) }
+    ensures any_moment { (d : Durable) (changes : List Change) → IsReady D.seen D.may_leave files.old d → Spells payload.now changes → AreAdded changes d → LeavesPairs D.moment D.left_since D.may_leave files.old files.new (AreForEither d (changed_all changes d)) }
     ensures first { KeepsTime D.moment D.left_since D.may_leave files.old.first }
     ensures second { KeepsTime D.moment D.left_since D.may_leave files.old.second }
     ensures over { files.old.failed ≡ true → files.new ≡ files.old }
@@ -66,8 +66,8 @@ pub fn add<D: Disk>(files: &mut TwoFiles<D>, faults: &mut u64, payload: &[u8]) -
 /// Makes the files stand for what these changes make of nothing, in place of all that they have. Once a disk refused a call, the files
 /// stay as they are.
 pub fn begin_anew<D: Disk>(files: &mut TwoFiles<D>, faults: &mut u64, payload: &[u8]) -> Result<()>
-    ensures ready { OnOk result ((d made : Durable) → IsReady D.seen D.may_leave files.old d → Makes payload.now made → IsReady D.seen D.may_leave files.new made) }
-    ensures any_moment { (d made : Durable) → IsReady D.seen D.may_leave files.old d → Makes payload.now made → LeavesPairs D.moment D.left_since D.may_leave files.old files.new (AreForEither d made) }
+    ensures ready { OnOk result ((d made : Durable) → IsReady D.seen D.may_leave files.old d → MakesAnew payload.now made → IsReady D.seen D.may_leave files.new made) }
+    ensures any_moment { (d made : Durable) → IsReady D.seen D.may_leave files.old d → MakesAnew payload.now made → LeavesPairs D.moment D.left_since D.may_leave files.old files.new (AreForEither d made) }
     ensures first { KeepsTime D.moment D.left_since D.may_leave files.old.first }
     ensures second { KeepsTime D.moment D.left_since D.may_leave files.old.second }
     ensures one { OnOk result (other_of files.new ≡ one_of files.old) }

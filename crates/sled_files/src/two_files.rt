@@ -3,7 +3,7 @@ ghost use Rattle.std.specs.Prelude.{◌≡◌, ℕ, ◌+◌, ◌<◌, ◌^◌, L
 ghost use Rattle.sled_disk.specs.Disk.{Only, LeavesOnly, HasCause};
 ghost use Rattle.sled_disk.specs.declared.disk.DiskError.TheVariants.{Failed};
 ghost use Rattle.sled_bytes.specs.declared.change.Change.{Change};
-ghost use Rattle.sled_files.specs.Change.{Durable, nothing_yet, changed_all};
+ghost use Rattle.sled_files.specs.Change.{Durable, nothing_yet, changed_all, AreOfStore, AreAdded};
 ghost use Rattle.sled_log.specs.Log.{IsLog};
 ghost use Rattle.sled_log.specs.Append.{IsBlockFor, IsBeforeOrAfter};
 ghost use Rattle.sled_files.specs.Standing.{StandsAt, IsBegun};
@@ -185,6 +185,19 @@ impl<D: Disk> TwoFiles<D> {
         (first, second)
     }
 
+    /// The two disks, the first and the second, to be looked at.
+    ///
+    /// ```
+    /// let (first, _) = files.disks();
+    /// let left = first.crash(&mut choices)?; // Where they are in memory: what a crash would leave now.
+    /// ```
+    pub fn disks(&self) -> (&D, &D)
+        ensures first { result.0.now ≡ self.now.first }
+        ensures second { result.1.now ≡ self.now.second }
+    {
+        (&self.first, &self.second)
+    }
+
     /// How long the log is that counts, in bytes.
     ///
     /// ```
@@ -205,8 +218,8 @@ impl<D: Disk> TwoFiles<D> {
     /// files.append(&[5, 6])?; // A group begins, and ends. No crash takes it back.
     /// ```
     pub fn append(&mut self, payload: &[u8]) -> Result<()>
-        ensures ready { OnOk result ((d : Durable) (changes : List Change) → IsReady D.seen D.may_leave self.old d → Spells payload.now changes → IsReady D.seen D.may_leave self.new (changed_all changes d)) }
-        ensures any_moment { (d : Durable) (changes : List Change) → IsReady D.seen D.may_leave self.old d → Spells payload.now changes → LeavesPairs D.moment D.left_since D.may_leave self.old self.new (AreForEither d (changed_all changes d)) }
+        ensures ready { OnOk result ((d : Durable) (changes : List Change) → IsReady D.seen D.may_leave self.old d → Spells payload.now changes → AreAdded changes d → IsReady D.seen D.may_leave self.new (changed_all changes d)) }
+        ensures any_moment { (d : Durable) (changes : List Change) → IsReady D.seen D.may_leave self.old d → Spells payload.now changes → AreAdded changes d → LeavesPairs D.moment D.left_since D.may_leave self.old self.new (AreForEither d (changed_all changes d)) }
         ensures other { other_of self.new ≡ other_of self.old }
         ensures calm { OnOk result (faults_in D.faults self.new ≡ faults_in D.faults self.old) }
         ensures over { self.old.failed ≡ true → (result ≡ Err Failed) × (self.new ≡ self.old) }
@@ -243,8 +256,8 @@ impl<D: Disk> TwoFiles<D> {
     /// files.rewrite(&[])?; // All that the store is, in one block: nothing.
     /// ```
     pub fn rewrite(&mut self, payload: &[u8]) -> Result<()>
-        ensures ready { OnOk result ((d : Durable) (changes : List Change) → IsReady D.seen D.may_leave self.old d → Spells payload.now changes → IsReady D.seen D.may_leave self.new (changed_all changes nothing_yet)) }
-        ensures any_moment { (d : Durable) (changes : List Change) → IsReady D.seen D.may_leave self.old d → Spells payload.now changes → LeavesPairs D.moment D.left_since D.may_leave self.old self.new (AreForEither d (changed_all changes nothing_yet)) }
+        ensures ready { OnOk result ((d : Durable) (changes : List Change) → IsReady D.seen D.may_leave self.old d → Spells payload.now changes → AreOfStore changes (changed_all changes nothing_yet) → IsReady D.seen D.may_leave self.new (changed_all changes nothing_yet)) }
+        ensures any_moment { (d : Durable) (changes : List Change) → IsReady D.seen D.may_leave self.old d → Spells payload.now changes → AreOfStore changes (changed_all changes nothing_yet) → LeavesPairs D.moment D.left_since D.may_leave self.old self.new (AreForEither d (changed_all changes nothing_yet)) }
         ensures one { OnOk result (other_of self.new ≡ one_of self.old) }
         ensures calm { OnOk result (faults_in D.faults self.new ≡ faults_in D.faults self.old) }
         ensures over { self.old.failed ≡ true → (result ≡ Err Failed) × (self.new ≡ self.old) }

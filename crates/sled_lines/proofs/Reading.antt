@@ -127,10 +127,6 @@ pub bad_told : (a b : Option (Option ℕ)) (told : Option ℕ) → IfSome a (λ 
 bad_told None b told first next = tt
 bad_told (Some bad) b told first next = subst (λ x. IfSome x (λ bad. bad ≡ told)) first next
 
--- the same, by another name of the line
-pub bad_named : (a b : Option (Option ℕ)) (n m : ℕ) → m ≡ n → IfSome a (λ bad. b ≡ Some bad) → IfSome b (λ bad. bad ≡ Some n) → IfSome a (λ bad. bad ≡ Some m)
-bad_named a b n m same first next = subst (λ k. IfSome a (λ bad. bad ≡ Some k)) (sym same) (bad_told a b (Some n) first next)
-
 pub bad_same : (a : Option (Option ℕ)) → IfSome a (λ bad. a ≡ Some bad)
 bad_same None = tt
 bad_same (Some bad) = refl

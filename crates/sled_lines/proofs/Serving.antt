@@ -14,10 +14,11 @@ use Rattle.sled.specs.Operators.{without_operators}
 use Rattle.sled.specs.Values.{DbValue}
 use Rattle.line_words.specs.Print.{Prints}
 use Rattle.sled_lines.specs.Serve.{lines_of, no_meaning, recovered_text, OpensSession, ToTheEnd, ToABadLine, ToACrash, Served}
-use Rattle.sled_lines.specs.theory.Serve.{Place, LivesOn, LivedFrom, ServesOn, ServesFrom}
+use Rattle.sled_lines.specs.theory.Serve.{LivesOn, LivedFrom, ServesOn, ServesFrom}
+use Rattle.sled_lines.specs.Serve.{Place}
 use Rattle.sled_lines.specs.declared.operator.NoOperator.{NoOperator}
-use Rattle.sled_lines.specs.declared.serve.End.{End}
-use Rattle.sled_lines.specs.declared.serve.End.TheVariants as end
+use Rattle.sled_lines.specs.declared.lines.End.{End}
+use Rattle.sled_lines.specs.declared.lines.End.TheVariants as end
 use Rattle.sled_lines.specs.declared.session.Session.{Session}
 use Rattle.sled_lines.proofs.Printing.{prints_then, prints_kept}
 

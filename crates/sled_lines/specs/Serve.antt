@@ -1,5 +1,5 @@
 -- The program as a whole.
-use Rattle.std.specs.Prelude.{◌≡◌, ℕ, zero, suc, ◌+◌, ◌==◌, Bool, true, false, is_some, IsSome, List, [], ◌∷◌, ◌++◌, Option, Some, None, codes, if◌then◌else◌}
+use Rattle.std.specs.Prelude.{◌≡◌, ℕ, zero, suc, ◌+◌, ◌==◌, Bool, true, false, is_some, IsSome, IfSome, List, [], ◌∷◌, ◌++◌, Option, Some, None, codes, if◌then◌else◌}
 use Rattle.std.specs.List.{slice_split}
 use Rattle.std.specs.Str.{bytes_eq}
 use Rattle.sled_store.specs.Crash.{Crashes}
@@ -16,8 +16,9 @@ use Rattle.sled_lines.specs.Session.{obeys}
 use Rattle.line_words.specs.declared.command.Command.{Command}
 use Rattle.line_words.specs.declared.command.Command.TheVariants as command
 use Rattle.sled_lines.specs.declared.operator.NoOperator.{NoOperator}
-use Rattle.sled_lines.specs.declared.serve.End.{End}
-use Rattle.sled_lines.specs.declared.serve.End.TheVariants.{NoLine, BadLine, Crash}
+use Rattle.sled_lines.specs.declared.lines.Buffers.{Buffers}
+use Rattle.sled_lines.specs.declared.lines.End.{End}
+use Rattle.sled_lines.specs.declared.lines.End.TheVariants.{NoLine, BadLine, Crash}
 use Rattle.sled_lines.specs.declared.session.Session.{Session}
 
 -- parts, without the last of them if it is empty
@@ -58,6 +59,39 @@ pub data Lives {P M : Type 0} (store : P → Store) (flush_number : P → ℕ) (
   AtCrash : {n keep : ℕ} {s : Session P M} {line : List ℕ} {lines : List (List ℕ)} → command_of line ≡ Some (command.Crash keep) → Lives store flush_number meant n s (line ∷ lines) [] (Crash keep) (n + 1) s lines
   Obeying : {n m : ℕ} {s next last : Session P M} {line : List ℕ} {lines rest : List (List ℕ)} (c : Command) (text : List ℕ) {texts : List ℕ} {e : End} → command_of line ≡ Some c → crash_of c ≡ None
       → obeys store flush_number meant s c text next → Lives store flush_number meant (n + 1) next lines texts e m last rest → Lives store flush_number meant n s (line ∷ lines) (text ++ texts) e m last rest
+
+-- How lines end tells whether one is bad: it is the line of the number n, or there is none, or the same as before
+abbrev pub Ends : Option (Option ℕ) → Option (Option ℕ) → ℕ → End → Type 0
+Ends before after n NoLine = IfSome before (λ bad. bad ≡ None)
+Ends before after n BadLine = IfSome before (λ bad. bad ≡ Some n)
+Ends before after n (Crash keep) = IfSome before (λ bad. after ≡ Some bad)
+
+-- where a run stands: how many lines were read, what the reader has left, what the writer holds, and what is gathered for it
+pub record Place : Type 0 where
+  pub number : ℕ
+  pub left : Option (List ℕ)
+  pub held : Option (List ℕ)
+  pub gathered : List ℕ
+
+abbrev pub place : Buffers → Option (List ℕ) → Option (List ℕ) → Place
+place buffers left held = record { number = buffers.number; left = left; held = held; gathered = buffers.out.items }
+
+-- what is said of how lines end: which of them cannot be read
+abbrev pub told_of : End → ℕ → List ℕ
+told_of BadLine n = bad_line n
+told_of e n = []
+
+-- From here to there a session goes on over this text. These texts are printed; what is said of how it ends is not, and comes behind them
+pub record RunsOn {P M : Type 0} (store : P → Store) (flush_number : P → ℕ) (meant : M → Merge) (s : Session P M) (here : Place) (e : End) (last : Session P M) (there : Place) (text : List ℕ) : Type 0 where
+  pub texts : List ℕ
+  pub rest : List ℕ
+  pub lives : Lives store flush_number meant here.number s (lines_of text) (texts ++ told_of e there.number) e there.number last (lines_of rest)
+  pub left : there.left ≡ Some rest
+  pub prints : Prints here.held here.gathered there.held there.gathered texts
+
+-- the same of what the reader has left, where that is known
+abbrev pub RunsFrom : {P M : Type 0} → (P → Store) → (P → ℕ) → (M → Merge) → Session P M → Place → End → Session P M → Place → Type 0
+RunsFrom store flush_number meant s here e last there = IfSome here.left (λ text. RunsOn store flush_number meant s here e last there text)
 
 -- no merge operator is asked for anything, since no line gives a tree one
 abbrev pub no_meaning : NoOperator → Merge

@@ -1,54 +1,84 @@
 //! Runs commands on a database in files: reads them line by line, and prints how each came out. Its argument is the folder of the database,
-//! which is made where it is not there. What it prints is not proved: it is safe, and it ends.
+//! which is made where it is not there. Beside the lines of `sledrun` it knows `stats` and `compact`. What it prints is not proved: it is
+//! safe, and it ends.
 #![tactic(auto)]
 
-mod lines;
+mod opened;
+
+ghost use Rattle.std.specs.Prelude.{◌≡◌, [], OnOk};
 
 use line_words::input::Stopped;
-use lines::{Buffers, End, run_lines};
-use sled::Db;
-use sled_files::FilePages;
-use sled_host::HostFile;
-use sled_lines::operator::NoOperator;
-use sled_lines::session::Session;
-use sled_path::open;
+use opened::{Opened, compact, flush, open_again, open_first, tell_stats};
+use sled_lines::lines::{Buffers, End, run_lines, tell_end};
+use std::alloc::Global;
 use std::env;
 use std::io::{BufRead, BufReader, BufWriter, Write};
 use std::process::ExitCode;
 
-// The name that the database is opened under.
-const DATABASE: &[u8] = b"sledfile";
+// What comes behind lines that ended.
+#[derive(Drop)]
+enum Next {
+    // The others, on this session.
+    Lines(Opened),
+    // Nothing: whether every line could be read.
+    Nothing(bool),
+}
 
-type Opened = Session<FilePages<HostFile>, NoOperator>;
+// Ends a session at the end of its lines: all that was decided is durable then.
+fn close<W: Write>(session: Opened, is_read: bool, output: &mut W) -> Result<Next, Stopped> {
+    flush(session, output)?;
+    Ok(Next::Nothing(is_read))
+}
 
-// Opens the database, and says why it is not opened.
-fn session_in(rt: &HostRuntime, path: &str, output: &mut impl Write) -> Result<Opened, Stopped> {
-    let db = match open::<NoOperator>(rt, path, DATABASE) {
-        Ok(db) => db,
-        Err(e) => {
-            writeln!(output, "not opened: {e}")?;
-            output.flush()?;
-            return Err(Stopped);
-        }
-    };
-    match Session::over(rt.alloc(), db) {
-        Ok(session) => Ok(session),
-        Err(refused) => {
-            drop(refused);
-            Err(Stopped)
+// Answers a line that `sledrun` does not know: the session that goes on, or the one that ends since nobody knows the line.
+fn answer<W: Write>(
+    alloc: Global,
+    session: Opened,
+    line: &[u8],
+    output: &mut W,
+) -> Result<Result<Opened, Opened>, Stopped> {
+    if line == b"compact".as_slice() {
+        return Ok(Ok(compact(alloc, session, output)?));
+    }
+    if line != b"stats".as_slice() {
+        return Ok(Err(session));
+    }
+    match tell_stats(&session, output) {
+        Ok(()) => Ok(Ok(session)),
+        Err(stopped) => {
+            drop(session);
+            Err(stopped)
         }
     }
 }
 
-// Ends a session at the end of its lines: all that was decided is durable then.
-fn close(mut session: Opened) -> Result<(), Stopped> {
-    let flushed = session.flush();
-    drop(session);
-    drop(flushed);
-    Ok(())
+// Does what is to be done behind lines that ended.
+fn go_on<W: Write>(
+    rt: &HostRuntime,
+    path: &str,
+    session: Opened,
+    end: End,
+    buffers: &mut Buffers,
+    output: &mut W,
+) -> Result<Next, Stopped>
+    requires { buffers.old.out.items ≡ [] }
+    ensures { OnOk result (buffers.new.out.items ≡ []) }
+{
+    match end {
+        End::NoLine => close(session, true, output),
+        End::Crash(_) => Ok(Next::Lines(open_again(rt, path, session, output)?)),
+        End::BadLine => match answer(rt.alloc(), session, buffers.bad_line(), output)? {
+            Ok(session) => Ok(Next::Lines(session)),
+            Err(session) => {
+                let told = tell_end(end, output, buffers);
+                let closed = close(session, false, output);
+                told.and(closed)
+            }
+        },
+    }
 }
 
-// Opens the database again and again, after each line that lets go of it: whether every line could be read.
+// Runs all lines: whether each of them could be read.
 fn run_in<R: BufRead, W: Write>(
     rt: &HostRuntime,
     path: &str,
@@ -56,24 +86,21 @@ fn run_in<R: BufRead, W: Write>(
     output: &mut W,
 ) -> Result<bool, Stopped> {
     let mut buffers = Buffers::new(rt.alloc());
+    let mut session = open_first(rt, path, output)?;
     for _ in 0..u64::MAX {
-        let mut session = session_in(rt, path, output)?;
-        match run_lines(rt.alloc(), &mut session, input, output, &mut buffers) {
-            Ok(End::Crash) => drop(session),
-            Ok(End::NoLine) => {
-                close(session)?;
-                return Ok(true);
-            }
-            Ok(End::BadLine) => {
-                close(session)?;
-                return Ok(false);
-            }
+        let end = match run_lines(rt.alloc(), &mut session, input, output, &mut buffers) {
+            Ok(end) => end,
             Err(stopped) => {
                 drop(session);
                 return Err(stopped);
             }
+        };
+        match go_on(rt, path, session, end, &mut buffers, output)? {
+            Next::Lines(others) => session = others,
+            Next::Nothing(is_read) => return Ok(is_read),
         }
     }
+    drop(session);
     Err(Stopped)
 }
 
@@ -92,9 +119,10 @@ fn run(rt: &HostRuntime) -> Result<bool, Stopped> {
         return Err(Stopped);
     };
     let mut input = BufReader::new(rt.alloc(), rt.reader())?;
-    let read = run_in(rt, path.as_str(), &mut input, &mut output)?;
+    let ran = run_in(rt, path.as_str(), &mut input, &mut output);
+    // Also where it stopped: it may have said why.
     output.flush()?;
-    Ok(read)
+    ran
 }
 
 fn main(rt: HostRuntime) -> ExitCode {

@@ -1,153 +1,56 @@
-//! Makes calls of a store in memory and of nodes, one a line, spells keys, and compares values. It prints what comes of each line; `HELP` has the lines.
+//! Makes calls of a store in memory and of nodes, one a line, spells keys, and compares values. It prints what comes of each line;
+//! `store_lines help` has the lines.
 //!
-//! `store_lines FILE ..` runs files, each from a fresh store, and without arguments standard input. `store_lines check NAME ..`
-//! runs the files NAME.lines of the folder that it runs in, and compares what they print with the files NAME.expected. The exit
-//! status is 1 where a file printed something else, and 2 where a read or a write failed or there was no memory.
+//! `store_lines FILE ..` runs files, each from an empty store, and without arguments standard input. `store_lines check NAME ..`
+//! runs the files NAME.lines of the folder that it runs in, and compares what they print with the files NAME.expected. Of a name
+//! `log/NAME` the store is that of `store_examples`. The exit status is 1 where a file printed something else, and 2 where a read or a
+//! write failed or there was no memory.
 #![tactic(auto)]
 
-mod check;
-mod keys;
-mod line;
-mod nodes;
-mod rebuild;
-mod store;
-mod text;
-mod values;
+mod logs;
+mod memory;
 
-use check::{Texts, printed_by};
-use line_files::check;
-use std::io::Write;
+use logs::Logs;
+use memory::Memory;
+use std::io::{self, Write};
 use std::process::ExitCode;
-use std::{env, fs, io};
+use store_kit::{check_file, ended, exercise, words_of};
 
-const HELP: &str = "\
-A line is a command. Its words are separated by one space. An empty line and one that begins with # print nothing; a line
-that cannot be read prints `bad line N`, counted from 1 among all lines, and does nothing.
-
-In a byte string a byte from ! to ~ other than % is itself, and % with two lower-case hexadecimal digits is that byte. The
-word % is the empty string. LO, HI, K and V are byte strings, P and N numbers, and NODE a name that a line gave a node.
-- is none. VERSION is the place of a version among those that were met, counted from 0, or `last`; where no version has
-that place it is the version of that number. BOUND is [K (K included), (K (K excluded) or .. (none).
-LINK is `set K V`, `del K`, `intend P`, `confirm` or `cap`.
-
-repeat N COMMAND                      what the command prints the last of N times
-
-Calls of the store. A refused one prints `refused: ` and the error; one that may not be made now prints `barred`.
-new                                   done, with an empty store, of which no version was met
-allocate NODE                         page P version PLACE
-read P                                page P version PLACE and the node, or none
-read P NODE                           the same; the node is given the name
-link P VERSION LINK                   changed version PLACE; or found version PLACE, the present one; or found -
-replace P VERSION NODE                the same
-free P VERSION                        done, or found ..
-root K                                root P, or root -
-roots                                 roots K P ..
-swap K OLD NEW                        done, or found P, or found -, the present root; OLD and NEW are P or -
-begin, seal                           done
-flush, flush-uncounted                flushed N
-set-aside N                           done
-in-group, was-recovered               yes or no
-mark                                  number N
-crash N                               done, with what a crash leaves that keeps N actions
-refuse N ..                           done; the calls of these numbers will be refused, and no others
-unreadable P                          done
-image-page P NODE, image-root K P     done; a page or a root of the next image
-image N                               done, with a store of the image, whose mark is N, and of which no version was met
-numbers                               page P versions N: the greatest page number that was given, and how many versions were
-make-page P N NODE, make-link P N LINK, make-free P, make-root K P    done, or barred; a page, a link, the end of a page, or a
-                                      root of the next store that is made so; N is a version, and P of a root may be -
-made N N N                            done, with that store: page numbers and versions below the first two count as given, and
-                                      the third is the mark; no version was met
-hold P, let-go                        done; the page as it is now is held until all are let go
-
-Nodes. CHILD is the merging child, MERGING is `merging` or -.
-leaf NODE LO HI NEXT CHILD MERGING K V ..    done
-index NODE LO HI NEXT CHILD MERGING K P ..   done
-show NODE                             the node, as its line without the name
-clone NODE NODE                       done
-next NODE P                           done; P may be -
-apply NODE LINK                       done
-split NODE LEFT RIGHT                 done, or barred with fewer than two entries
-receive LEFT RIGHT NODE               done
-post NODE K P                         yes or no
-should-split NODE, should-merge NODE, can-merge-child NODE    yes or no
-len NODE                              number N
-prefix NODE                           prefix K, the longest beginning that all keys have
-rests NODE                            rests K V .., or K P ..: what each key has behind it
-get NODE K                            value V, or value -
-pointer NODE BOUND                    first P, or later P, or none
-pointer-before NODE P                 pointer P, or none
-successor NODE BOUND, predecessor NODE BOUND    pair K V, or none
-within NODE BOUND BOUND               pairs K V .., those within both bounds; with -back behind the word from the back
-up-to NODE BOUND                      number N of K V ..: how many pairs are within an upper bound, and all pairs
-
-Keys of several parts. PART is # and a number, or a byte string, in which a # in front is written %23. SHAPE has a letter for each
-part, n for a number and t for a byte string; it is % where there is none.
-spell PART ..                         key K
-parts SHAPE K                         parts PART .., or none
-
-Values, separated by a comma and a space. Each of them prints a line: its text or its name, and for each of the values `=` where
-it equals a copy of that one, < or > where there is an order, and else /. OLD and NEW are byte strings or -. An error is a
-number from 1 to 8, of which 1 has a name K behind it. TREE is the database's name, the tree's own and its number, `K K N`. CALL
-is `get K`, `insert K V`, `remove K`, `cas K OLD NEW`, `merge K V`, `scan BOUND BOUND` or `scan-back BOUND BOUND`. WHOLE is
-`flush`, `pop-min TREE`, `pop-max TREE`, `clear TREE`, `group TREE K NEW ..`, `tree K`, `drop K`, `id`, `import TYPE NAME K V`,
-`watch TREE K`, `next N` or `unwatch N`.
-strings K, ..
-events K NEW, ..                      an insert, or a removal where NEW is -
-conflicts OLD NEW, ..                 why a value was not swapped
-errors N, ..
-calls CALL, ..
-wholes WHOLE, ..
-trees TREE, ..
-";
-
-// Prints what a text of lines prints.
-fn run_text(rt: &HostRuntime, text: io::Result<String>) -> io::Result<()> {
-    let text = text?;
-    let printed = printed_by(rt.alloc(), text.as_str());
-    drop(text);
-    let done = match printed.text() {
-        Some(text) => io::writer(rt).write_all(text),
-        None => Err(io::Error::from(io::ErrorKind::OutOfMemory)),
-    };
-    drop(printed);
-    done
-}
-
-fn run_files(rt: &HostRuntime, files: &[String]) -> io::Result<()> {
-    for file in files {
-        run_text(rt, fs::read_to_string(rt, file.as_str()))?;
+// Runs the file of a name, over the stores that stand before it: whether it prints what is expected.
+fn check_name<W: Write>(rt: &HostRuntime, name: &str, output: &mut W) -> io::Result<bool> {
+    match name.split_once('/') {
+        Some(("log", name)) => check_file(rt, &Logs, name, output),
+        _ => check_file(rt, &Memory, name, output),
     }
-    Ok(())
 }
 
-// Whether no file printed something else than it should.
-fn run(rt: &HostRuntime, arguments: &[String]) -> io::Result<bool> {
-    match arguments {
-        [] => run_text(rt, io::read_to_string(rt.alloc(), rt.reader()))?,
+// The same with each name: whether all print what is expected. A line of a name begins with it.
+fn check_names<W: Write>(rt: &HostRuntime, names: &[String], output: &mut W) -> io::Result<bool> {
+    let mut passed = true;
+    for name in names {
+        write!(output, "{name}: ")?;
+        passed &= check_name(rt, name.as_str(), output)?;
+    }
+    Ok(passed)
+}
+
+// Runs what the words of the program say.
+fn run(rt: &HostRuntime, words: &[String]) -> ExitCode {
+    match words {
         [first, names @ ..] if first.as_str() == "check" => {
-            return check(rt, &Texts, names, &mut io::writer(rt));
+            ended(rt, check_names(rt, names, &mut io::writer(rt)))
         }
-        [first, ..] if first.as_str() == "help" => rt.print(HELP)?,
-        files => run_files(rt, files)?,
+        _ => exercise(rt, &Memory),
     }
-    Ok(true)
-}
-
-fn run_arguments(rt: &HostRuntime) -> io::Result<bool> {
-    let arguments: Vec<String> = env::args(rt)?.skip(1).collect(rt.alloc())?;
-    let passed = run(rt, arguments.as_slice());
-    drop(arguments);
-    passed
 }
 
 fn main(rt: HostRuntime) -> ExitCode {
-    match run_arguments(&rt) {
-        Ok(true) => ExitCode::SUCCESS,
-        Ok(false) => ExitCode::from(1),
-        Err(error) => {
-            let _ = eprintln!(rt; "store_lines: {error}");
-            ExitCode::from(2)
+    match words_of(&rt) {
+        Ok(words) => {
+            let status = run(&rt, words.as_slice());
+            drop(words);
+            status
         }
+        Err(error) => ended(&rt, Err(error)),
     }
 }

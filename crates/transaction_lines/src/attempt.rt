@@ -1,6 +1,6 @@
 //! One attempt of a transaction: its parts are done one after the other, and what each of them answers is taken down.
 
-use crate::inside::{Answer, Inside};
+use crate::inside::Answer;
 use line_words::print::Piece::{self, Number, Text, Word};
 use line_words::print::{push_pieces, push_refused, push_text};
 use shell_words::script::{Act, End, Part, Script};
@@ -83,9 +83,12 @@ impl Answers {
         }
     }
 
-    // Does a part, and takes down what it answers.
-    fn do_part<I: Inside>(&mut self, inside: &mut I, part: &Part) -> Attempted {
-        let done = inside.perform(part);
+    /// Takes down what a part answered: whether the attempt goes on.
+    pub(crate) fn take(
+        &mut self,
+        part: &Part,
+        done: UnabortableTransactionResult<Answer>,
+    ) -> Attempted {
         match self.take_down(&part.act, &done) {
             Ok(()) => Ok(drop(done?)),
             Err(error) => {
@@ -96,11 +99,8 @@ impl Answers {
         }
     }
 
-    /// Does all parts of a script, up to one that is refused, and ends as it says.
-    pub(crate) fn do_all<I: Inside>(&mut self, inside: &mut I, script: &Script) -> Attempted {
-        for part in script.parts.as_slice() {
-            self.do_part(inside, part)?;
-        }
+    /// Ends an attempt as its script says.
+    pub(crate) fn end(&self, script: &Script) -> Attempted {
         match script.end {
             End::Abort => abort(GivenUp::Asked),
             End::Conflict => Err(ConflictableTransactionError::Conflict),

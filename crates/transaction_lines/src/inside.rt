@@ -6,7 +6,7 @@ use sled::{
     UnabortableTransactionResult,
 };
 use sled_nodes::{IVec, Result};
-use sled_pages::MemPages;
+use sled_store::Pages;
 
 /// What a part answers.
 #[derive(Drop)]
@@ -17,45 +17,43 @@ pub(crate) enum Answer {
     Done,
 }
 
-/// A transaction from within.
-pub(crate) trait Inside {
-    /// Does a part. A transaction of one tree passes its position over.
-    fn perform(&mut self, part: &Part) -> UnabortableTransactionResult<Answer>;
+/// Does a part inside a transaction of one tree, which passes its position over.
+pub(crate) fn perform_on_tree<P: Pages>(
+    tree: &mut TransactionalTree<'_, P>,
+    part: &Part,
+) -> UnabortableTransactionResult<Answer> {
+    let value = match &part.act {
+        Act::Get(key) => tree.get(key.as_ref()),
+        Act::Insert(key, value) => tree.insert(key.as_ref(), value.as_ref()),
+        Act::Remove(key) => tree.remove(key.as_ref()),
+        Act::Batch(batch) => return tree.apply_batch(batch).and(Ok(Answer::Done)),
+        Act::Flush => {
+            tree.flush();
+            return Ok(Answer::Done);
+        }
+        Act::Id => return answer_id(tree.generate_id()),
+    };
+    value.map(Answer::Value)
 }
 
-impl Inside for TransactionalTree<'_, MemPages> {
-    fn perform(&mut self, part: &Part) -> UnabortableTransactionResult<Answer> {
-        let value = match &part.act {
-            Act::Get(key) => self.get(key.as_ref()),
-            Act::Insert(key, value) => self.insert(key.as_ref(), value.as_ref()),
-            Act::Remove(key) => self.remove(key.as_ref()),
-            Act::Batch(batch) => return self.apply_batch(batch).and(Ok(Answer::Done)),
-            Act::Flush => {
-                self.flush();
-                return Ok(Answer::Done);
-            }
-            Act::Id => return answer_id(self.generate_id()),
-        };
-        value.map(Answer::Value)
-    }
-}
-
-impl Inside for TransactionalTrees<'_, MemPages> {
-    fn perform(&mut self, part: &Part) -> UnabortableTransactionResult<Answer> {
-        let at = part.position;
-        let value = match &part.act {
-            Act::Get(key) => self.get(at, key.as_ref()),
-            Act::Insert(key, value) => self.insert(at, key.as_ref(), value.as_ref()),
-            Act::Remove(key) => self.remove(at, key.as_ref()),
-            Act::Batch(batch) => return self.apply_batch(at, batch).and(Ok(Answer::Done)),
-            Act::Flush => {
-                self.flush();
-                return Ok(Answer::Done);
-            }
-            Act::Id => return answer_id(self.generate_id()),
-        };
-        value.map(Answer::Value)
-    }
+/// Does a part inside a transaction of several trees.
+pub(crate) fn perform_on_trees<P: Pages>(
+    trees: &mut TransactionalTrees<'_, P>,
+    part: &Part,
+) -> UnabortableTransactionResult<Answer> {
+    let at = part.position;
+    let value = match &part.act {
+        Act::Get(key) => trees.get(at, key.as_ref()),
+        Act::Insert(key, value) => trees.insert(at, key.as_ref(), value.as_ref()),
+        Act::Remove(key) => trees.remove(at, key.as_ref()),
+        Act::Batch(batch) => return trees.apply_batch(at, batch).and(Ok(Answer::Done)),
+        Act::Flush => {
+            trees.flush();
+            return Ok(Answer::Done);
+        }
+        Act::Id => return answer_id(trees.generate_id()),
+    };
+    value.map(Answer::Value)
 }
 
 // What taking an id answers.

@@ -1,7 +1,7 @@
 //! Transactions that lines spell, run and told.
 
 use crate::attempt::{Answers, Attempted, GivenUp};
-use crate::inside::Inside;
+use crate::inside::{perform_on_tree, perform_on_trees};
 use line_words::input::Stopped;
 use line_words::print::Piece::Text;
 use shell_words::script::{Reach, Script, read_script};
@@ -9,7 +9,7 @@ use shell_words::tell::{Result, Told, tell, tell_refused};
 use shell_words::words::words_of;
 use sled::{Db, TransactionError, TransactionResult, TransactionalTree, TransactionalTrees};
 use sled_model::{MergeOperator, Tree};
-use sled_pages::MemPages;
+use sled_store::Pages;
 use std::alloc::Global;
 use std::cell::Cell;
 
@@ -49,22 +49,20 @@ impl Run {
         Run::new(alloc, words, Reach::List)
     }
 
-    // One attempt. What the parts answered in an attempt before is forgotten.
-    fn attempt<I: Inside>(&self, inside: &mut I) -> Attempted {
+    /// One attempt in a transaction of one tree. What the parts answered in an attempt before is forgotten.
+    pub fn attempt_on_tree<P: Pages>(&self, tree: &mut TransactionalTree<'_, P>) -> Attempted {
         let mut answers = Answers::none(self.alloc);
-        let attempted = answers.do_all(inside, &self.script);
+        let attempted = attempt_on_tree(&mut answers, tree, &self.script);
         self.answers.set(answers);
         attempted
     }
 
-    /// One attempt in a transaction of one tree.
-    pub fn attempt_on_tree(&self, tree: &mut TransactionalTree<'_, MemPages>) -> Attempted {
-        self.attempt(tree)
-    }
-
-    /// One attempt in a transaction of several trees.
-    pub fn attempt_on_trees(&self, trees: &mut TransactionalTrees<'_, MemPages>) -> Attempted {
-        self.attempt(trees)
+    /// The same in a transaction of several trees.
+    pub fn attempt_on_trees<P: Pages>(&self, trees: &mut TransactionalTrees<'_, P>) -> Attempted {
+        let mut answers = Answers::none(self.alloc);
+        let attempted = attempt_on_trees(&mut answers, trees, &self.script);
+        self.answers.set(answers);
+        attempted
     }
 
     /// Adds what the parts answered, and what the transaction came to.
@@ -80,6 +78,30 @@ impl Run {
         drop(answers);
         told.and(tell_ending(out, ended))
     }
+}
+
+// Does all parts of a script on a tree, up to one that is refused, and ends as it says.
+fn attempt_on_tree<P: Pages>(
+    answers: &mut Answers,
+    tree: &mut TransactionalTree<'_, P>,
+    script: &Script,
+) -> Attempted {
+    for part in script.parts.as_slice() {
+        answers.take(part, perform_on_tree(tree, part))?;
+    }
+    answers.end(script)
+}
+
+// The same on several trees.
+fn attempt_on_trees<P: Pages>(
+    answers: &mut Answers,
+    trees: &mut TransactionalTrees<'_, P>,
+    script: &Script,
+) -> Attempted {
+    for part in script.parts.as_slice() {
+        answers.take(part, perform_on_trees(trees, part))?;
+    }
+    answers.end(script)
 }
 
 // What is printed of the parts: nothing where it was none of them that was refused, but the transaction.
@@ -101,14 +123,14 @@ fn tell_ending(out: &mut Told, ended: Ended) -> Result<()> {
 }
 
 // Runs it on a tree. Nothing is said of what that does, so that nobody who tells it has more to prove.
-fn run_on_tree<M: MergeOperator>(db: &mut Db<MemPages, M>, tree: &Tree, run: &Run) -> Ended {
+fn run_on_tree<P: Pages, M: MergeOperator>(db: &mut Db<P, M>, tree: &Tree, run: &Run) -> Ended {
     db.transaction(tree, |tree| run.attempt_on_tree(tree))
 }
 
 /// Runs the transaction that words spell on a tree of a database, and adds what each part answers and how that came out.
-pub fn tell_owned_transaction<M: MergeOperator>(
+pub fn tell_owned_transaction<P: Pages, M: MergeOperator>(
     alloc: Global,
-    db: &mut Db<MemPages, M>,
+    db: &mut Db<P, M>,
     tree: &Tree,
     words: &[u8],
     out: &mut Told,

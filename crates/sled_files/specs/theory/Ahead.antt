@@ -1,8 +1,9 @@
 -- Limits that a flush raises in its own block.
-use Rattle.std.specs.Prelude.{◌≡◌, ℕ, List, ◌++◌}
+use Rattle.std.specs.Prelude.{◌≡◌, ◌<◌, ◌^◌, ℕ, List, ◌++◌}
+use Rattle.std.specs.List.{All}
 use Rattle.sled_bytes.specs.declared.change.Change.{Change}
-use Rattle.sled_files.specs.Change.{Durable, changed_all}
-use Rattle.sled_files.specs.Lasting.{Limits, HasLimits}
+use Rattle.sled_files.specs.Change.{Durable, changed_all, IsWithin}
+use Rattle.sled_files.specs.Lasting.{Limits, AreLimits}
 use Rattle.sled_files.specs.Pending.{Spells}
 
 -- what is pending, and then changes that set these limits, where they are others
@@ -13,4 +14,6 @@ pub record IsAhead (limits raised : Limits) (before after : List ℕ) : Type 0 w
   pub spells : (changes : List Change) → Spells before changes → Spells after (changes ++ more)
   pub state : (d : Durable) → (changed_all more d).state ≡ d.state
   pub mark : (d : Durable) → (changed_all more d).mark ≡ d.mark
-  pub limited : (d : Durable) → HasLimits limits d → HasLimits raised (changed_all more d)
+  pub limited : (d : Durable) → AreLimits limits d → AreLimits raised (changed_all more d)
+  pub within : (d : Durable) → All (IsWithin d) more
+  pub fits : (d : Durable) → d.versions < 2 ^ 64 → (changed_all more d).versions < 2 ^ 64

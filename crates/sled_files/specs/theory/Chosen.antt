@@ -8,9 +8,9 @@ use Rattle.sled_files.specs.declared.replay.Made.{Made}
 use Rattle.sled_files.specs.declared.replay.Halt.TheVariants as halt
 use Rattle.sled_files.specs.declared.found.OpenError.{OpenError}
 use Rattle.sled_files.specs.declared.found.OpenError.TheVariants.{NoMemory, Decayed}
-use Rattle.sled_files.specs.Change.{Durable, nothing_yet, changed_all}
+use Rattle.sled_files.specs.Change.{Durable, nothing_yet, changed_all, AreOfStore}
 use Rattle.sled_files.specs.Standing.{AreFor, StandsAt, IsBlank, IsOlder}
-use Rattle.sled_files.specs.Opening.{AreOfStore, AreForStore, IsReopened}
+use Rattle.sled_files.specs.Opening.{IsReopened}
 
 -- bytes can be read as changes
 pub record IsRead (read : Result (List Change) Flaw) : Type 0 where
@@ -49,7 +49,7 @@ pub record IsOpened (first second : List ℕ) (is_second : Bool) (gate generatio
   pub durable : Durable
   pub stands : StandsAt (if is_second then second else first) gate generation durable
   pub behind : IsBlank (if is_second then first else second) ⊎ IsOlder generation (if is_second then first else second)
-  pub of_store : AreForStore first second durable
+  pub stand : AreFor first second durable
   pub reopened : IsReopened durable (store_of store.pages)
   pub pids : store.pids ≡ durable.pids
   pub versions : store.versions ≡ durable.versions

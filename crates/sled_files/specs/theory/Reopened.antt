@@ -2,17 +2,15 @@
 use Rattle.std.specs.Prelude.{◌≡◌, ◌⊎◌, ℕ, List, []}
 use Rattle.sled_pages.specs.Memory.{store_of, calls_refused, empty_store}
 use Rattle.sled_files.specs.declared.replay.Made.{Made}
-use Rattle.sled_files.specs.declared.found.OpenError.{OpenError}
-use Rattle.sled_files.specs.declared.found.OpenError.TheVariants.{NoMemory, Disk}
 use Rattle.sled_files.specs.Change.{Durable, nothing_yet}
 use Rattle.sled_files.specs.Standing.{AreFor, AreBlank}
 use Rattle.sled_files.specs.Files.{Files, IsReady}
-use Rattle.sled_files.specs.Opening.{AreForStore, IsReopened}
+use Rattle.sled_files.specs.Opening.{IsReopened}
 
 -- the store that the files stand for, and for nothing else
 pub record OpensStore {D : Type 0} (seen : D → List ℕ) (may_leave : D → List ℕ → Type 0) (first second : List ℕ) (f : Files D) (store : Made) : Type 0 where
   pub durable : Durable
-  pub of_store : AreForStore first second durable
+  pub stand : AreFor first second durable
   pub alone : (d : Durable) → AreFor first second d → d ≡ durable
   pub ready : IsReady seen may_leave f durable
   pub first_stays : seen f.first ≡ first
@@ -32,9 +30,3 @@ pub record OpensNew {D : Type 0} (seen : D → List ℕ) (may_leave : D → List
 
 abbrev pub Opens : {D : Type 0} → (D → List ℕ) → (D → List ℕ → Type 0) → List ℕ → List ℕ → Files D → Made → Type 0
 Opens seen may_leave first second f store = OpensStore seen may_leave first second f store ⊎ OpensNew seen may_leave first second f store
-
--- a disk refused a call, for memory or for a fault
-abbrev pub is_refusal : OpenError → Type 0
-is_refusal NoMemory = Unit {0}
-is_refusal (Disk e) = Unit {0}
-is_refusal _ = ⊥

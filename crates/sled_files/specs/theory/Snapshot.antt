@@ -1,20 +1,30 @@
 -- What a store is now, as changes that make it of nothing.
 use Rattle.std.specs.Prelude.{◌≡◌, ℕ, nat_lt, false, List, Option, Some, None, if◌then◌else◌}
 use Rattle.std.specs.FinMap.Entries.{find}
+use Rattle.std.specs.List.{All}
 use Rattle.sled_nodes.specs.Order.{Key, key_cmp}
 use Rattle.sled_store.specs.declared.page.Page.{Page}
 use Rattle.sled_store.specs.State.{State}
 use Rattle.sled_store.specs.Store.{Store, now}
 use Rattle.sled_bytes.specs.declared.change.Change.{Change}
 use Rattle.sled_bytes.specs.declared.change.Change.TheVariants.{Given}
-use Rattle.sled_files.specs.Change.{Durable, nothing_yet, changed, changed_all}
+use Rattle.sled_files.specs.Change.{Durable, nothing_yet, changed, changed_all, AreOfStore}
 use Rattle.sled_files.specs.Pending.{Spells}
+use Rattle.sled_files.specs.theory.Spelled.{WereGiven}
 
--- the bytes are those of changes that make this of nothing
-pub record Makes (bytes : List ℕ) (d : Durable) : Type 0 where
+-- the bytes are those of changes that make this of nothing, and the numbers in them were given in a store
+pub record Makes (s : Store) (bytes : List ℕ) (d : Durable) : Type 0 where
   pub changes : List Change
   pub spells : Spells bytes changes
   pub makes : changed_all changes nothing_yet ≡ d
+  pub given : All (WereGiven s) changes
+
+-- the bytes are those of changes of a store, which make this of nothing
+pub record MakesAnew (bytes : List ℕ) (d : Durable) : Type 0 where
+  pub changes : List Change
+  pub spells : Spells bytes changes
+  pub makes : changed_all changes nothing_yet ≡ d
+  pub made : AreOfStore changes d
 
 -- with a page, if there is one
 abbrev pub with_page : ℕ → Option Page → Durable → Durable

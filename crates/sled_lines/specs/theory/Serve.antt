@@ -5,16 +5,14 @@ use Rattle.sled_store.specs.Store.{Store}
 use Rattle.sled_model.specs.Maps.{Merge}
 use Rattle.line_words.specs.Command.{command_of}
 use Rattle.line_words.specs.Print.{Prints}
-use Rattle.sled_lines.specs.Serve.{lines_of, crash_of, Lives, LivesOver, Serves}
+use Rattle.sled_lines.specs.Serve.{lines_of, crash_of, Lives, LivesOver, Serves, Place}
 use Rattle.sled_lines.specs.Session.{CanRun}
 use Rattle.line_words.specs.declared.command.Command.{Command}
 use Rattle.line_words.specs.declared.command.Command.TheVariants as command
-use Rattle.sled_lines.specs.declared.serve.Buffers.{Buffers}
 use Rattle.sled_lines.specs.declared.session.Session.{Session}
-use Rattle.sled_lines.specs.declared.serve.Line.{Line}
-use Rattle.sled_lines.specs.declared.serve.Line.TheVariants as line
-use Rattle.sled_lines.specs.declared.serve.End.{End}
-use Rattle.sled_lines.specs.declared.serve.End.TheVariants.{NoLine, BadLine, Crash}
+use Rattle.sled_lines.specs.declared.lines.Line.{Line}
+use Rattle.sled_lines.specs.declared.lines.Line.TheVariants as line
+use Rattle.sled_lines.specs.declared.lines.End.{End}
 
 -- What is read next tells whether a line is bad: it is the line of the number n, or there is none, or the same as before
 abbrev pub Reads : Option (Option ℕ) → Option (Option ℕ) → ℕ → Line → Type 0
@@ -22,12 +20,6 @@ Reads before after n line.NoLine = IfSome before (λ bad. bad ≡ None)
 Reads before after n line.BadLine = IfSome before (λ bad. bad ≡ Some n)
 Reads before after n (line.Crash keep) = IfSome before (λ bad. after ≡ Some bad)
 Reads before after n (line.Command c) = IfSome before (λ bad. after ≡ Some bad)
-
--- the same of how a session ends
-abbrev pub Ends : Option (Option ℕ) → Option (Option ℕ) → ℕ → End → Type 0
-Ends before after n NoLine = IfSome before (λ bad. bad ≡ None)
-Ends before after n BadLine = IfSome before (λ bad. bad ≡ Some n)
-Ends before after n (Crash keep) = IfSome before (λ bad. after ≡ Some bad)
 
 -- whether every line could be read
 abbrev pub Ran : Option (Option ℕ) → Bool → Type 0
@@ -79,16 +71,6 @@ IsToDo read (line.Command c) = (read ≡ Some c) × (crash_of c ≡ None)
 abbrev pub CanDo : Line → Type 0
 CanDo (line.Command c) = CanRun c
 CanDo l = Unit {0}
-
--- where a run stands: how many lines were read, what the reader has left, what the writer holds, and what is gathered for it
-pub record Place : Type 0 where
-  pub number : ℕ
-  pub left : Option (List ℕ)
-  pub held : Option (List ℕ)
-  pub gathered : List ℕ
-
-abbrev pub place : Buffers → Option (List ℕ) → Option (List ℕ) → Place
-place buffers left held = record { number = buffers.number; left = left; held = held; gathered = buffers.out.items }
 
 -- from here to there the session goes on over this text
 pub record LivesOn {P M : Type 0} (store : P → Store) (flush_number : P → ℕ) (meant : M → Merge) (s : Session P M) (here : Place) (e : End) (last : Session P M) (there : Place) (text : List ℕ) : Type 0 where

@@ -1,8 +1,17 @@
-use Rattle.std.proofs.Common.{[]}
+use Rattle.std.proofs.Common.{[], sym, ap, subst}
+use Rattle.sled_disk.specs.Disk.{LeavesOnly}
+use Rattle.sled_files.specs.Change.{nothing_yet}
+use Rattle.sled_files.specs.Standing.{IsBegun}
+use Rattle.sled_files.specs.Files.{Files}
+use Rattle.sled_files.proofs.OfStore.{of_none}
 use Rattle.sled_files.proofs.Grows.{spells_none}
 use Rattle.sled_files.proofs.Readying.{ready_new}
 use Rattle.sled_files.proofs.files.begin.Goals as goal
 
 pub returns-in-Ok-clause-ready : goal.returns-in-Ok-clause-ready
 returns-in-Ok-clause-ready g c =
-    ready_new g.D.Disk.seen g.D.Disk.may_leave c.begin_file.new.disk c.args.second c.in-Ok.ensures.durable c.requires.second_only c.in-Ok.gate 1 c.requires.blank (c.in-Ok.ensures.stands [] spells_none) c.new.result c.new.ensures
+    ready_new g.D.Disk.seen g.D.Disk.may_leave c.begin_file.new.disk c.args.second c.in-Ok.ensures.durable c.requires.second_only c.in-Ok.gate 1 c.requires.blank (c.in-Ok.ensures.stands [] spells_none of_none) c.new.result c.new.ensures
+
+pub returns-in-Ok-clause-first : goal.returns-in-Ok-clause-first
+returns-in-Ok-clause-first g c =
+    subst (λ (x : g.row.D.Denot). LeavesOnly g.D.Disk.moment g.D.Disk.left_since c.args.first x (IsBegun (g.D.Disk.seen c.args.first) 1 nothing_yet)) (sym (ap (λ (f : Files g.row.D.Denot). f.first) c.new.ensures)) (c.begin_file.ensures.any_moment [] spells_none of_none)

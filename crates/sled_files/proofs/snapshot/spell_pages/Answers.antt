@@ -8,10 +8,13 @@ use Rattle.sled_files.proofs.snapshot.spell_pages.Goals as goal
 pub loop-number-init : goal.loop-number-init
 loop-number-init c = makes_nothing (now (store_of c.args.pages.now)) c.new-out.ensures.items
 
+pub loop-number-preserved : goal.loop-number-preserved
+loop-number-preserved c = makes_same (page_more (now (store_of c.args.pages.now)) c.loop-number.number) (c.in_default.ensures.ok _ c.loop-number.invariant)
+
 pub returns-in-Ok-clause-ok : goal.returns-in-Ok-clause-ok
 returns-in-Ok-clause-ok c =
     let store = store_of c.args.pages.now in
     let greatest = c.numbers_given-greatest.result.0 in
     let same : c.loop-number.number ≡ greatest = omega (arith, c.loop-number.auto.number-end, c.loop-number-test.false, c.greatest.view_is) in
     makes_same (page_more (now store) greatest ∙ pages_all store greatest c.law_given.ensures c.numbers_given-greatest.ensures.pids)
-    (subst (λ (n : ℕ). Makes c.spell_page-2.new.out.items (with_page greatest ((now store).pages greatest) (pages_below (now store) n))) same (c.in-Ok.ensures.ok _ c.loop-number.invariant))
+    (subst (λ (n : ℕ). Makes store c.spell_page-2.new.out.items (with_page greatest ((now store).pages greatest) (pages_below (now store) n))) same (c.in-Ok.ensures.ok _ c.loop-number.invariant))

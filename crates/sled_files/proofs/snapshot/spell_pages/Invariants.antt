@@ -4,4 +4,4 @@ use Rattle.sled_files.specs.theory.Snapshot.{Makes, pages_below}
 use Rattle.sled_files.proofs.snapshot.spell_pages.Given as goal
 
 abbrev pub invariant-loop-number : goal.invariant-loop-number
-invariant-loop-number l = Makes l.out.items (pages_below (now (store_of l.pages)) l.number)
+invariant-loop-number l = Makes (store_of l.pages) l.out.items (pages_below (now (store_of l.pages)) l.number)

@@ -5,7 +5,7 @@ use Rattle.sled_files.proofs.Calls.{spells_action, swaps_done, within_acted, wit
 use Rattle.sled_files.proofs.spelled.cas_root.Goals as goal
 
 pub returns-in-Ok-Ok-clause-spelled : goal.returns-in-Ok-Ok-clause-spelled
-returns-in-Ok-Ok-clause-spelled c = spells_action (Rooted c.args.name.now c.args.new) (RootBecomes c.args.name.now c.args.new) c.in_default.ensures.fits c.in_default.ensures.ok refl (swaps_done c.in-Ok-Ok.field-0-is c.in-Ok-Ok.ensures.ok)
+returns-in-Ok-Ok-clause-spelled c = spells_action (Rooted c.args.name.now c.args.new) (RootBecomes c.args.name.now c.args.new) c.in_default.ensures.fits c.in_default.ensures.ok refl (swaps_done c.in-Ok-Ok.field-0-is c.in-Ok-Ok.ensures.ok) tt
 
 pub returns-in-Ok-Ok-clause-within : goal.returns-in-Ok-Ok-clause-within
 returns-in-Ok-Ok-clause-within c = λ limits w. within_acted w (RootBecomes c.args.name.now c.args.new) (swaps_done c.in-Ok-Ok.field-0-is c.in-Ok-Ok.ensures.ok)

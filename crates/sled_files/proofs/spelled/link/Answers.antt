@@ -1,3 +1,4 @@
+use Rattle.sled_pages.specs.theory.Laws.{law_given}
 use Rattle.sled_files.proofs.Calls.{spells_linked, changes_done, within_act, within_idles, idles_refused}
 use Rattle.sled_files.proofs.Numbers.{version_next}
 use Rattle.sled_files.proofs.spelled.link.Goals as goal
@@ -5,7 +6,7 @@ use Rattle.sled_files.proofs.spelled.link.Goals as goal
 pub returns-in-Ok-Ok-clause-spelled : goal.returns-in-Ok-Ok-clause-spelled
 returns-in-Ok-Ok-clause-spelled c =
     let h = changes_done c.in-Ok-Ok.field-0-is c.in-Ok-Ok.ensures.ok in
-    spells_linked c.args.pid c.args.version c.args.next _ c.args.link (version_next c.args.next _ c.requires c.numbers_given.ensures.versions h.is.2) c.in_default.ensures.fits c.in_default.ensures.ok h
+    spells_linked c.args.pid c.args.version c.args.next _ c.args.link (version_next c.args.next _ c.requires c.numbers_given.ensures.versions h.is.2) c.in_default.ensures.fits c.in_default.ensures.ok (law_given c.args.pages.now) h
 
 pub returns-in-Ok-Ok-clause-within : goal.returns-in-Ok-Ok-clause-within
 returns-in-Ok-Ok-clause-within c = λ limits w below.

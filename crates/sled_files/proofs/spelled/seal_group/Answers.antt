@@ -5,7 +5,7 @@ use Rattle.sled_files.proofs.Calls.{spells_action, within_acted, within_idles, i
 use Rattle.sled_files.proofs.spelled.seal_group.Goals as goal
 
 pub returns-in-Ok-clause-spelled : goal.returns-in-Ok-clause-spelled
-returns-in-Ok-clause-spelled c = spells_action Sealed GroupEnds c.in_default.ensures.fits c.in_default.ensures.ok refl c.in-Ok.ensures.ok
+returns-in-Ok-clause-spelled c = spells_action Sealed GroupEnds c.in_default.ensures.fits c.in_default.ensures.ok refl c.in-Ok.ensures.ok tt
 
 pub returns-in-Ok-clause-within : goal.returns-in-Ok-clause-within
 returns-in-Ok-clause-within c = λ limits w. within_acted w GroupEnds c.in-Ok.ensures.ok

@@ -1,4 +1,4 @@
-use Rattle.sled_lines.specs.theory.Serve.{place}
+use Rattle.sled_lines.specs.Serve.{place}
 use Rattle.sled_lines.proofs.Serving.{lived}
 use Rattle.sled_lines.proofs.serve.live.Goals as goal
 

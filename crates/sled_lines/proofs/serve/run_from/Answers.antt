@@ -1,5 +1,6 @@
 use Rattle.std.proofs.Common.{None, subst}
-use Rattle.sled_lines.specs.theory.Serve.{ServesFrom, place}
+use Rattle.sled_lines.specs.theory.Serve.{ServesFrom}
+use Rattle.sled_lines.specs.Serve.{place}
 use Rattle.sled_lines.proofs.Reading.{bad_same, bad_kept, bad_told, bad_some}
 use Rattle.sled_lines.proofs.Serving.{serves_end, serves_bad, serves_crash}
 use Rattle.sled_lines.proofs.serve.run_from.Goals as goal

@@ -3,7 +3,8 @@ use Rattle.sled_store.specs.Store.{now}
 use Rattle.sled_pages.specs.Memory.{store_of, empty_store}
 use Rattle.tree_laws.specs.Crashes.{IsValid}
 use Rattle.sled_lines.specs.Serve.{bad_left}
-use Rattle.sled_lines.specs.theory.Serve.{Place, ServesFrom, place}
+use Rattle.sled_lines.specs.theory.Serve.{ServesFrom}
+use Rattle.sled_lines.specs.Serve.{Place, place}
 use Rattle.sled_lines.proofs.serve.run_from.Given as goal
 
 -- the pages can be opened, the first bad line is still to be read, all that was printed is written, and whoever serves the lines to come

@@ -10,7 +10,7 @@ use Rattle.sled_files.proofs.file_pages.FilePages.flush_anew.Goals as goal
 
 pub invariant_of-self : goal.invariant_of-self
 invariant_of-self g c =
-    let whole = subst (λ (v : Stored g.row.D.Denot). Makes c.args.whole.now (whole_of v)) (sym c.self.view_is) c.requires.whole in
+    let whole = subst (λ (v : Stored g.row.D.Denot). Makes (store_of v.pages) c.args.whole.now (whole_of v)) (sym c.self.view_is) c.requires.whole in
     let out : (now (store_of c.self.inside.pages)).in_group ≡ false = ap (λ (v : Stored g.row.D.Denot). (now (stored_as v)).in_group) c.self.view_is ∙ c.requires.out in
     sound_refused _ c.begin_anew.new.files c.self.inside.asked c.begin_anew.new.faults c.self.invariant (⊎_elim (λ e. inl (e, refl)) (λ e. inr e) c.in-Err.ensures.err)
     (moments_anew _ c.begin_anew.new.files c.args.whole.now c.self.invariant out whole c.begin_anew.ensures.first c.begin_anew.ensures.second c.begin_anew.ensures.over c.begin_anew.ensures.any_moment)
@@ -23,19 +23,19 @@ returns-in-Err-clause-stays g c = rw (← c.self.view_is) (unchanged _ c.begin_a
 
 pub returns-in-Err-clause-any_moment : goal.returns-in-Err-clause-any_moment
 returns-in-Err-clause-any_moment g c =
-    let whole = subst (λ (v : Stored g.row.D.Denot). Makes c.args.whole.now (whole_of v)) (sym c.self.view_is) c.requires.whole in
+    let whole = subst (λ (v : Stored g.row.D.Denot). Makes (store_of v.pages) c.args.whole.now (whole_of v)) (sym c.self.view_is) c.requires.whole in
     let out : (now (store_of c.self.inside.pages)).in_group ≡ false = ap (λ (v : Stored g.row.D.Denot). (now (stored_as v)).in_group) c.self.view_is ∙ c.requires.out in
     rw (← c.self.view_is) (moments_anew _ c.begin_anew.new.files c.args.whole.now c.self.invariant out whole c.begin_anew.ensures.first c.begin_anew.ensures.second c.begin_anew.ensures.over c.begin_anew.ensures.any_moment)
 
 pub invariant_of-self-2 : goal.invariant_of-self-2
 invariant_of-self-2 g c =
-    let whole = subst (λ (v : Stored g.row.D.Denot). Makes c.args.whole.now (whole_of v)) (sym c.self.view_is) c.requires.whole in
+    let whole = subst (λ (v : Stored g.row.D.Denot). Makes (store_of v.pages) c.args.whole.now (whole_of v)) (sym c.self.view_is) c.requires.whole in
     let out : (now (store_of c.self.inside.pages)).in_group ≡ false = ap (λ (v : Stored g.row.D.Denot). (now (stored_as v)).in_group) c.self.view_is ∙ c.requires.out in
     rw (c.in_default.ensures.same, c.clear.ensures.items)
     (sound_anew _ c.begin_anew.new.files c.args.whole.now c.self.invariant out whole c.flush_uncounted.new.self c.in_default.ensures.up c.in_default.ensures.ready c.flush_uncounted.ensures.ok)
 
 pub returns-clause-any_moment : goal.returns-clause-any_moment
 returns-clause-any_moment g c =
-    let whole = subst (λ (v : Stored g.row.D.Denot). Makes c.args.whole.now (whole_of v)) (sym c.self.view_is) c.requires.whole in
+    let whole = subst (λ (v : Stored g.row.D.Denot). Makes (store_of v.pages) c.args.whole.now (whole_of v)) (sym c.self.view_is) c.requires.whole in
     let out : (now (store_of c.self.inside.pages)).in_group ≡ false = ap (λ (v : Stored g.row.D.Denot). (now (stored_as v)).in_group) c.self.view_is ∙ c.requires.out in
     rw (← c.self.view_is) (moments_anew _ c.begin_anew.new.files c.args.whole.now c.self.invariant out whole c.begin_anew.ensures.first c.begin_anew.ensures.second c.begin_anew.ensures.over c.begin_anew.ensures.any_moment)

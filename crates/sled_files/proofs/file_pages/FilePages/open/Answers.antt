@@ -1,5 +1,7 @@
-use Rattle.sled_files.specs.Stored.{stored_as}
-use Rattle.sled_files.proofs.Reopening.{stands_opened, within_opened, opens_to, recovers_each, begins_new}
+use Rattle.std.proofs.Common.{sym, subst}
+use Rattle.sled_files.specs.Stored.{Stored, stored_as}
+use Rattle.sled_files.specs.Opening.{LeavesWhileOpened}
+use Rattle.sled_files.proofs.Reopening.{stands_opened, within_opened, opens_to, recovers_each, begins_new, refused_openable, lasts_while}
 use Rattle.sled_files.proofs.file_pages.FilePages.open.Goals as goal
 
 pub new-requires-clause-stands : goal.new-requires-clause-stands
@@ -16,3 +18,12 @@ returns-in-Ok-clause-recovers g c = recovers_each g.D.Disk.seen g.D.Disk.may_lea
 
 pub returns-in-Ok-clause-begins : goal.returns-in-Ok-clause-begins
 returns-in-Ok-clause-begins g c = begins_new g.D.Disk.seen g.D.Disk.may_leave (g.D.Disk.seen c.args.first) (g.D.Disk.seen c.args.second) c.new.result.files (stored_as c.new.result) (returns-in-Ok-clause-opens g c)
+
+pub returns-in-Err-clause-refused : goal.returns-in-Err-clause-refused
+returns-in-Err-clause-refused g c = refused_openable (g.D.Disk.seen c.args.first) (g.D.Disk.seen c.args.second) c.in-Err.e c.in-Err.ensures.err
+
+pub returns-in-Ok-clause-any_moment : goal.returns-in-Ok-clause-any_moment
+returns-in-Ok-clause-any_moment g c = subst (λ (f : Stored g.row.D.Denot). LeavesWhileOpened g.D.Disk.seen g.D.Disk.moment g.D.Disk.left_since g.D.Disk.may_leave c.args.first c.args.second f.files) (sym c.new.ensures) c.in-Ok.ensures.any_moment
+
+pub returns-in-Ok-clause-lasts : goal.returns-in-Ok-clause-lasts
+returns-in-Ok-clause-lasts g c = lasts_while c.args.first c.args.second c.new.result.files (returns-in-Ok-clause-any_moment g c) c.law_may_stay.ensures c.law_may_stay-2.ensures

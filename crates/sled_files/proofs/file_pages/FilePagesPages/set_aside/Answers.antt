@@ -1,8 +1,8 @@
-use Rattle.std.proofs.Common.{◌∷◌, [], inl, inr, refl, sym, subst, List, ℕ, rules}
+use Rattle.std.proofs.Common.{◌≤◌, ◌∷◌, [], inl, inr, refl, sym, subst, List, ℕ, rules}
 use Rattle.sled_pages.specs.Memory.{store_of}
 use Rattle.sled_bytes.specs.declared.change.Change.TheVariants.{Marked}
 use Rattle.sled_files.specs.Pending.{Spells}
-use Rattle.sled_files.specs.Stored.{asked_of}
+use Rattle.sled_files.specs.Stored.{Stored, asked_of}
 use Rattle.sled_files.proofs.Over.{own_fault}
 use Rattle.sled_files.proofs.Moments.{moments_none, asks_more}
 use Rattle.sled_files.proofs.Added.{sound_marked, sound_asked, moments_marked, asks_by}
@@ -14,20 +14,23 @@ returns-in-Err-clause-any_moment g c = rw (← c.self.view_is) (moments_none c.l
 
 pub invariant_of-self : goal.invariant_of-self
 invariant_of-self g c =
+    let le : c.self.inside.mark ≤ c.args.upto = subst (λ (v : Stored g.row.D.Denot). v.mark ≤ c.args.upto) (sym c.self.view_is) c.requires in
     let spells = subst (λ (l : List ℕ). Spells l (Marked c.args.upto ∷ [])) (sym c.deref.ensures.value) c.in-Ok.ensures.ok in
-    sound_asked _ c.add.new.files c.deref.result.now c.add.ensures.first c.add.ensures.second c.self.invariant c.add.ensures.over c.add.ensures.any_moment c.args.upto c.asked_then-self-inside.result c.add.new.faults spells (search rules) c.in-Err-add.ensures.err
+    sound_asked _ c.add.new.files c.deref.result.now c.add.ensures.first c.add.ensures.second c.self.invariant c.add.ensures.over c.add.ensures.any_moment c.args.upto c.asked_then-self-inside.result c.add.new.faults le spells (search rules) c.in-Err-add.ensures.err
 
 pub returns-in-Err-add-clause-err : goal.returns-in-Err-add-clause-err
 returns-in-Err-add-clause-err g c = rw (← c.self.view_is) (own_fault (store_of c.self.inside.pages) c.in-Err-add.ensures.fault)
 
 pub returns-in-Err-add-clause-any_moment : goal.returns-in-Err-add-clause-any_moment
 returns-in-Err-add-clause-any_moment g c =
+    let le : c.self.inside.mark ≤ c.args.upto = subst (λ (v : Stored g.row.D.Denot). v.mark ≤ c.args.upto) (sym c.self.view_is) c.requires in
     let spells = subst (λ (l : List ℕ). Spells l (Marked c.args.upto ∷ [])) (sym c.deref.ensures.value) c.in-Ok.ensures.ok in
     rw (← c.self.view_is)
-    (moments_marked _ c.add.new.files c.deref.result.now c.add.ensures.first c.add.ensures.second c.self.invariant c.add.ensures.over c.add.ensures.any_moment c.args.upto (c.args.upto ∷ asked_of c.self.inside.asked) spells (λ q i. inr i) (inl refl))
+    (moments_marked _ c.add.new.files c.deref.result.now c.add.ensures.first c.add.ensures.second c.self.invariant c.add.ensures.over c.add.ensures.any_moment c.args.upto (c.args.upto ∷ asked_of c.self.inside.asked) le spells (λ q i. inr i) (inl refl))
 
 pub invariant_of-self-2 : goal.invariant_of-self-2
 invariant_of-self-2 g c =
+    let le : c.self.inside.mark ≤ c.args.upto = subst (λ (v : Stored g.row.D.Denot). v.mark ≤ c.args.upto) (sym c.self.view_is) c.requires in
     let spells = subst (λ (l : List ℕ). Spells l (Marked c.args.upto ∷ [])) (sym c.deref.ensures.value) c.in-Ok.ensures.ok in
     rw c.in_default.ensures.same (sound_marked _ c.add.new.files c.deref.result.now c.args.upto c.self.invariant c.in_default.ensures.up c.in_default.ensures.ready spells)
 
@@ -36,9 +39,10 @@ returns-clause-ok g c = rw (← c.self.view_is, c.in_default.ensures.same) refl
 
 pub returns-clause-any_moment : goal.returns-clause-any_moment
 returns-clause-any_moment g c =
+    let le : c.self.inside.mark ≤ c.args.upto = subst (λ (v : Stored g.row.D.Denot). v.mark ≤ c.args.upto) (sym c.self.view_is) c.requires in
     let spells = subst (λ (l : List ℕ). Spells l (Marked c.args.upto ∷ [])) (sym c.deref.ensures.value) c.in-Ok.ensures.ok in
     rw (← c.self.view_is)
-    (moments_marked _ c.add.new.files c.deref.result.now c.add.ensures.first c.add.ensures.second c.self.invariant c.add.ensures.over c.add.ensures.any_moment c.args.upto (c.args.upto ∷ asked_of c.self.inside.asked) spells (λ q i. inr i) (inl refl))
+    (moments_marked _ c.add.new.files c.deref.result.now c.add.ensures.first c.add.ensures.second c.self.invariant c.add.ensures.over c.add.ensures.any_moment c.args.upto (c.args.upto ∷ asked_of c.self.inside.asked) le spells (λ q i. inr i) (inl refl))
 
 pub returns-in-Err-add-clause-asks : goal.returns-in-Err-add-clause-asks
 returns-in-Err-add-clause-asks g c = rw (← c.self.view_is) (record { is = asks_by c.self.inside.files.failed c.add.new.files.failed c.self.inside.asked c.asked_then-self-inside.result c.args.upto (search rules) })

@@ -9,7 +9,7 @@ use Rattle.sled_files.proofs.Pairs.{while_unasked, while_added, once_added}
 use Rattle.sled_files.proofs.two_files.TwoFiles.append.Goals as goal
 
 pub returns-in_err-block-clause-any_moment : goal.returns-in_err-block-clause-any_moment
-returns-in_err-block-clause-any_moment g c d changes ready spells =
+returns-in_err-block-clause-any_moment g c d changes ready spells added =
     let disk = g.D.Disk in
     let inside = c.self.inside in
     let old : Files g.row.D.Denot = record { first = inside.first; second = inside.second; is_second = inside.is_second; gate = inside.gate; generation = inside.generation; failed = inside.failed } in
@@ -17,7 +17,7 @@ returns-in_err-block-clause-any_moment g c d changes ready spells =
     subst (λ (f : Files g.row.D.Denot). LeavesPairs disk.moment disk.left_since disk.may_leave f f (AreForEither d (changed_all changes d))) c.self.view_is (while_unasked disk.seen disk.moment disk.left_since disk.may_leave old d (changed_all changes d) c.laws_of.ensures.first c.laws_of.ensures.second before)
 
 pub returns-then-saturating_sub-len-clause-any_moment : goal.returns-then-saturating_sub-len-clause-any_moment
-returns-then-saturating_sub-len-clause-any_moment g c d changes ready spells =
+returns-then-saturating_sub-len-clause-any_moment g c d changes ready spells added =
     let disk = g.D.Disk in
     let inside = c.self.inside in
     let old : Files g.row.D.Denot = record { first = inside.first; second = inside.second; is_second = inside.is_second; gate = inside.gate; generation = inside.generation; failed = inside.failed } in
@@ -25,7 +25,7 @@ returns-then-saturating_sub-len-clause-any_moment g c d changes ready spells =
     subst (λ (f : Files g.row.D.Denot). LeavesPairs disk.moment disk.left_since disk.may_leave f f (AreForEither d (changed_all changes d))) c.self.view_is (while_unasked disk.seen disk.moment disk.left_since disk.may_leave old d (changed_all changes d) c.laws_of.ensures.first c.laws_of.ensures.second before)
 
 pub returns-in_err-added-clause-any_moment : goal.returns-in_err-added-clause-any_moment
-returns-in_err-added-clause-any_moment g c d changes ready spells =
+returns-in_err-added-clause-any_moment g c d changes ready spells added =
     let disk = g.D.Disk in
     let inside = c.self.inside in
     let old : Files g.row.D.Denot = record { first = inside.first; second = inside.second; is_second = inside.is_second; gate = inside.gate; generation = inside.generation; failed = inside.failed } in
@@ -35,10 +35,10 @@ returns-in_err-added-clause-any_moment g c d changes ready spells =
     let block = c.deref.result.now in
     let is : block ≡ behind_gate digest c.args.payload.now = c.deref.ensures.value ∙ c.in_ok-block.ensures.ok in
     subst (λ (f : Files g.row.D.Denot). LeavesPairs disk.moment disk.left_since disk.may_leave f new (AreForEither d (changed_all changes d))) c.self.view_is
-    (while_added disk.seen disk.moment disk.left_since disk.may_leave old new d c.laws_of.ensures.first c.laws_of.ensures.second c.laws_of-2.ensures.first c.laws_of-2.ensures.second before spells few block is (c.append_to_one-added.ensures.any_moment (block_for before.stands spells few block is)) c.append_to_one-added.ensures.other)
+    (while_added disk.seen disk.moment disk.left_since disk.may_leave old new d c.laws_of.ensures.first c.laws_of.ensures.second c.laws_of-2.ensures.first c.laws_of-2.ensures.second before spells added few block is (c.append_to_one-added.ensures.any_moment (block_for before.stands spells added few block is)) c.append_to_one-added.ensures.other)
 
 pub returns-clause-any_moment : goal.returns-clause-any_moment
-returns-clause-any_moment g c d changes ready spells =
+returns-clause-any_moment g c d changes ready spells added =
     let disk = g.D.Disk in
     let inside = c.self.inside in
     let old : Files g.row.D.Denot = record { first = inside.first; second = inside.second; is_second = inside.is_second; gate = inside.gate; generation = inside.generation; failed = inside.failed } in
@@ -48,10 +48,10 @@ returns-clause-any_moment g c d changes ready spells =
     let block = c.deref.result.now in
     let is : block ≡ behind_gate digest c.args.payload.now = c.deref.ensures.value ∙ c.in_ok-block.ensures.ok in
     subst (λ (f : Files g.row.D.Denot). LeavesPairs disk.moment disk.left_since disk.may_leave f new (AreForEither d (changed_all changes d))) c.self.view_is
-    (while_added disk.seen disk.moment disk.left_since disk.may_leave old new d c.laws_of.ensures.first c.laws_of.ensures.second c.laws_of-2.ensures.first c.laws_of-2.ensures.second before spells few block is (c.append_to_one-added.ensures.any_moment (block_for before.stands spells few block is)) c.append_to_one-added.ensures.other)
+    (while_added disk.seen disk.moment disk.left_since disk.may_leave old new d c.laws_of.ensures.first c.laws_of.ensures.second c.laws_of-2.ensures.first c.laws_of-2.ensures.second before spells added few block is (c.append_to_one-added.ensures.any_moment (block_for before.stands spells added few block is)) c.append_to_one-added.ensures.other)
 
 pub returns-clause-ready : goal.returns-clause-ready
-returns-clause-ready g c d changes ready spells =
+returns-clause-ready g c d changes ready spells added =
     let disk = g.D.Disk in
     let inside = c.self.inside in
     let old : Files g.row.D.Denot = record { first = inside.first; second = inside.second; is_second = inside.is_second; gate = inside.gate; generation = inside.generation; failed = inside.failed } in
@@ -61,5 +61,5 @@ returns-clause-ready g c d changes ready spells =
     let is : block ≡ behind_gate digest c.args.payload.now = c.deref.ensures.value ∙ c.in_ok-block.ensures.ok in
     let longer = disk.seen (picked inside.is_second c.append_to_one-added.new.first c.append_to_one-added.new.second) in
     let place : inside.gate + length block ≡ inside.gate + c.len-2.result = omega (arith, c.len-2.ensures, ap length c.deref.ensures.value) in
-    let log : IsLog digest longer (payloads before.stands.stands ++ c.args.payload.now ∷ []) (inside.gate + c.len-2.result) = subst (λ (n : ℕ). IsLog digest longer (payloads before.stands.stands ++ c.args.payload.now ∷ []) n) place (c.in_ok-added.ensures.next (block_for before.stands spells few block is)) in
-    once_added disk.seen disk.moment disk.left_since disk.may_leave old c.append_to_one-added.new.first c.append_to_one-added.new.second (inside.gate + c.len-2.result) d (changed_all changes d) before c.append_to_one-added.ensures.other c.in_ok-added.ensures.durable (stands_after before.stands spells few longer (inside.gate + c.len-2.result) log)
+    let log : IsLog digest longer (payloads before.stands.stands ++ c.args.payload.now ∷ []) (inside.gate + c.len-2.result) = subst (λ (n : ℕ). IsLog digest longer (payloads before.stands.stands ++ c.args.payload.now ∷ []) n) place (c.in_ok-added.ensures.next (block_for before.stands spells added few block is)) in
+    once_added disk.seen disk.moment disk.left_since disk.may_leave old c.append_to_one-added.new.first c.append_to_one-added.new.second (inside.gate + c.len-2.result) d (changed_all changes d) before c.append_to_one-added.ensures.other c.in_ok-added.ensures.durable (stands_after before.stands spells added few longer (inside.gate + c.len-2.result) log)

@@ -1,0 +1,2 @@
+-- What proofs need and no public contract names.
+pub mod Owned

@@ -1,0 +1,1 @@
+pub use Rattle.sled_nodes.specs as sled_nodes
