@@ -1,6 +1,6 @@
 //! Taking the state out, once all callers are done.
-ghost use Rattle.std.specs.Prelude.{◌≡◌, All, IfOk, IfErr, vec_len};
-ghost use Rattle.sled_shared.specs.Gathered.{EachOnce, IsMadeIn, IsOfGiven};
+ghost use Rattle.std.specs.Prelude.{◌≡◌, ◌+◌, All, IfOk, IfErr, vec_len};
+ghost use Rattle.sled_shared.specs.Gathered.{EachOnceBehind, IsMadeIn, IsOfGiven};
 ghost use Rattle.sled_shared.specs.Sound.{HasLegalHistory, HasRisingIds};
 
 use sled_model::MergeOperator;
@@ -22,9 +22,9 @@ pub fn gather_one<P: Pages, L: Ledger, M: MergeOperator>(
     Db<P, L, M>,
 )
     ensures count { IfOk result.0 (λ s. vec_len handles ≡ shared.given) }
-    ensures numbers { IfOk result.0 (λ s. EachOnce shared.given handles.items) }
+    ensures numbers { IfOk result.0 (λ s. EachOnceBehind shared.before shared.given handles.items) }
     ensures made { IfOk result.0 (λ s. All (IsMadeIn s.history) handles.items) }
-    ensures others { IfOk result.0 (λ s. All (IsOfGiven shared.given) s.history) }
+    ensures others { IfOk result.0 (λ s. All (IsOfGiven (shared.before + shared.given)) s.history) }
     ensures opening { IfOk result.0 (λ s. s.opening ≡ shared.opening) }
     ensures legal { IfOk result.0 (HasLegalHistory P.store) }
     ensures ids { IfOk result.0 HasRisingIds }

@@ -1,10 +1,14 @@
 //! Calls of a caller.
-ghost use Rattle.std.specs.Prelude.{◌≡◌, ◌++◌};
+ghost use Rattle.std.specs.Prelude.{◌≡◌, ◌++◌, ◌∷◌, [], IfOk, OnErr};
 ghost use Rattle.sled_model.specs.State.{IsOnKey};
+ghost use Rattle.sled_shared.specs.Made.{ReadMade};
 ghost use Rattle.sled_shared.specs.Notes.{IsEnd, noted_of};
+ghost use Rattle.sled_shared.specs.Reads.{IsAnswerTo};
+ghost use Rattle.sled_shared.specs.declared.read.Read.TheVariants as read;
 
 use sled_model::{Call, MergeOperator, Outcome, Tree};
-use sled_shared::{Gate, Handle};
+use sled_nodes::Result;
+use sled_shared::{Answer, Gate, Handle, Question};
 use sled_store::Pages;
 use std::sync::Wait;
 use std::sync::ledger::Ledger;
@@ -23,4 +27,19 @@ pub fn call<P: Pages, L: Ledger, M: MergeOperator>(
     ensures ends { IsEnd result }
 {
     handle.call(rt, tree, call, gate)
+}
+
+/// A read under one lock. It is noted with what it told.
+pub fn read<P: Pages, L: Ledger, M: MergeOperator>(
+    handle: &mut Handle<P, L, M>,
+    rt: &impl Wait,
+    tree: &Tree,
+    question: Question,
+) -> Result<Answer>
+    ensures kind { IfOk result (IsAnswerTo question) }
+    ensures ok { IfOk result (λ answer. handle.new.made ≡ handle.old.made ++ ReadMade (read.Tree tree.now question answer) ∷ []) }
+    ensures err { OnErr result (handle.new.made ≡ handle.old.made) }
+    ensures number { handle.new.number ≡ handle.old.number }
+{
+    handle.read(rt, tree, question)
 }

@@ -9,5 +9,5 @@ mod state;
 
 pub use callers::step_of_one;
 pub use gathering::gather_one;
-pub use handle::call;
+pub use handle::{call, read};
 pub use state::{step, whole};

@@ -9,7 +9,7 @@ use Rattle.sled_model.specs.declared.call.Call.{Call}
 use Rattle.sled_model.specs.declared.call.Call.TheVariants.{Get}
 use Rattle.sled_model.specs.declared.tree.Tree.{Tree}
 use Rattle.sled_shared.specs.History.{makes_as}
-use Rattle.sled_shared.specs.Made.{MadeValue, PointMade, WholeMade, PartsMade, EntryValue}
+use Rattle.sled_shared.specs.Made.{MadeValue, PointMade, WholeMade, PartsMade, ReadMade, EntryValue}
 use Rattle.sled_shared.specs.Wholes.{WholeValue, Flush, PopMin, PopMax, Clear, Group, OpenTree, DropTree, GenerateId, Import, Watch, Next, Unsubscribe}
 
 -- the value at a key of a map, if there are the map and the key
@@ -58,6 +58,7 @@ abbrev pub passes_by : Key → Key → MadeValue → Type 0
 passes_by tree key (PointMade t call reply) = point_passes tree key t call
 passes_by tree key (WholeMade whole reply) = whole_passes tree whole
 passes_by tree key (PartsMade whole number) = ⊥
+passes_by tree key (ReadMade read) = Unit {0}
 
 -- what passes a key by leaves what stands there
 abbrev pub LeavesLaw : Type 0

@@ -73,6 +73,7 @@ fn handles_of<L: Ledger, M: MergeOperator>(
     requires { shared.old.given ≡ 0 }
     ensures unused { IfOk result (λ hs. All (λ h. h.made ≡ []) hs.items) }
     ensures given { IfOk result (λ hs. shared.new.given ≡ callers) }
+    ensures before { shared.new.before ≡ shared.old.before }
     ensures opening { shared.new.opening ≡ shared.old.opening }
 {
     let mut handles = Vec::new(alloc);
@@ -164,6 +165,7 @@ fn taken<L: Ledger, M: MergeOperator>(
     handles: Vec<Handle<MemPages, L, M>>,
     times: u64,
 ) -> Result<State<MemPages, L, M>, Option<State<MemPages, L, M>>>
+    requires { shared.before ≡ 0 }
     ensures opening { IfOk result (λ s. s.opening ≡ shared.opening) }
     ensures left { IfErr result (λ left. IfSome left (λ s. s.opening ≡ shared.opening)) }
     ensures raised { IfOk result (λ s. (tree : Tree) (key : Key) → All (OnlyRaises tree key) handles.items → StandsHigher store_of tree key (shared.given * times) s) }
@@ -194,7 +196,8 @@ fn raised_beside<L: Ledger + Send + Sync, M: MergeOperator + Send, R: Threads + 
     key: &[u8],
     times: u64,
 ) -> Result<State<MemPages, L, M>, Option<State<MemPages, L, M>>>
-    requires { shared.given ≡ 0 }
+    requires none { shared.given ≡ 0 }
+    requires before { shared.before ≡ 0 }
     ensures opening { IfOk result (λ s. s.opening ≡ shared.opening) }
     ensures left { IfErr result (λ left. IfSome left (λ s. s.opening ≡ shared.opening)) }
     ensures raised { IfOk result (StandsHigher store_of tree.now key.now (callers * times)) }

@@ -1,9 +1,10 @@
 //! Calls of a caller, and what came of them, boiled down to small values.
 use crate::beside::{Scene, Way, is_done, require};
+use crate::reading::{count_told, look_told};
 use shared_examples::{Raised, add_one, push, raise, take};
 use sled_batch::Batch;
 use sled_machine::shared::Made;
-use sled_machine::{Call, Next, Outcome, Reply, Slot, Subscriber, Tree, Whole};
+use sled_machine::{Call, Collection, Next, Outcome, Reply, Slot, Subscriber, Tree, Whole};
 use sled_nodes::{Error, IVec};
 use std::alloc::{AllocError, Global};
 use std::ops::Bound;
@@ -46,6 +47,21 @@ pub enum Ask<'a> {
     Watch,
     Next(u64),
     Unsubscribe(u64),
+    /// Reads under one lock: the value at a key, whether it is there, and the pairs just below and above it.
+    Look(&'a [u8]),
+    Has(&'a [u8]),
+    Below(&'a [u8]),
+    Above(&'a [u8]),
+    /// The first and the last pair, how many there are, and whether there is none.
+    First,
+    Last,
+    Len,
+    IsEmpty,
+    /// A page from this key on, from its end if so, with so many pairs at the most.
+    Page(&'a [u8], bool, usize),
+    /// The names of all trees, and all pairs.
+    Names,
+    Export,
     /// A step of the call in this slot.
     Step(u64),
     /// The call in this slot is given up.
@@ -65,6 +81,9 @@ pub enum Told {
     End,
     /// The job that is this number.
     Job(u64),
+    Flag(bool),
+    /// So many pairs or names, or pairs with these numbers as their keys, a byte each.
+    Pairs(u64),
     Popped,
     Done,
     Dropped,
@@ -86,8 +105,8 @@ pub enum Told {
     Other,
 }
 
-// The number of these bytes, the highest first. Of more than eight the last ones count.
-fn number_of(bytes: &[u8]) -> u64 {
+/// The number of these bytes, the highest first. Of more than eight the last ones count.
+pub fn number_of(bytes: &[u8]) -> u64 {
     let mut number = 0u64;
     for byte in bytes {
         number = number << 8 | u64::from(*byte);
@@ -95,7 +114,8 @@ fn number_of(bytes: &[u8]) -> u64 {
     number
 }
 
-fn next_told(next: &Next) -> Told {
+/// What an event tells, or that some were missed.
+pub fn next_told(next: &Next) -> Told {
     match next {
         Next::Event(sled_model::Event::Insert { key, .. }) => Told::Event(number_of(key.as_ref())),
         Next::Event(_) => Told::Other,
@@ -103,7 +123,8 @@ fn next_told(next: &Next) -> Told {
     }
 }
 
-fn reply_told(reply: &Reply) -> Told {
+/// What a reply tells.
+pub fn reply_told(reply: &Reply) -> Told {
     match reply {
         Reply::Value(Some(value)) => Told::Value(number_of(value.as_ref())),
         Reply::Value(None) => Told::NoValue,
@@ -153,16 +174,23 @@ fn bytes_of<R: Abort>(rt: &R, scene: &Scene, bytes: &[u8]) -> IVec {
     IVec::from_slice(scene.alloc, bytes).expect(rt, "memory")
 }
 
-// A group of one insert.
-fn group_of<R: Abort>(rt: &R, scene: &Scene, tree: Tree, key: &[u8], value: &[u8]) -> Whole {
+/// A batch of one insert.
+pub fn batch_of<R: Abort>(rt: &R, scene: &Scene, key: &[u8], value: &[u8]) -> Batch {
     let mut batch = Batch::default(scene.alloc);
     let written = batch.insert(scene.alloc, key, value);
     written.expect(rt, "memory");
-    Whole::Group(vec![in scene.alloc; (tree, batch)].expect(rt, "memory"))
+    batch
 }
 
-// An import of so many pairs of one key.
-fn import_of<R: Abort>(rt: &R, scene: &Scene, key: &[u8], count: u8) -> Whole {
+/// The batches of a group of one insert.
+pub fn batches_of<R: Abort>(rt: &R, scene: &Scene, key: &[u8], value: &[u8]) -> Vec<(Tree, Batch)> {
+    let tree = scene.tree.clone().expect(rt, "memory");
+    let batch = batch_of(rt, scene, key, value);
+    vec![in scene.alloc; (tree, batch)].expect(rt, "memory")
+}
+
+/// So many pairs of one key, to be imported.
+pub fn pairs_of<R: Abort>(rt: &R, scene: &Scene, key: &[u8], count: u8) -> Vec<Collection> {
     let mut pairs = Vec::new(scene.alloc);
     for _ in 0..count {
         let pair = (bytes_of(rt, scene, key), bytes_of(rt, scene, key));
@@ -170,7 +198,7 @@ fn import_of<R: Abort>(rt: &R, scene: &Scene, key: &[u8], count: u8) -> Whole {
     }
     let kind = Vec::from_slice(scene.alloc, b"tree").expect(rt, "memory");
     let name = Vec::from_slice(scene.alloc, scene.tree.name.as_ref()).expect(rt, "memory");
-    Whole::Import(vec![in scene.alloc; (kind, name, pairs)].expect(rt, "memory"))
+    vec![in scene.alloc; (kind, name, pairs)].expect(rt, "memory")
 }
 
 // The whole call on the tree that is asked for.
@@ -180,7 +208,6 @@ fn whole_on<R: Abort>(rt: &R, scene: &Scene, ask: Ask<'_>) -> Whole {
         Ask::PopMin => Whole::PopMin(tree),
         Ask::PopMax => Whole::PopMax(tree),
         Ask::Clear => Whole::Clear(tree),
-        Ask::Group(key, value) => group_of(rt, scene, tree, key, value),
         _ => Whole::Watch(tree, bytes_of(rt, scene, b"")),
     }
 }
@@ -188,7 +215,8 @@ fn whole_on<R: Abort>(rt: &R, scene: &Scene, ask: Ask<'_>) -> Whole {
 // The whole call that is asked for.
 fn whole_of<R: Abort>(rt: &R, scene: &Scene, ask: Ask<'_>) -> Whole {
     match ask {
-        Ask::Import(key, count) => import_of(rt, scene, key, count),
+        Ask::Group(key, value) => Whole::Group(batches_of(rt, scene, key, value)),
+        Ask::Import(key, count) => Whole::Import(pairs_of(rt, scene, key, count)),
         Ask::Flush => Whole::Flush,
         Ask::OpenTree(name) => Whole::OpenTree(bytes_of(rt, scene, name)),
         Ask::DropTree => Whole::DropTree(scene.tree.name.clone().expect(rt, "memory")),
@@ -242,7 +270,8 @@ fn next_of(alloc: Global, stood: Option<&[u8]>) -> Result<Option<Vec<u8>>, Alloc
     Ok(Some(Vec::from_slice(alloc, &number.to_be_bytes())?))
 }
 
-fn value_told(value: Result<Option<IVec>, Error>) -> Told {
+/// What a value tells that was looked up.
+pub fn value_told(value: Result<Option<IVec>, Error>) -> Told {
     let told = match &value {
         Ok(Some(value)) => Told::Value(number_of(value.as_ref())),
         Ok(None) => Told::NoValue,
@@ -275,6 +304,12 @@ pub fn told_of<L: Ledger, R: Wait + Abort>(
         }
         Ask::Push(job) => answer_told(push(rt, alloc, handle, tree, job).map(|_| Told::Number)),
         Ask::Take => answer_told(take(rt, handle, tree).map(job_told)),
+        Ask::Look(_) | Ask::Has(_) | Ask::Below(_) | Ask::Above(_) | Ask::First | Ask::Last => {
+            look_told(rt, scene, handle, ask)
+        }
+        Ask::Len | Ask::IsEmpty | Ask::Page(_, _, _) | Ask::Names | Ask::Export => {
+            count_told(rt, scene, handle, ask)
+        }
         _ => outcome_told(outcome_of(rt, scene, handle, ask)),
     }
 }

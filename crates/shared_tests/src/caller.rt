@@ -1,6 +1,7 @@
 //! A caller of a trial. What it does knows neither its handle nor the runtime.
 use crate::asking::{Ask, Told, call_of, outcome_told, told_of};
 use crate::beside::{Scene, Way, require};
+use crate::naming::named_told;
 use sled_machine::shared::{Gate, Made};
 use sled_model::Call;
 use std::process::Abort;
@@ -14,6 +15,9 @@ pub trait Caller {
 
     /// Makes the call. What came of it.
     fn ask(&mut self, ask: Ask<'_>) -> Told;
+
+    /// Makes a whole call by its own name. What came of it.
+    fn ask_named(&mut self, ask: Ask<'_>) -> Told;
 
     /// Inserts a value at a key, with a gate between two steps. What came of it.
     fn insert_past<G: Gate>(&mut self, key: &[u8], value: &[u8], gate: &G) -> Told;
@@ -40,6 +44,10 @@ impl<L: Ledger, R: Wait + Abort> Caller for Seat<'_, L, R> {
 
     fn ask(&mut self, ask: Ask<'_>) -> Told {
         told_of(self.rt, self.scene, self.handle, ask)
+    }
+
+    fn ask_named(&mut self, ask: Ask<'_>) -> Told {
+        named_told(self.rt, self.scene, self.handle, ask)
     }
 
     fn insert_past<G: Gate>(&mut self, key: &[u8], value: &[u8], gate: &G) -> Told {

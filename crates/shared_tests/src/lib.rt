@@ -1,9 +1,11 @@
 //! Tests of a database that threads share. Each ends by itself, and comes out the same whatever the schedule, as long as a thread that
 //! waits for another one does not look in vain a hundred million times; then the test fails. `beside` has callers work in threads of their own,
 //! gathers the state, and looks at what they made; a `trial` says which `turns` each `caller` takes, and what has to come of them; `asking`
-//! makes a call and boils down what came of it; a `replay` makes the calls of a history again, on a plain map.
+//! makes a call and boils down what came of it, by `naming` and `reading` too; a `replay` makes the calls of a history again, on a plain map.
 #![tactic(auto)]
 
+#[cfg(test)]
+mod again_tests;
 #[cfg(test)]
 mod asking;
 #[cfg(test)]
@@ -29,7 +31,13 @@ mod handover_tests;
 #[cfg(test)]
 mod lagging_tests;
 #[cfg(test)]
+mod naming;
+#[cfg(test)]
 mod queue_tests;
+#[cfg(test)]
+mod read_tests;
+#[cfg(test)]
+mod reading;
 #[cfg(test)]
 mod reclaim_tests;
 #[cfg(test)]
@@ -40,6 +48,8 @@ mod scan_tests;
 mod state_tests;
 #[cfg(test)]
 mod taking_tests;
+#[cfg(test)]
+mod transaction_tests;
 #[cfg(test)]
 mod trial;
 #[cfg(test)]

@@ -1,4 +1,5 @@
 //! The calls of a history, made again on a plain map.
+use crate::reading::reads;
 use sled_batch::Batch;
 use sled_machine::shared::{Entry, Made};
 use sled_model::{Call, Collection, Reply, Tree, Whole};
@@ -28,8 +29,8 @@ fn set<R: Abort>(rt: &R, map: &mut Plain, key: &IVec, value: &Option<IVec>) {
     }
 }
 
-// Whether this stands at a key.
-fn stands(map: &Plain, key: &IVec, value: &Option<IVec>) -> bool {
+/// Whether this stands at a key.
+pub fn stands(map: &Plain, key: &IVec, value: &Option<IVec>) -> bool {
     match (map.get(key), value) {
         (Some(there), Some(value)) => there == value,
         (None, None) => true,
@@ -132,6 +133,7 @@ fn makes_made<R: Abort>(rt: &R, map: &mut Plain, made: &Made) -> bool {
             true
         }
         Made::Parts(_, _) => false,
+        Made::Read(read) => reads(map, read),
     }
 }
 

@@ -56,6 +56,10 @@ pub enum Turn<'a> {
     Put(Place<'a>, u64),
     /// Makes a call so often that tells a number. Each is greater than the one before.
     Count(Ask<'a>, usize),
+    /// Makes a whole call by its own name, of which this has to come.
+    Named(Ask<'a>, Told),
+    /// Makes a call so often, of which anything may come.
+    Again(Ask<'a>, u64),
     /// Begins a call.
     Begin(Ask<'a>, Signal),
     /// Steps the call that was begun for others as often as the trial says. It goes on each time.
@@ -333,6 +337,15 @@ fn begin_or_wait<C: Caller>(scene: &Scene, caller: &mut C, turn: Turn<'_>) {
         Turn::Abandon => {
             let told = caller.ask(Ask::Abandon(scene.slot.load(Ordering::SeqCst)));
             caller.require(told == Told::Abandoned, "the call is given up");
+        }
+        Turn::Named(ask, wanted) => {
+            let told = caller.ask_named(ask);
+            caller.require(told == wanted, "what the call by its name is to tell");
+        }
+        Turn::Again(ask, times) => {
+            for _ in 0..times {
+                caller.ask(ask);
+            }
         }
         Turn::ScanOn(pairs) => scan_on(scene, caller, pairs),
         Turn::GiveUp(times) => give_up(caller, times),

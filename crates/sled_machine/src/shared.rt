@@ -1,3 +1,6 @@
 //! One database for several threads, with the history of what their calls made.
 
-pub use sled_shared::{Blank, Caller, Db, Entry, Gate, Handle, Made, NoGate, State};
+pub use sled_shared::{
+    Answer, Blank, CallError, CallResult, Caller, Collections, Db, Entry, Gate, Handle, Lent, Made,
+    Names, NoGate, Pairs, Question, Read, State, reply_of,
+};

@@ -7,7 +7,8 @@ use Rattle.std.specs.Str.{bytes_eq}
 use Rattle.sled_nodes.proofs.Basics.{false_true, both_true}
 use Rattle.sled_nodes.specs.Order.{Key}
 use Rattle.sled_store.specs.theory.Facts.{same_name}
-use Rattle.sled_model.specs.Collections.{content_of, contents_of}
+use Rattle.std.specs.declared.ops.Bound.{Bound}
+use Rattle.sled_model.specs.Collections.{Content, content_of, contents_of}
 use Rattle.sled_model.specs.declared.call.Call.{Call}
 use Rattle.sled_model.specs.declared.call.Whole.{Whole}
 use Rattle.sled_model.specs.declared.call.Whole.TheVariants.{Flush, PopMin, PopMax, Clear, Group, OpenTree, DropTree, GenerateId, Import, Watch, Next, Unsubscribe}
@@ -16,10 +17,20 @@ use Rattle.sled_model.specs.contracts.call.CallPartialEq.TheImpl as call
 use Rattle.sled_model.specs.contracts.call.WholePartialEq.TheImpl as whole
 use Rattle.sled_model.specs.contracts.reply.ReplyPartialEq.TheImpl as reply
 use Rattle.sled_model.specs.contracts.tree.TreePartialEq.TheImpl as tree
-use Rattle.sled_shared.specs.Made.{PointMade, WholeMade, PartsMade, made_value, whole_value}
+use Rattle.sled_shared.specs.Made.{PointMade, WholeMade, PartsMade, ReadMade, made_value, whole_value}
 use Rattle.sled_shared.specs.contracts.entry.MadePartialEq.TheImpl as made
+use Rattle.sled_shared.specs.contracts.read.AnswerPartialEq.TheImpl as answer
+use Rattle.sled_shared.specs.contracts.read.QuestionPartialEq.TheImpl as question
+use Rattle.sled_shared.specs.contracts.read.ReadPartialEq.TheImpl as read
+use Rattle.sled_shared.specs.declared.read.Answer.{Answer}
+use Rattle.sled_shared.specs.declared.read.Answer.TheVariants as answers
+use Rattle.sled_shared.specs.declared.read.Question.{Question}
+use Rattle.sled_shared.specs.declared.read.Question.TheVariants as asks
+use Rattle.sled_shared.specs.declared.read.Read.{Read}
+use Rattle.sled_shared.specs.declared.read.Read.TheVariants as reads
+use Rattle.sled_shared.proofs.SameContents.{same_content}
 use Rattle.sled_shared.specs.declared.entry.Made.{Made}
-use Rattle.sled_shared.specs.declared.entry.Made.TheVariants.{Point, Whole as Wholly, Parts}
+use Rattle.sled_shared.specs.declared.entry.Made.TheVariants.{Point, Whole as Wholly, Parts, Read as Reading}
 use Rattle.sled_shared.specs.Wholes as value
 
 abbrev Sound : {X : Type 0} → (X → X → Bool) → Type 0
@@ -99,6 +110,50 @@ calls_same a b e = search rules
 replies_same : (a b : Reply) → reply.ghosts.eq a b ≡ true → a ≡ b
 replies_same a b e = search rules
 
+pairs_same : (xs ys : List (Key × Key)) → pointwise (λ (p q : Key × Key). bytes_eq p.0 q.0 && bytes_eq p.1 q.1) xs ys ≡ true → xs ≡ ys
+pairs_same xs ys e = lists_same (λ (p q : Key × Key). bytes_eq p.0 q.0 && bytes_eq p.1 q.1) (tuples_same bytes_eq bytes_eq same_name same_name) xs ys e
+
+exports_same : (a b : Content) → same_content a b ≡ true → a ≡ b
+exports_same (k, n, ps) (l, m, qs) e =
+    let all = both_true (bytes_eq k l && bytes_eq n m) (pointwise (λ (p q : Key × Key). bytes_eq p.0 q.0 && bytes_eq p.1 q.1) ps qs) e in
+    let both = both_true (bytes_eq k l) (bytes_eq n m) all.0 in
+    ap (λ z. (z, n, ps)) (same_name k l both.0) ∙ ap (λ z. (l, z, ps)) (same_name n m both.1) ∙ ap (λ z. (l, m, z)) (pairs_same ps qs all.1)
+
+pages_same : (lo hi low high : Bound Key) (back down : Bool) (most more : ℕ) → question.ghosts.eq (asks.Page lo hi back most) (asks.Page low high down more) ≡ true → asks.Page lo hi back most ≡ asks.Page low high down more
+pages_same lo hi low high back down most more e = search rules
+
+questions_same : (a b : Question) → question.ghosts.eq a b ≡ true → a ≡ b
+questions_same (asks.Get k) (asks.Get l) e = ap asks.Get (same_name k l e)
+questions_same (asks.ContainsKey k) (asks.ContainsKey l) e = ap asks.ContainsKey (same_name k l e)
+questions_same asks.First asks.First e = refl
+questions_same asks.Last asks.Last e = refl
+questions_same (asks.GetLt k) (asks.GetLt l) e = ap asks.GetLt (same_name k l e)
+questions_same (asks.GetGt k) (asks.GetGt l) e = ap asks.GetGt (same_name k l e)
+questions_same asks.Len asks.Len e = refl
+questions_same asks.IsEmpty asks.IsEmpty e = refl
+questions_same (asks.Page lo hi back most) (asks.Page low high down more) e = pages_same lo hi low high back down most more e
+questions_same a b e = false_true e
+
+flags_same : (x y : Bool) → answer.ghosts.eq (answers.Flag x) (answers.Flag y) ≡ true → answers.Flag x ≡ answers.Flag y
+flags_same x y e = search rules
+
+answers_same : (a b : Answer) → answer.ghosts.eq a b ≡ true → a ≡ b
+answers_same (answers.Value x) (answers.Value y) e = ap answers.Value (options_same bytes_eq same_name x y e)
+answers_same (answers.Flag x) (answers.Flag y) e = flags_same x y e
+answers_same (answers.Pair x) (answers.Pair y) e = ap answers.Pair (options_same (λ (p q : Key × Key). bytes_eq p.0 q.0 && bytes_eq p.1 q.1) (tuples_same bytes_eq bytes_eq same_name same_name) x y e)
+answers_same (answers.Count n) (answers.Count m) e = ap answers.Count (eqb-true n m e)
+answers_same (answers.Pairs x) (answers.Pairs y) e = ap answers.Pairs (pairs_same x y e)
+answers_same a b e = false_true e
+
+reads_same : (a b : Read) → read.ghosts.eq a b ≡ true → a ≡ b
+reads_same (reads.Tree t q a) (reads.Tree u r b) e =
+    let both = both_true (tree.ghosts.eq t u) (question.ghosts.eq q r && answer.ghosts.eq a b) e in
+    let more = both_true (question.ghosts.eq q r) (answer.ghosts.eq a b) both.1 in
+    ap (λ z. reads.Tree z q a) (trees_same t u both.0) ∙ ap (λ z. reads.Tree u z a) (questions_same q r more.0) ∙ ap (λ z. reads.Tree u r z) (answers_same a b more.1)
+reads_same (reads.Names x) (reads.Names y) e = ap reads.Names (lists_same bytes_eq same_name x y e)
+reads_same (reads.Export x) (reads.Export y) e = ap reads.Export (lists_same same_content exports_same x y e)
+reads_same a b e = false_true e
+
 pub mades_same : (a b : Made) → made.ghosts.eq a b ≡ true → made_value a ≡ made_value b
 mades_same (Point t c r) (Point u d s) e =
     let both = both_true (tree.ghosts.eq t u) (call.ghosts.eq c d && reply.ghosts.eq r s) e in
@@ -106,4 +161,5 @@ mades_same (Point t c r) (Point u d s) e =
     ap (λ z. PointMade z c r) (trees_same t u both.0) ∙ ap (λ z. PointMade u z r) (calls_same c d more.0) ∙ ap (λ z. PointMade u d z) (replies_same r s more.1)
 mades_same (Wholly w r) (Wholly x s) e = let both = both_true (whole.ghosts.eq w x) (reply.ghosts.eq r s) e in ap (λ z. WholeMade z r) (wholes_same w x both.0) ∙ ap (λ z. WholeMade (whole_value x) z) (replies_same r s both.1)
 mades_same (Parts w n) (Parts x m) e = let both = both_true (whole.ghosts.eq w x) (nat_eq n m) e in ap (λ z. PartsMade z n) (wholes_same w x both.0) ∙ ap (λ z. PartsMade (whole_value x) z) (eqb-true n m both.1)
+mades_same (Reading a) (Reading b) e = ap ReadMade (reads_same a b e)
 mades_same a b e = false_true e

@@ -38,7 +38,7 @@ pub nothing_done : {P M : Type 0} (store : P → Store) (meant : M → Merge) (m
 nothing_done store meant m = record { state = refl; extends = extends_same (store m.db.pages); ids = refl }
 
 -- a call that is made at once
-point_made : (old : State) (tree : Tree) (call : Call) (reply : Reply) (new : State) → DecidesPoint old tree call reply new → MakesPoint (maps_of old) tree call reply (maps_of new)
+pub point_made : (old : State) (tree : Tree) (call : Call) (reply : Reply) (new : State) → DecidesPoint old tree call reply new → MakesPoint (maps_of old) tree call reply (maps_of new)
 point_made old tree call reply new d = record {
   map = d.named.map;
   there = there_map old tree.name d.named d.there;
@@ -54,12 +54,12 @@ module _ {P M : Type 0} (store : P → Store) (number : P → ℕ) (meant : M �
   swapped_state n tree call reply d e = record { legal = legal_of crashes; leads = leads_of crashes; crashes = crashes; ids = ids; counted = counted }
     where
       crashes : CrashLeaves store b opening longer
-      crashes = adds store number meant a b opening history h.crashes longer n (PointMade tree call reply) (maps_of (db_state store meant b.db)) (maps_of (db_state store meant b.db) ∷ []) e
+      crashes = (adds store number meant a b opening history h.crashes longer n (PointMade tree call reply) (maps_of (db_state store meant b.db)) (maps_of (db_state store meant b.db) ∷ []) e
           (subst (λ m. MakesPoint m tree call reply (maps_of (db_state store meant b.db))) (sym (led store number meant a b opening history h.crashes (tested (db_state store meant a.db) (ToPoint tree call) d.decides.free)))
           (point_made (db_state store meant a.db) tree call reply (db_state store meant b.db) d.decides))
           refl
           (λ o. maps_same store meant b number)
-          (extended (maps_of (db_state store meant b.db) ∷ []) (store a.db.pages) (store b.db.pages) d.conducts.leaves.extends h.crashes.left h.crashes.leaves)
+          (extended (maps_of (db_state store meant b.db) ∷ []) (store a.db.pages) (store b.db.pages) d.conducts.leaves.extends h.crashes.left h.crashes.leaves)).0
 
       ids : RiseBetween 0 (ids_made longer) b.db.greatest_id
       ids = longer_rises 0 a.db.greatest_id b.db.greatest_id history (entries_of n (PointMade tree call reply ∷ [])) longer e h.ids (at_most _ _ (ap (λ (x : DbValue P M). x.greatest_id) d.conducts.same))
@@ -69,8 +69,8 @@ module _ {P M : Type 0} (store : P → Store) (number : P → ℕ) (meant : M �
   still_state s e = record { legal = legal_of crashes; leads = leads_of crashes; crashes = crashes; ids = ids; counted = counted }
     where
       crashes : CrashLeaves store b opening longer
-      crashes = rests store number meant a b opening history h.crashes longer e (still store number meant a b opening history h.crashes (ap (λ (x : State). x.is_open) s.state) (ap maps_of s.state))
-          (none_added store number meant a b opening history h.crashes [] refl (extended [] (store a.db.pages) (store b.db.pages) s.extends h.crashes.left h.crashes.leaves))
+      crashes = (rests store number meant a b opening history h.crashes longer e (still store number meant a b opening history h.crashes (ap (λ (x : State). x.is_open) s.state) (ap maps_of s.state))
+          (none_added store number meant a b opening history h.crashes [] refl (extended [] (store a.db.pages) (store b.db.pages) s.extends h.crashes.left h.crashes.leaves))).0
 
       ids : RiseBetween 0 (ids_made longer) b.db.greatest_id
       ids = longer_rises 0 a.db.greatest_id b.db.greatest_id history [] longer e h.ids (at_most _ _ s.ids)

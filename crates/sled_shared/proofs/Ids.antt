@@ -53,7 +53,7 @@ decided_ids n GenerateId (told.Number id) k = refl
 decided_ids n other reply k = refl
 
 -- .. and one that is refused with none
-parts_ids : (n : ℕ) (v : WholeValue) (k : ℕ) → ids_made (entries_of n (noted_with v None k)) ≡ []
+pub parts_ids : (n : ℕ) (v : WholeValue) (k : ℕ) → ids_made (entries_of n (noted_with v None k)) ≡ []
 parts_ids n v zero = refl
 parts_ids n v (suc k) = refl
 
@@ -84,7 +84,7 @@ module _ {P M : Type 0} (store : P → Store) (number : P → ℕ) (meant : M �
       (step_rises (configuration_of store number meant a) (configuration_of store number meant b) (step.Abandon slot) o maps t)
 
   -- a whole call
-  came_risen : (n : ℕ) (w : Whole) (r : Outcome) (maps : List Maps) (k : ℕ)
+  pub came_risen : (n : ℕ) (w : Whole) (r : Outcome) (maps : List Maps) (k : ℕ)
       → transition_as (configuration_of store number meant a) (step.Whole w) r (configuration_of store number meant b) maps
       → RiseBetween a.db.greatest_id (ids_made (entries_of n (noted_whole w r k))) b.db.greatest_id
   came_risen n w (outcome.Decided reply) maps k t = subst (λ l. RiseBetween a.db.greatest_id l b.db.greatest_id) (sym (decided_ids n w reply k))

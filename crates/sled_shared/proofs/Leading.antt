@@ -50,7 +50,7 @@ use Rattle.sled_calls.specs.Values.{MachineValue, configuration_of, slots_of}
 use Rattle.sled_calls.proofs.Runs.{extended}
 use Rattle.sled_shared.specs.Crashes.{TakesThrough, TakesNoMore, TakesOneMore, MakesThrough, MakesNoMore, MakesOneMore, whole_through, through_as, left_by_whole, left_by, LeadsThrough, LeadsNoMore, LeadsOneMore}
 use Rattle.sled_shared.specs.History.{MakesPoint, makes_as, IsLegal, NoEntries, OneEntry, maps_from}
-use Rattle.sled_shared.specs.Made.{EntryValue, MadeValue, PointMade, WholeMade, PartsMade, whole_value}
+use Rattle.sled_shared.specs.Made.{EntryValue, MadeValue, PointMade, WholeMade, PartsMade, ReadMade, whole_value}
 use Rattle.sled_shared.specs.Notes.{entries_of, noted_as, noted_in}
 use Rattle.sled_shared.specs.Sound.{IsOpen, maps_now, Leads, CrashLeaves, IsState}
 use Rattle.sled_shared.specs.WholeMade.{map_with, TakesLeast, TakesNone, TakesOne, MakesParts, makes_whole_as}
@@ -72,7 +72,7 @@ Ends left m = (before : List Maps) × (left ≡ before ++ m ∷ [])
 again : (left : List Maps) (m : Maps) → Ends left m → StutterEquivalent left (left ++ m ∷ [])
 again left m e = subst (λ l. StutterEquivalent l (l ++ m ∷ [])) (sym e.1) (matches_again e.0 m)
 
-matched : (s : Store) (xs ys : List Maps) → AreCrashMaps s xs → StutterEquivalent xs ys → AreCrashMaps s ys
+pub matched : (s : Store) (xs ys : List Maps) → AreCrashMaps s xs → StutterEquivalent xs ys → AreCrashMaps s ys
 matched s xs ys l e = record { is = matches_then l.is e }
 
 -- ---- parts
@@ -122,7 +122,7 @@ goes_on a m b (OpensName name) ps added maps d g = (
         let ends : Ends left (maps_of m) = subst (λ x. Ends left x) (sym (ap maps_of is)) e in
         matches_then (g.2 left ends) (subst (λ x. StutterEquivalent (left ++ g.0) x) (append_assoc left (maps_of m ∷ []) g.0) (matches_append (again left (maps_of m) ends) (matches_same g.0)))
 
-goes : {a b : State} {ps : List Part} {maps : List Maps} → DoesParts a ps b maps → GoesThrough (maps_of a) ps maps (maps_of b)
+pub goes : {a b : State} {ps : List Part} {maps : List Maps} → DoesParts a ps b maps → GoesThrough (maps_of a) ps maps (maps_of b)
 goes NoPart = ([], MakesNoMore, λ left e. matches_same (left ++ []))
 goes {b = b} (OnePart {a = a} {m = m} {part = p} {parts = ps} {added = added} {maps = maps} one more) = goes_on a m b p ps added maps one.is (goes more)
 
@@ -137,6 +137,7 @@ through_end (WholeMade other reply) a m through left t e = (left, ap (λ l. left
 through_end (PartsMade (value.Clear tree) number) a m through left t e = takes_end t left e
 through_end (PartsMade (value.Import all) number) a m through left t e = makes_end t.makes left e
 through_end (PartsMade other number) a m through left t e = absurd t
+through_end (ReadMade read) a m through left t e = (left, ap (λ l. left ++ l) t)
 
 pub leads_end : {a b : Maps} {left last : List Maps} {es : List EntryValue} → LeadsThrough a left es b last → Ends left a → Ends last b
 leads_end LeadsNoMore e = e
@@ -229,13 +230,14 @@ module _ {P M : Type 0} (store : P → Store) (number : P → ℕ) (meant : M �
   abbrev C : State
   C = state_of store meant b.db (slots_of a.flights) a.slots_given
 
+  -- .. and of the maps that a crash might have left before the opening none is forgotten
   abbrev Leaves : List EntryValue → Type 0
-  Leaves longer = CrashLeaves store b opening longer
+  Leaves longer = (c : CrashLeaves store b opening longer) × (c.earlier ≡ l.earlier)
 
   abbrev Are : List Maps → Type 0
   Are maps = AreCrashMaps (store b.db.pages) maps
 
-  ends : Ends l.left l.last
+  pub ends : Ends l.left l.last
   ends = leads_end l.leads (l.earlier, refl)
 
   -- while the database is open the history leads to its maps
@@ -248,25 +250,31 @@ module _ {P M : Type 0} (store : P → Store) (number : P → ℕ) (meant : M �
   -- one entry more
   pub adds : (longer : List EntryValue) (n : ℕ) (v : MadeValue) (new : Maps) (through : List Maps) → longer ≡ history ++ entries_of n (v ∷ []) → makes_as l.last v new → through_as l.last v through new
       → (IsOpen store b → new ≡ maps_now store b) → Are (left_by v through l.left) → Leaves longer
-  adds longer n v new through e made led at leaves = record {
-    earlier = l.earlier;
-    last = new;
-    left = left_by v through l.left;
-    leads = subst (λ es. LeadsThrough (maps_from opening) (l.earlier ++ maps_from opening ∷ []) es new (left_by v through l.left)) (sym e) (leads_more l.leads (record { by = n; made = v }) through made led);
-    now = at;
-    leaves = leaves;
-  }
+  adds longer n v new through e made led at leaves = (
+    record {
+      earlier = l.earlier;
+      last = new;
+      left = left_by v through l.left;
+      leads = subst (λ es. LeadsThrough (maps_from opening) (l.earlier ++ maps_from opening ∷ []) es new (left_by v through l.left)) (sym e) (leads_more l.leads (record { by = n; made = v }) through made led);
+      now = at;
+      leaves = leaves;
+    },
+    refl,
+  )
 
   -- .. or none
   pub rests : (longer : List EntryValue) → longer ≡ history ++ [] → (IsOpen store b → l.last ≡ maps_now store b) → Are l.left → Leaves longer
-  rests longer e at leaves = record {
-    earlier = l.earlier;
-    last = l.last;
-    left = l.left;
-    leads = subst (λ es. LeadsThrough (maps_from opening) (l.earlier ++ maps_from opening ∷ []) es l.last l.left) (sym (e ∙ append-nil history)) l.leads;
-    now = at;
-    leaves = leaves;
-  }
+  rests longer e at leaves = (
+    record {
+      earlier = l.earlier;
+      last = l.last;
+      left = l.left;
+      leads = subst (λ es. LeadsThrough (maps_from opening) (l.earlier ++ maps_from opening ∷ []) es l.last l.left) (sym (e ∙ append-nil history)) l.leads;
+      now = at;
+      leaves = leaves;
+    },
+    refl,
+  )
 
   -- where no map changes
   pub still : B.is_open ≡ A.is_open → maps_of B ≡ maps_of A → IsOpen store b → l.last ≡ maps_now store b
@@ -275,7 +283,7 @@ module _ {P M : Type 0} (store : P → Store) (number : P → ℕ) (meant : M �
   pub none_added : (maps : List Maps) → maps ≡ [] → Are (l.left ++ maps) → Are l.left
   none_added maps e k = subst (λ x. Are x) (ap (λ z. l.left ++ z) e ∙ append-nil l.left) k
 
-  once_more : (m : Maps) → m ≡ l.last → Are l.left → Are (l.left ++ m ∷ [])
+  pub once_more : (m : Maps) → m ≡ l.last → Are l.left → Are (l.left ++ m ∷ [])
   once_more m e k = matched (store b.db.pages) l.left (l.left ++ m ∷ []) k (again l.left m (subst (λ x. Ends l.left x) (sym e) ends))
 
   once_less : (m : Maps) → m ≡ l.last → Are (l.left ++ m ∷ []) → Are l.left
@@ -313,13 +321,13 @@ module _ {P M : Type 0} (store : P → Store) (number : P → ℕ) (meant : M �
   quietly : B.is_open ≡ A.is_open → maps_of B ≡ maps_of A → (maps : List Maps) → maps ≡ [] → Are (l.left ++ maps) → Leaves history
   quietly opens same maps none k = rests history (sym (append-nil history)) (still opens same) (none_added maps none k)
 
-  begun_leaves : (tree : Tree) (call : Call) (slot : ℕ) → MachineStep store number meant a (step.Begin tree call) (outcome.Begun slot) b → Leaves history
+  pub begun_leaves : (tree : Tree) (call : Call) (slot : ℕ) → MachineStep store number meant a (step.Begin tree call) (outcome.Begun slot) b → Leaves history
   begun_leaves tree call slot s = quietly (ap (λ (s : State). s.is_open) s.step.is.0.is) (ap maps_of s.step.is.0.is) s.maps s.step.is.1 (s.keeps l.left l.leaves)
 
-  unbegun_leaves : (tree : Tree) (call : Call) (x : Error) → MachineStep store number meant a (step.Begin tree call) (outcome.Refused x) b → Leaves history
+  pub unbegun_leaves : (tree : Tree) (call : Call) (x : Error) → MachineStep store number meant a (step.Begin tree call) (outcome.Refused x) b → Leaves history
   unbegun_leaves tree call x s = quietly (ap (λ (s : State). s.is_open) s.step.is.1) (ap maps_of s.step.is.1) s.maps s.step.is.2 (s.keeps l.left l.leaves)
 
-  abandon_leaves : (slot : ℕ) (o : Outcome) → MachineStep store number meant a (step.Abandon slot) o b → Leaves history
+  pub abandon_leaves : (slot : ℕ) (o : Outcome) → MachineStep store number meant a (step.Abandon slot) o b → Leaves history
   abandon_leaves slot o s = go o s.maps s.step.is (s.keeps l.left l.leaves)
     where
       go : (o : Outcome) (maps : List Maps) → transition_as (configuration_of store number meant a) (step.Abandon slot) o (configuration_of store number meant b) maps → Are (crash_maps_after (step.Abandon slot) o maps (maps_of B) l.left) → Leaves history
@@ -331,7 +339,7 @@ module _ {P M : Type 0} (store : P → Store) (number : P → ℕ) (meant : M �
 
   module _ (longer : List EntryValue) (n : ℕ) where
     -- what is decided on an open database
-    entry : (v : WholeValue) (reply : Reply) (through : List Maps) → longer ≡ history ++ entries_of n (WholeMade v reply ∷ []) → A.is_open ≡ true → makes_whole_as (maps_of A) v reply (maps_of B) → whole_through (maps_of A) v through (maps_of B)
+    pub entry : (v : WholeValue) (reply : Reply) (through : List Maps) → longer ≡ history ++ entries_of n (WholeMade v reply ∷ []) → A.is_open ≡ true → makes_whole_as (maps_of A) v reply (maps_of B) → whole_through (maps_of A) v through (maps_of B)
         → Are (left_by_whole v through l.left) → Leaves longer
     entry v reply through e opens made goes k = adds longer n (WholeMade v reply) (maps_of B) through e (subst (λ m. makes_whole_as m v reply (maps_of B)) (sym (led opens)) made) (subst (λ m. whole_through m v through (maps_of B)) (sym (led opens)) goes)
         (λ o. maps_same store meant b number) k
@@ -357,7 +365,7 @@ module _ {P M : Type 0} (store : P → Store) (number : P → ℕ) (meant : M �
         → Are (left_by_whole v (l.last ∷ []) l.left) → Leaves longer
     quiet v reply e made goes opens same k = adds longer n (WholeMade v reply) l.last (l.last ∷ []) e made goes (still opens same) k
 
-    decided_whole : (w : Whole) (reply : Reply) (maps : List Maps) (k : ℕ) → WholeDecides (configuration_of store number meant a) w reply B maps → longer ≡ history ++ entries_of n (noted_whole w (outcome.Decided reply) k)
+    pub decided_whole : (w : Whole) (reply : Reply) (maps : List Maps) (k : ℕ) → WholeDecides (configuration_of store number meant a) w reply B maps → longer ≡ history ++ entries_of n (noted_whole w (outcome.Decided reply) k)
         → Are (crash_maps_after_whole w maps (maps_of B) l.left) → Leaves longer
     decided_whole Flush reply maps k t e r = entry value.Flush reply (maps_of B ∷ []) e (tested A (ToCall Flush) t.0) (makes (configuration_of store number meant a) Flush reply B maps t) refl r
     decided_whole (PopMin tree) reply maps k t e r = entry (value.PopMin tree) reply (maps_of B ∷ []) e (tested A (ToCall (PopMin tree)) t.free) (makes (configuration_of store number meant a) (PopMin tree) reply B maps t) refl (alone maps t.added r)
@@ -390,7 +398,7 @@ module _ {P M : Type 0} (store : P → Store) (number : P → ℕ) (meant : M �
     unnoted : (v : WholeValue) (k : ℕ) → k ≡ 0 → longer ≡ history ++ entries_of n (noted_with v None k) → B ≡ A → (maps : List Maps) → maps ≡ [] → Are (l.left ++ maps) → Leaves longer
     unnoted v k none e same maps added r = rests longer (e ∙ ap (λ i. history ++ entries_of n (noted_with v None i)) none) (still (ap (λ (s : State). s.is_open) same) (ap maps_of same)) (none_added maps added r)
 
-    group_stops : (Q : Type 0) → (B ≡ A) ⊎ (Q × Closes A B) → IsOpen store b → l.last ≡ maps_now store b
+    pub group_stops : (Q : Type 0) → (B ≡ A) ⊎ (Q × Closes A B) → IsOpen store b → l.last ≡ maps_now store b
     group_stops Q (inl e) o = still (ap (λ (s : State). s.is_open) e) (ap maps_of e) o
     group_stops Q (inr c) o = absurd (shut (sym (ap (λ (s : State). s.is_open) c.1.is) ∙ o))
       where
@@ -469,13 +477,13 @@ module _ {P M : Type 0} (store : P → Store) (number : P → ℕ) (meant : M �
               (λ o. maps_same store meant b number)
               (matched (store b.db.pages) (l.left ++ maps) (l.left ++ g.0) r (g.2 l.left (subst (λ x. Ends l.left x) (led opens) ends)))
 
-      import_refused : (k : ℕ) (maps : List Maps) (r : (refuses_import_as (must_refuse_of (db_state store meant a.db) []) all x × (b.db ≡ a.db) × (maps ≡ [])) ⊎ ImportStops store meant a.db all x b.db maps)
+      pub import_refused : (k : ℕ) (maps : List Maps) (r : (refuses_import_as (must_refuse_of (db_state store meant a.db) []) all x × (b.db ≡ a.db) × (maps ≡ [])) ⊎ ImportStops store meant a.db all x b.db maps)
           → k ≡ told_parts (parts_before store meant r) → longer ≡ history ++ entries_of n (noted_with (value.Import all) None k) → Are (l.left ++ maps) → Leaves longer
       import_refused k maps (inl none) told e r = rests longer (e ∙ ap (λ i. history ++ entries_of n (noted_with (value.Import all) None i)) told)
           (still (opens_between (ap (λ (s : State). s.is_open) (same_between none.1))) (between ∙ ap maps_of (same_between none.1))) (none_added maps none.2 r)
       import_refused k maps (inr s) told e r = import_stops maps k s told e r
 
-    refused_whole : (w : Whole) (x : Error) (maps : List Maps) (k : ℕ) → WholeRefuses A (store a.db.pages) (store b.db.pages) w x B maps → counts_as store meant a.db w (outcome.Refused x) k b.db
+    pub refused_whole : (w : Whole) (x : Error) (maps : List Maps) (k : ℕ) → WholeRefuses A (store a.db.pages) (store b.db.pages) w x B maps → counts_as store meant a.db w (outcome.Refused x) k b.db
         → longer ≡ history ++ entries_of n (noted_whole w (outcome.Refused x) k) → Are (l.left ++ maps) → Leaves longer
     refused_whole (Clear tree) x maps k t c e r = clear_stops tree x maps k t c e r
     refused_whole (Group batches) x maps k t c e r = rests longer (e ∙ ap (λ i. history ++ entries_of n (noted_with (value.Group batches.items) None i)) c) (group_stops _ t.is) (none_added maps t.added r)
@@ -512,16 +520,16 @@ module _ {P M : Type 0} (store : P → Store) (number : P → ℕ) (meant : M �
       → IfOk r (λ slot. MachineStepContract store number meant a (step.Begin tree call) (outcome.Begun slot) b) → IfErr r (λ e. MachineStepContract store number meant a (step.Begin tree call) (outcome.Refused e) b)
       → IsState store a opening history total → IsState store b opening history total
   begin_state opening history total tree call (Ok slot) ok err h =
-      let crashes = begun_leaves store number meant a b opening history h.crashes tree call slot ok.step in
+      let crashes = (begun_leaves store number meant a b opening history h.crashes tree call slot ok.step).0 in
       record { legal = legal_of crashes; leads = leads_of crashes; crashes = crashes; ids = begun_risen store number meant a b tree call (outcome.Begun slot) ok.step.maps history ok.step.step.is h.ids; counted = h.counted }
   begin_state opening history total tree call (Err x) ok err h =
-      let crashes = unbegun_leaves store number meant a b opening history h.crashes tree call x err.step in
+      let crashes = (unbegun_leaves store number meant a b opening history h.crashes tree call x err.step).0 in
       record { legal = legal_of crashes; leads = leads_of crashes; crashes = crashes; ids = begun_risen store number meant a b tree call (outcome.Refused x) err.step.maps history err.step.step.is h.ids; counted = h.counted }
 
   pub abandon_state : (opening : List Content) (history : List EntryValue) (total slot : ℕ) (o : Outcome)
       → MachineStepContract store number meant a (step.Abandon slot) o b → IsState store a opening history total → IsState store b opening history total
   abandon_state opening history total slot o c h =
-      let crashes = abandon_leaves store number meant a b opening history h.crashes slot o c.step in
+      let crashes = (abandon_leaves store number meant a b opening history h.crashes slot o c.step).0 in
       record { legal = legal_of crashes; leads = leads_of crashes; crashes = crashes; ids = abandoned_risen store number meant a b slot o c.step.maps history c.step.step.is h.ids; counted = h.counted }
 
 -- ---- the beginning

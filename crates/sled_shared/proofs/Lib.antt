@@ -9,3 +9,9 @@ pub mod WholeTests
 pub mod Leading
 pub mod WholeAdds
 pub mod Fetching
+pub mod Transacting
+pub mod SameContents
+pub mod Paging
+pub mod PageReads
+pub mod ReadMakes
+pub mod Replying

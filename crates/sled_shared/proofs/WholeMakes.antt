@@ -96,7 +96,7 @@ write_on : (o : Option NamedTree) (w : Write) (s : State) → maps_of (after_wri
 write_on None w s = refl
 write_on (Some t) w s = after_maps s w.tree.name t (answer_of_write t w) ∙ ap (λ m. put_name (maps_of s) w.tree.name (Some m)) (write_map t w.key w.value)
 
-writes : (ws : List Write) (s : State) → maps_of (after_writes ws s) ≡ maps_with_writes ws (maps_of s)
+pub writes : (ws : List Write) (s : State) → maps_of (after_writes ws s) ≡ maps_with_writes ws (maps_of s)
 writes [] s = refl
 writes (w ∷ ws) s = writes ws (after_write w s) ∙ ap (maps_with_writes ws) (write_on (s.trees w.tree.name) w s)
 
@@ -118,7 +118,7 @@ has_number None n e = e
 has_number (Some t) n e = refl
 
 -- the trees of a group that passes the tests have maps
-have_maps : (s : State) (bs : List (Tree × Writes)) → All (BatchPasses s) bs → All (HasMap (maps_of s)) bs
+pub have_maps : (s : State) (bs : List (Tree × Writes)) → All (BatchPasses s) bs → All (HasMap (maps_of s)) bs
 have_maps s [] h = All-nil (HasMap (maps_of s))
 have_maps s (b ∷ bs) h = All-cons (HasMap (maps_of s)) b bs (has_number (s.trees b.0.name) b.0.number (own s b.0 (All-head (BatchPasses s) b bs h)).1) (have_maps s bs (All-tail (BatchPasses s) b bs h))
 

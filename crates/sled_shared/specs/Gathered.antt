@@ -1,5 +1,5 @@
 -- Callers that are gathered: their numbers, and what they made.
-use Rattle.std.specs.Prelude.{◌≡◌, ℕ, ◌<◌, ◌≤◌, nat_eq, List, count_by}
+use Rattle.std.specs.Prelude.{◌≡◌, ℕ, ◌<◌, ◌≤◌, ◌+◌, nat_eq, List, count_by}
 use Rattle.sled_nodes.specs.declared.error.Error.{Error}
 use Rattle.sled_nodes.specs.declared.error.Error.TheVariants.{Unsupported, NoMemory}
 use Rattle.sled_nodes.specs.declared.texts.TheConstants.{NUMBERS_USED_UP}
@@ -18,6 +18,10 @@ times callers n = count_by (λ c. nat_eq n c.number) callers
 -- each number that was given is that of one of these callers
 abbrev pub EachOnce : ℕ → List CallerValue → Type 0
 EachOnce given callers = (n : ℕ) → IsGiven given n → times callers n ≡ 1
+
+-- .. and so each number behind those of callers before
+abbrev pub EachOnceBehind : ℕ → ℕ → List CallerValue → Type 0
+EachOnceBehind before given callers = (n : ℕ) → IsGiven given n → times callers (before + n) ≡ 1
 
 -- the caller's list is that of the entries with its number, in order
 abbrev pub IsMadeIn : List EntryValue → CallerValue → Type 0

@@ -1,12 +1,10 @@
 -- Histories that one caller could have made.
-use Rattle.std.specs.Prelude.{◌≡◌, ℕ, nat_eq, List, [], ◌∷◌, ◌++◌, Option, Some, None, map, filter, if◌then◌else◌}
+use Rattle.std.specs.Prelude.{◌≡◌, ℕ, nat_eq, List, [], ◌∷◌, ◌++◌, Option, Some, None, map, filter}
 use Rattle.std.specs.FinMap.Entries.{find}
-use Rattle.std.specs.Str.{bytes_eq}
 use Rattle.sled_nodes.specs.Order.{Key, key_cmp}
 use Rattle.sled_store.specs.Update.{put_name}
 use Rattle.sled_model.specs.Maps.{Map, Maps}
 use Rattle.sled_model.specs.Answer.{key_of, decision_of, decision_of_write, map_after}
-use Rattle.sled_model.specs.Collections.{Content}
 use Rattle.sled_model.specs.declared.call.Call.{Call}
 use Rattle.sled_model.specs.declared.call.Call.TheVariants.{Merge}
 use Rattle.sled_model.specs.declared.decision.Decision.{Decision}
@@ -14,13 +12,10 @@ use Rattle.sled_model.specs.declared.reply.Reply.{Reply}
 use Rattle.sled_model.specs.declared.reply.Reply.TheVariants.{Number}
 use Rattle.sled_model.specs.declared.tree.Tree.{Tree}
 use Rattle.sled_shared.specs.Wholes.{WholeValue, Flush, PopMin, PopMax, Clear, Group, OpenTree, DropTree, GenerateId, Import, Watch, Next, Unsubscribe}
-use Rattle.sled_shared.specs.Made.{MadeValue, PointMade, WholeMade, PartsMade, EntryValue}
+use Rattle.sled_shared.specs.Made.{MadeValue, PointMade, WholeMade, PartsMade, ReadMade, EntryValue}
+pub use Rattle.sled_shared.specs.Openings.{maps_from}
+use Rattle.sled_shared.specs.Reads.{reads_as}
 use Rattle.sled_shared.specs.WholeMade.{makes_whole_as, makes_parts_as}
-
--- the maps of these collections by name
-abbrev pub maps_from : List Content → Maps
-maps_from [] name = None
-maps_from (c ∷ cs) name = if bytes_eq name c.1 then Some c.2 else maps_from cs name
 
 -- What a call may come to where this value stands: a merge writes what its reply tells, and all others come to what they do by whatever
 -- operator
@@ -42,6 +37,7 @@ abbrev pub makes_as : Maps → MadeValue → Maps → Type 0
 makes_as old (PointMade tree call reply) new = MakesPoint old tree call reply new
 makes_as old (WholeMade whole reply) new = makes_whole_as old whole reply new
 makes_as old (PartsMade whole number) new = makes_parts_as old whole number new
+makes_as old (ReadMade read) new = reads_as old read × (new ≡ old)
 
 -- From the old maps on each entry is what its call makes there, and the maps after the last are the new ones
 pub data IsLegal : Maps → List EntryValue → Maps → Type 0 where
@@ -69,6 +65,7 @@ abbrev pub id_made : MadeValue → List ℕ
 id_made (PointMade tree call reply) = []
 id_made (WholeMade whole reply) = id_given whole reply
 id_made (PartsMade whole number) = []
+id_made (ReadMade read) = []
 
 -- the ids that were given, in order
 abbrev pub ids_made : List EntryValue → List ℕ

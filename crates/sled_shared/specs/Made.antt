@@ -11,13 +11,15 @@ use Rattle.sled_shared.specs.Wholes as value
 use Rattle.sled_shared.specs.declared.entry.Entry.{Entry}
 use Rattle.sled_shared.specs.declared.entry.Made.{Made}
 use Rattle.sled_shared.specs.declared.entry.Made.TheVariants as made
+use Rattle.sled_shared.specs.declared.read.Read.{Read}
 
--- What was made: a call on a key of a tree that was decided, with its reply; a whole call that was decided, with its reply; or so many
--- parts of a whole call that was refused after them
+-- What was made: a call on a key of a tree that was decided, with its reply; a whole call that was decided, with its reply; so many
+-- parts of a whole call that was refused after them; or a read, with what it told
 pub data MadeValue : Type 0 where
   PointMade : (tree : Tree) (call : Call) (reply : Reply) → MadeValue
   WholeMade : (whole : WholeValue) (reply : Reply) → MadeValue
   PartsMade : (whole : WholeValue) (number : ℕ) → MadeValue
+  ReadMade : (read : Read) → MadeValue
 
 -- .. and the number of the caller whose step decided it
 pub record EntryValue : Type 0 where
@@ -42,6 +44,7 @@ abbrev pub made_value : Made → MadeValue
 made_value (made.Point tree call reply) = PointMade tree call reply
 made_value (made.Whole whole reply) = WholeMade (whole_value whole) reply
 made_value (made.Parts whole number) = PartsMade (whole_value whole) number
+made_value (made.Read read) = ReadMade read
 
 abbrev pub entry_value : Entry → EntryValue
 entry_value e = record { by = e.by; made = made_value e.made }

@@ -1,5 +1,5 @@
 -- What holds whenever the lock is free, beside what holds of the machine.
-use Rattle.std.specs.Prelude.{◌≡◌, ℕ, ◌+◌, ◌≤◌, true, not, List, [], ◌∷◌, ◌++◌, length, None}
+use Rattle.std.specs.Prelude.{◌≡◌, ℕ, ◌+◌, ◌^◌, ◌<◌, ◌≤◌, true, not, List, [], ◌∷◌, ◌++◌, length, None}
 use Rattle.sled_store.specs.Store.{Store, now}
 use Rattle.sled_model.specs.Maps.{Maps}
 use Rattle.sled_model.specs.Collections.{Content}
@@ -62,8 +62,8 @@ HasCrashMaps store s = CrashLeaves store s.machine s.opening s.history
 abbrev pub HasRisingIds : {P M : Type 0} → StateValue P M → Type 0
 HasRisingIds s = RiseBetween 0 (ids_made s.history) s.machine.db.greatest_id
 
--- so many parts of the ledger are left for the callers that have no handle, and one more, and they count nothing
-pub record HasParts (callers given parts amount : ℕ) : Type 0 where
+-- so many parts of the ledger are left for the callers that have no handle, and one more, and there is a number for each caller
+pub record HasParts (callers given before parts : ℕ) : Type 0 where
   pub few : given ≤ callers
   pub left : parts + given ≡ callers + 1
-  pub none : amount ≡ 0
+  pub numbers : before + callers < 2 ^ 64

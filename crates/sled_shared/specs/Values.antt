@@ -15,8 +15,10 @@ pub record CallerValue : Type 0 where
   pub number : ℕ
   pub made : List MadeValue
 
--- how many callers there may be, how many of them have a handle, and the collections that the database began with
+-- how many callers there may be, how many of them have a handle, up to which number those are whose calls were made before it was shared, and the
+-- collections that the database began with
 pub record SharedValue : Type 0 where
   pub callers : ℕ
   pub given : ℕ
+  pub before : ℕ
   pub opening : List Content

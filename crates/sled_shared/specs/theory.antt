@@ -1,2 +1,5 @@
 pub mod Noting
 pub mod Fetching
+pub mod Transacting
+pub mod Reading
+pub mod Orders

@@ -1,9 +1,9 @@
 //! Lists of callers against the history.
-ghost use Rattle.std.specs.Prelude.{◌≡◌, ◌≤◌, ◌++◌, ◌∷◌, [], true, All, IfSome, take, length};
+ghost use Rattle.std.specs.Prelude.{◌≡◌, ◌+◌, ◌^◌, ◌<◌, ◌≤◌, ◌++◌, ◌∷◌, [], true, All, IfSome, take, length};
 ghost use Rattle.sled_model.specs.Collections.{contents_of};
 ghost use Rattle.sled_shared.specs.History.{made_by};
 ghost use Rattle.sled_shared.specs.Made.{entry_value, entry_values, made_value, made_values};
-ghost use Rattle.sled_shared.specs.Gathered.{IsGiven, IsMadeIn, EachOnce, times};
+ghost use Rattle.sled_shared.specs.Gathered.{EachOnceBehind, IsGiven, IsMadeIn, times};
 
 use crate::entry::{Entry, Made};
 use crate::handle::Handle;
@@ -95,16 +95,21 @@ fn count_of<P: Pages, L: Ledger, M>(handles: &[Handle<P, L, M>], number: u64) ->
     count
 }
 
-// Whether there are as many handles as numbers were given, and each of those is that of one handle.
-pub(crate) fn are_all<P: Pages, L: Ledger, M>(handles: &[Handle<P, L, M>], given: u64) -> bool
+// Whether there are as many handles as numbers were given behind these, and each of those is that of one handle.
+pub(crate) fn are_all<P: Pages, L: Ledger, M>(
+    handles: &[Handle<P, L, M>],
+    before: u64,
+    given: u64,
+) -> bool
+    requires { before + given < 2 ^ 64 }
     ensures count { result ≡ true → length handles.now ≡ given }
-    ensures once { result ≡ true → EachOnce given handles.now }
+    ensures once { result ≡ true → EachOnceBehind before given handles.now }
 {
     if handles.len() as u64 != given {
         return false;
     }
     for k in 0..given {
-        if count_of(handles, k + 1) != 1 {
+        if count_of(handles, before + (k + 1)) != 1 {
             return false;
         }
     }

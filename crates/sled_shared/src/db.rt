@@ -28,8 +28,10 @@ pub struct Db<P: Pages, L: Ledger, M = Box<dyn MergeOperator + Send>> {
     pub(crate) lock: Arc<Mutex<Option<State<P, L, M>>>>,
     pub(crate) callers: u64,
     pub(crate) given: u64,
+    // numbers up to this one are those of callers before
+    pub(crate) before: u64,
     // the parts of the callers that have no handle, and one more
-    rest: Share<L>,
+    pub(crate) rest: Share<L>,
     // what the state has as its own
     pub(crate) opening: Arc<Vec<Collection>>,
 }
@@ -42,9 +44,9 @@ impl<P: Pages, L: Ledger, M> Model for Db<P, L, M> {
     ghost use Rattle.sled_model.specs.Collections.{contents_of};
     ghost use Rattle.sled_shared.specs.Sound.{HasParts};
 
-    ghost view = { λ d. record { callers = d.callers; given = d.given; opening = contents_of d.opening.value.items } };
+    ghost view = { λ d. record { callers = d.callers; given = d.given; before = d.before; opening = contents_of d.opening.value.items } };
 
-    ghost invariant = { λ d. HasParts d.callers d.given d.rest.parts d.rest.amount };
+    ghost invariant = { λ d. HasParts d.callers d.given d.before d.rest.parts };
 }
 
 // The same collections, for two owners.
@@ -132,7 +134,7 @@ impl<P: Pages, L: Ledger, M: MergeOperator> Db<P, L, M> {
         requires name { blank.name ≡ L.name }
         requires parts { blank.parts ≡ L.parts }
         requires each { blank.parts ≡ callers + 1 }
-        ensures ok { IfOk result (λ shared. shared ≡ record { callers = callers; given = 0; opening = collections (trees_of (now (P.store db.pages))) db.trees }) }
+        ensures ok { IfOk result (λ shared. shared ≡ record { callers = callers; given = 0; before = 0; opening = collections (trees_of (now (P.store db.pages))) db.trees }) }
         ensures open { OnOk result ((now (P.store db.pages)).in_group ≡ false) }
         ensures same { IfErr result (λ e. e.0 ≡ db) }
         ensures err { IfErr result (λ e. RefusesExport (P.store db.pages) e.1) }
@@ -162,12 +164,13 @@ impl<P: Pages, L: Ledger, M: MergeOperator> Db<P, L, M> {
             lock,
             callers,
             given: 0,
+            before: 0,
             rest,
             opening: kept,
         })
     }
 
-    /// A handle for one caller more, whose number is the next, from 1. Refused with `Unsupported` (`numbers used up`) where all callers
+    /// A handle for one caller more, whose number is the next, from 1 or from behind those of callers before. Refused with `Unsupported` (`numbers used up`) where all callers
     /// have one, and with `NoMemory`; nothing changes then.
     ///
     /// ```
@@ -175,7 +178,7 @@ impl<P: Pages, L: Ledger, M: MergeOperator> Db<P, L, M> {
     /// let two = shared.handle(alloc)?; // and for another.
     /// ```
     pub fn handle(&mut self, alloc: Global) -> Result<Handle<P, L, M>>
-        ensures ok { IfOk result (λ h. h ≡ record { number = self.old.given + 1; made = [] }) }
+        ensures ok { IfOk result (λ h. h ≡ record { number = self.old.before + (self.old.given + 1); made = [] }) }
         ensures next { OnOk result (self.new ≡ record (self.old) { given = self.old.given + 1 }) }
         ensures all { OnOk result (self.old.given < self.old.callers) }
         ensures err { OnErr result (self.new ≡ self.old) }
@@ -189,13 +192,13 @@ impl<P: Pages, L: Ledger, M: MergeOperator> Db<P, L, M> {
         };
         let share = self.rest.split_off(1, 0);
         self.given += 1;
-        let me = Caller::new(Vec::new(alloc), self.given, share);
+        let me = Caller::new(Vec::new(alloc), self.before + self.given, share);
         Ok(Handle::new(lock, me))
     }
 }
 
 // Puts a state under its lock.
-fn fill<P: Pages, L: Ledger, M: MergeOperator>(
+pub(crate) fn fill<P: Pages, L: Ledger, M: MergeOperator>(
     rt: &impl Wait,
     lock: &Mutex<Option<State<P, L, M>>>,
     state: State<P, L, M>,
@@ -213,6 +216,7 @@ impl<P: Pages, L: Ledger, M: Drop> Drop for Db<P, L, M> {
             lock,
             callers: _,
             given: _,
+            before: _,
             rest,
             opening,
         } = self;

@@ -1,8 +1,9 @@
 //! What callers made.
+use crate::read::Read;
 use sled_model::{Call, Reply, Tree, Whole};
 
-/// What a caller made: a call that was decided, with its reply, or parts of one that was refused after them. Two are equal where they are
-/// the same call with the same reply, or as many parts of it.
+/// What a caller made: a call that was decided, with its reply, parts of one that was refused after them, or a read, with what it told. Two
+/// are equal where they are the same call with the same reply, or as many parts of it.
 #[derive(Drop, PartialEq, Eq)]
 pub enum Made {
     /// A call on a key of a tree.
@@ -12,6 +13,8 @@ pub enum Made {
     /// So many parts, at least one, of a `Clear` or an `Import` that was refused after them: keys that it took out, or trees that it opened
     /// and pairs that it put in. `u64::MAX` stands for as many or more.
     Parts(Whole, u64),
+    /// A read under one lock, which changed nothing.
+    Read(Read),
 }
 
 /// What was made, and who made it.

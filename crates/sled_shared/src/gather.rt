@@ -1,8 +1,8 @@
 //! The state, out of its lock.
-ghost use Rattle.std.specs.Prelude.{◌≡◌, true, All, IfOk, IfErr, IfSome, length, vec_len};
+ghost use Rattle.std.specs.Prelude.{◌≡◌, ◌+◌, true, All, IfOk, IfErr, IfSome, length, vec_len};
 ghost use Rattle.sled_model.specs.Collections.{contents_of};
 ghost use Rattle.sled_shared.specs.Sound.{HasCrashMaps, HasHistory, HasLegalHistory, HasRisingIds};
-ghost use Rattle.sled_shared.specs.Gathered.{EachOnce, IsMadeIn, IsOfGiven};
+ghost use Rattle.sled_shared.specs.Gathered.{EachOnceBehind, IsMadeIn, IsOfGiven};
 
 use crate::compare::{all_agree, are_all, are_same_collections, has_no_others};
 use crate::db::Db;
@@ -55,9 +55,9 @@ impl<P: Pages, L: Ledger, M: MergeOperator> Db<P, L, M> {
         handles: Vec<Handle<P, L, M>>,
     ) -> std::result::Result<State<P, L, M>, (Db<P, L, M>, Vec<Handle<P, L, M>>)>
         ensures count { IfOk result (λ s. vec_len handles ≡ self.given) }
-        ensures numbers { IfOk result (λ s. EachOnce self.given handles.items) }
+        ensures numbers { IfOk result (λ s. EachOnceBehind self.before self.given handles.items) }
         ensures made { IfOk result (λ s. All (IsMadeIn s.history) handles.items) }
-        ensures others { IfOk result (λ s. All (IsOfGiven self.given) s.history) }
+        ensures others { IfOk result (λ s. All (IsOfGiven (self.before + self.given)) s.history) }
         ensures opening { IfOk result (λ s. s.opening ≡ self.opening) }
         ensures legal { IfOk result (HasLegalHistory P.store) }
         ensures leads { IfOk result HasHistory }
@@ -118,16 +118,17 @@ impl<P: Pages, L: Ledger, M: MergeOperator> Db<P, L, M> {
     // The state, where all handles are there and agree with it; else it stays.
     fn take_if(&self, rt: &impl Wait, handles: &[Handle<P, L, M>]) -> Option<State<P, L, M>>
         ensures count { IfSome result (λ s. length handles.now ≡ self.now.given) }
-        ensures numbers { IfSome result (λ s. EachOnce self.now.given handles.now) }
+        ensures numbers { IfSome result (λ s. EachOnceBehind self.now.before self.now.given handles.now) }
         ensures made { IfSome result (λ s. All (IsMadeIn s.history) handles.now) }
-        ensures others { IfSome result (λ s. All (IsOfGiven self.now.given) s.history) }
+        ensures others { IfSome result (λ s. All (IsOfGiven (self.now.before + self.now.given)) s.history) }
         ensures opening { IfSome result (λ s. s.opening ≡ self.now.opening) }
     {
-        if !are_all(handles, self.given) {
+        if !are_all(handles, self.before, self.given) {
             return None;
         }
         let mut guard = self.lock.lock(rt);
-        take_agreeing(&mut *guard, handles, self.given, self.opening.as_slice())
+        let last = self.before + self.given;
+        take_agreeing(&mut *guard, handles, last, self.opening.as_slice())
     }
 }
 

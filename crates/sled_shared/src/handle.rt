@@ -8,6 +8,7 @@ ghost use Rattle.sled_nodes.specs.Order.{Key};
 ghost use Rattle.sled_shared.specs.Fetches.{Fetches};
 ghost use Rattle.sled_shared.specs.Made.{made_values};
 ghost use Rattle.sled_shared.specs.Notes.{AddsStep, IsEnd, IsGivenUp, noted_of};
+ghost use Rattle.sled_shared.specs.Replies.{RepliesTo};
 ghost use Rattle.sled_shared.specs.WholeNotes.{AddsWhole};
 
 use crate::caller::Caller;
@@ -37,8 +38,8 @@ impl Gate for NoGate {
 
 /// A caller's way to a database that is shared. It goes to a thread by value, and comes back to `gather`.
 pub struct Handle<P: Pages, L: Ledger, M = Box<dyn MergeOperator + Send>> {
-    lock: Arc<Mutex<Option<State<P, L, M>>>>,
-    me: Caller<L>,
+    pub(crate) lock: Arc<Mutex<Option<State<P, L, M>>>>,
+    pub(crate) me: Caller<L>,
 }
 
 impl<P: Pages, L: Ledger, M> Model for Handle<P, L, M> {
@@ -68,8 +69,8 @@ impl<P: Pages, L: Ledger, M> Handle<P, L, M> {
         self.me.number
     }
 
-    /// What this caller made, in order: each of its calls on a key and of its whole calls that was decided, with its reply, and the parts of
-    /// those that were refused after some.
+    /// What this caller made, in order: each of its calls on a key and of its whole calls that was decided, with its reply, the parts of
+    /// those that were refused after some, and each of its reads, with what it told.
     ///
     /// ```
     /// let count = handle.made().len();
@@ -135,6 +136,7 @@ impl<P: Pages, L: Ledger, M: MergeOperator> Handle<P, L, M> {
     /// ```
     pub fn whole(&mut self, rt: &impl Wait, whole: Whole) -> Outcome
         ensures made { AddsWhole whole result self.old.made self.new.made }
+        ensures replies { RepliesTo whole result }
         ensures number { self.new.number ≡ self.old.number }
     {
         let mut guard = self.lock.lock(rt);

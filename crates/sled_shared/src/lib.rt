@@ -3,7 +3,8 @@
 //! A `Db` holds a machine under a lock, and each caller has a `Handle` to it. The lock is taken for one step of one call, and is free between
 //! two steps, so the calls of several threads go on side by side. Each call on a key and each whole call that is decided is noted: at the
 //! end of the history, with the number of the caller whose step decided it, and at the end of that caller's own list. A `Clear` or an
-//! `Import` that is refused midway is noted with the parts that it did.
+//! `Import` that is refused midway is noted with the parts that it did. A read under one lock, which takes no slot, is noted with what it
+//! told: a value, a pair, a count, a page of a range, the names of the trees, or an export (`specs/Reads`).
 //!
 //! Whenever the lock is free the history is legal: from the collections that the database had when it was shared, each call replied and
 //! wrote what it would have, made alone at its place. As long as no group was refused midway, which closes the database, the maps after the
@@ -11,6 +12,10 @@
 //! entry and part of the history, behind those that it might have left before; from the last flush on those alone (`specs/Crashes`). A
 //! caller's list is as long as its share of the entries, which a ledger counts. At the end `gather` takes all handles back and compares: each
 //! list is that of its caller's entries, and the history has no others. Where handles were lost `reclaim` takes the state without them.
+//! `share_again` shares such a state once more: its calls in flight stay in their slots, and its history and the numbers of its callers go on.
+//!
+//! A closure is run as a transaction in one step under the lock, over the pages as they are, and what it wrote is noted as a group
+//! (`specs/Transactions`).
 //!
 //! ```
 //! // For two callers: a ledger with a part for each, and one more. At `Err` the database is given back.
@@ -19,6 +24,9 @@
 //! ```
 #![tactic(auto)]
 
+mod again;
+mod answers;
+mod call_error;
 mod caller;
 mod compare;
 mod db;
@@ -26,17 +34,29 @@ mod entry;
 mod fetches;
 mod gather;
 mod handle;
+mod handle_reads;
+mod handle_wholes;
 mod kept;
 mod noting;
+mod pages;
+mod read;
+mod reading;
 mod state;
+mod state_reads;
 mod steps;
+mod told;
+mod transactions;
 mod whole_tests;
 mod wholes;
 
+pub use call_error::{CallError, CallResult, reply_of};
 pub use caller::Caller;
 pub use db::Db;
 pub use entry::{Entry, Made};
 pub use handle::{Gate, Handle, NoGate};
+pub use lent_pages::Lent;
+pub use read::{Answer, Question, Read};
 pub use state::State;
+pub use told::{Collections, Names, Pairs};
 // an unopened ledger, which `Db::new` takes
 pub use std::sync::ledger::Blank;

@@ -5,7 +5,7 @@ use sled_model::{Collection, MergeOperator};
 use sled_store::Pages;
 use std::marker::Model;
 use std::sync::Arc;
-use std::sync::ledger::{Book, Ledger};
+use std::sync::ledger::{Book, Ledger, Share};
 
 /// A machine, the collections that its database had when it was shared, and what callers made since, in order. This history is legal, which
 /// `audit` tells.
@@ -33,7 +33,7 @@ impl<P: Pages, L: Ledger, M> Model for State<P, L, M> {
 }
 
 impl<P: Pages, L: Ledger, M: MergeOperator> State<P, L, M> {
-    ghost use Rattle.std.specs.Prelude.{◌≡◌};
+    ghost use Rattle.std.specs.Prelude.{◌≡◌, ◌<◌};
     ghost use Rattle.sled_shared.specs.Sound.{HasCrashMaps, HasHistory, HasLegalHistory, HasRisingIds};
 
     /// The machine, lent: its database, its pages and its calls in flight. So whoever holds a state can ask whether its database is open.
@@ -69,6 +69,34 @@ impl<P: Pages, L: Ledger, M: MergeOperator> State<P, L, M> {
         drop(history);
         drop(calls);
         machine
+    }
+
+    // The same state, with another ledger, of which a share that counts nothing yet counts its entries.
+    pub(crate) fn counted_by<N: Ledger>(
+        self,
+        calls: Book<N>,
+        share: &mut Share<N>,
+    ) -> State<P, N, M>
+        requires none { calls.total ≡ 0 }
+        requires parts { 0 < share.old.parts }
+        ensures same { result ≡ self }
+        ensures parts { share.new.parts ≡ share.old.parts }
+    {
+        let Self {
+            machine,
+            opening,
+            history,
+            calls: before,
+        } = self;
+        drop(before);
+        let mut calls = calls;
+        calls.add(share, history.len() as u64);
+        State {
+            machine,
+            opening,
+            history,
+            calls,
+        }
     }
 }
 

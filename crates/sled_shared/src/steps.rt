@@ -10,6 +10,7 @@ ghost use Rattle.sled_calls.specs.Values.{slots_of, job_of_call};
 ghost use Rattle.sled_shared.specs.Fetches.{Fetches};
 ghost use Rattle.sled_shared.specs.Made.{entry_values};
 ghost use Rattle.sled_shared.specs.Notes.{AddsStep, IsGivenUp, entries_of, noted_in, noted_of};
+ghost use Rattle.sled_shared.specs.Replies.{RepliesTo};
 ghost use Rattle.sled_shared.specs.Sound.{HasCrashMaps, HasHistory, HasLegalHistory, HasRisingIds};
 ghost use Rattle.sled_shared.specs.Steps.{SlotStep};
 ghost use Rattle.sled_shared.specs.theory.Noting.{job_pair};
@@ -300,6 +301,7 @@ pub(crate) fn whole_adding<P: Pages, L: Ledger, M: MergeOperator>(
     whole: Whole,
 ) -> Outcome
     ensures made { AddsWhole whole result me.old.made me.new.made }
+    ensures replies { RepliesTo whole result }
     ensures number { me.new.number ≡ me.old.number }
 {
     match held {

@@ -3,7 +3,8 @@
 //!     thread_bench PAIRS CALLS SEED THREADS WORKLOAD..
 //!
 //! Each workload begins with so many pairs loaded anew, at least one. So many threads, at most 255, share the database, and each makes so
-//! many calls by its handle, on keys of these pairs: `gets`, or a `mix` of 95 gets and 5 inserts of 100. Then the handles are given back.
+//! many calls by its handle, on keys of these pairs: `gets`, or a `mix` of 95 gets and 5 inserts of 100; in `reads` and `mixed_reads` each get
+//! is a read under one lock. Then the handles are given back.
 //! Up to 8 pairs are in one leaf. Keys are 8 bytes, and values 16. Each call is recorded in memory, in the history and in the handle's own
 //! list, so a hundred thousand calls are enough.
 //!
@@ -29,9 +30,9 @@ use std::rt::Clock;
 use std::sync::Wait;
 use std::thread::Threads;
 use threads::{Told, run};
-use work::{Work, inserts_in};
+use work::{Kind, Work, kind_of};
 
-// What the words ask for, with no inserts as yet.
+// What the words ask for, with gets alone as yet.
 fn read_words(alloc: Global, words: &[String; 4]) -> Option<Work> {
     let [pairs, calls, seed, threads] = words;
     match (pairs.parse(), calls.parse(), seed.parse(), threads.parse()) {
@@ -40,7 +41,10 @@ fn read_words(alloc: Global, words: &[String; 4]) -> Option<Work> {
             pairs: Pairs { seed, count },
             calls,
             threads,
-            inserts: 0,
+            kind: Kind {
+                inserts: 0,
+                at_once: false,
+            },
         }),
         _ => None,
     }
@@ -86,10 +90,10 @@ fn measure_all<R: Threads + Wait + Clock + Print + Eprint + Sync>(
     names: &[String],
 ) -> bool {
     for name in names {
-        let Some(inserts) = inserts_in(name.as_str()) else {
+        let Some(kind) = kind_of(name.as_str()) else {
             return false;
         };
-        let done = match measure(rt, &Work { inserts, ..work }) {
+        let done = match measure(rt, &Work { kind, ..work }) {
             Some(told) => tell(rt, name.as_str(), &told),
             None => false,
         };

@@ -5,7 +5,7 @@ use crate::loaded::{Owned, is_done};
 use crate::pairs::{NO_MARK, mark_of};
 use crate::work::{Way, Work};
 use sled::MemPages;
-use sled_machine::shared::{Blank, Db, Entry, Made, State};
+use sled_machine::shared::{Answer, Blank, Db, Entry, Made, Read, State};
 use sled_model::{Call, Reply, Tree};
 use std::alloc::Global;
 use std::sync::Wait;
@@ -70,11 +70,20 @@ fn mark_in(reply: &Reply) -> u64 {
     }
 }
 
+// The mark of the value in an answer.
+fn mark_told(answer: &Answer) -> u64 {
+    match answer {
+        Answer::Value(Some(value)) => mark_of(value.as_ref()),
+        _ => NO_MARK,
+    }
+}
+
 // What stands for a call in a checksum: the mark in its reply, turned by a bit where it is an insert.
 fn digest(made: &Made) -> u64 {
     match made {
         Made::Point(_, Call::Get(_), reply) => mark_in(reply),
         Made::Point(_, Call::Insert(_, _), reply) => mark_in(reply).rotate_left(1),
+        Made::Read(Read::Tree(_, _, answer)) => mark_told(answer),
         _ => 0,
     }
 }

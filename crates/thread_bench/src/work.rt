@@ -10,24 +10,33 @@ use std::sync::ledger::Ledger;
 /// A caller's way to the database.
 pub type Way<L> = Handle<MemPages, L>;
 
-/// So many calls by each of so many threads, on keys of these pairs. Of a hundred so many are inserts, and the others gets. Memory comes from
-/// this allocator.
+/// So many calls by each of so many threads, on keys of these pairs. Memory comes from this allocator.
 #[derive(Clone, Copy)]
 pub struct Work {
     pub alloc: Global,
     pub pairs: Pairs,
     pub calls: u64,
     pub threads: u8,
-    pub inserts: u64,
+    pub kind: Kind,
 }
 
-/// How many of a hundred calls are inserts in the workload of this name.
-pub fn inserts_in(name: &str) -> Option<u64> {
-    match name {
-        "gets" => Some(0),
-        "mix" => Some(5),
-        _ => None,
-    }
+/// What calls are made: of a hundred so many inserts, and the others gets, or reads under one lock.
+#[derive(Clone, Copy)]
+pub struct Kind {
+    pub inserts: u64,
+    pub at_once: bool,
+}
+
+/// The calls of the workload of this name.
+pub fn kind_of(name: &str) -> Option<Kind> {
+    let (inserts, at_once) = match name {
+        "gets" => (0, false),
+        "reads" => (0, true),
+        "mix" => (5, false),
+        "mixed_reads" => (5, true),
+        _ => return None,
+    };
+    Some(Kind { inserts, at_once })
 }
 
 impl Work {
@@ -37,12 +46,14 @@ impl Work {
             let choice = self.pairs.choice(handle.number(), turn);
             let place = self.pairs.place(choice);
             let key = self.pairs.key(place);
-            drop(if (choice >> 32) % 100 < self.inserts {
+            if (choice >> 32) % 100 < self.kind.inserts {
                 let value = self.pairs.value(place, choice);
-                handle.insert(rt, self.alloc, tree, &key, &value)
+                drop(handle.insert(rt, self.alloc, tree, &key, &value));
+            } else if self.kind.at_once {
+                drop(handle.get_now(rt, self.alloc, tree, &key));
             } else {
-                handle.get(rt, self.alloc, tree, &key)
-            });
+                drop(handle.get(rt, self.alloc, tree, &key));
+            }
         }
     }
 }

@@ -25,7 +25,7 @@ returns-clause-made g c =
 pub invariant_of-self : goal.invariant_of-self
 invariant_of-self g c =
     let longer = c.note_and_count.ensures.history ∙ ap (λ es. entry_values es ++ entries_of c.me.inside.number (first_noted c.step_noting-outcome.result.1)) c.step_noting-outcome.ensures.history ∙ ap (λ m. entry_values c.self.inside.history.items ++ entries_of c.me.inside.number m) c.step_noting-outcome.ensures.noted in
-    let crashes = step_leaves g.P.Pages.store g.P.Pages.flush_number g.M.MergeOperator.meant c.self.inside.machine c.step_noting-outcome.new.machine (contents_of c.self.inside.opening.value.items) (entry_values c.self.inside.history.items) c.self.invariant.crashes c.me.inside.number c.args.slot _ _ c.step_noting-outcome.ensures.step.step longer in
+    let crashes = (step_leaves g.P.Pages.store g.P.Pages.flush_number g.M.MergeOperator.meant c.self.inside.machine c.step_noting-outcome.new.machine (contents_of c.self.inside.opening.value.items) (entry_values c.self.inside.history.items) c.self.invariant.crashes c.me.inside.number c.args.slot _ _ c.step_noting-outcome.ensures.step.step longer).0 in
     record {
       legal = legal_of crashes;
       leads = leads_of crashes;

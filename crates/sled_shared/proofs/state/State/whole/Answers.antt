@@ -29,7 +29,7 @@ invariant_of-self g c =
       adds = c.note_and_count.ensures.history ∙ ap (λ es. entry_values es ++ entries_of c.me.inside.number (first_noted c.whole_noting-outcome.result.1)) c.whole_noting-outcome.ensures.history;
       adds_there = c.note_and_count.ensures.made ∙ ap (λ ms. made_values ms ++ first_noted c.whole_noting-outcome.result.1) c.whole_noting-outcome.ensures.made;
     } in
-    let crashes = whole_leaves g.P.Pages.store g.P.Pages.flush_number g.M.MergeOperator.meant c.self.inside.machine c.whole_noting-outcome.new.machine (contents_of c.self.inside.opening.value.items) (entry_values c.self.inside.history.items) c.self.invariant.crashes c.me.inside.number _ _ _ _ _ notes in
+    let crashes = (whole_leaves g.P.Pages.store g.P.Pages.flush_number g.M.MergeOperator.meant c.self.inside.machine c.whole_noting-outcome.new.machine (contents_of c.self.inside.opening.value.items) (entry_values c.self.inside.history.items) c.self.invariant.crashes c.me.inside.number _ _ _ _ _ notes).0 in
     record {
       legal = legal_of crashes;
       leads = leads_of crashes;

@@ -1,0 +1,58 @@
+-- A transaction is calls of its owner: its closure takes ids, what it wrote is made as a group, and a flush may follow.
+use Rattle.std.proofs.Common.{◌≡◌, ℕ, Bool, true, false, ◌&&◌, List, [], Result, sym, refl, subst, inl, inr}
+use Rattle.sled_nodes.specs.declared.error.Error.{Error}
+use Rattle.sled_batch.specs.Batch.{Writes}
+use Rattle.sled_store.specs.Store.{Store}
+use Rattle.sled_model.specs.Maps.{Merge}
+use Rattle.sled_model.specs.declared.tree.Tree.{Tree}
+use Rattle.tree_transactions.specs.Attempts.{Answer, Closure}
+use Rattle.tree_transactions.specs.declared.attempts.Commit.{Commit}
+use Rattle.tree_transactions.specs.declared.errors.TransactionError.{TransactionError}
+use Rattle.tree_transactions.specs.declared.errors.TransactionError.TheVariants.{Abort, Storage}
+use Rattle.tree_transactions.specs.declared.tree.TransactionalTree.{TransactionalTree}
+use Rattle.tree_transactions.specs.declared.trees.TransactionalTrees.{TransactionalTrees}
+use Rattle.sled.specs.Transactions.{flushes_as, MakesWrites, Commits, Stops, ByTest, ByClosure, ByGroup, ByFlush, fails_as, Fails}
+use Rattle.sled.specs.Values.{DbValue}
+use Rattle.sled_calls.specs.Values.{MachineValue}
+use Rattle.sled_shared.specs.Made.{MadeValue}
+use Rattle.call_laws.specs.Calls.{TookIds, DidGroup, GroupStopped, Flushed, FlushStopped, Called, MakesCalls, NoCall, OneCall}
+use Rattle.call_laws.specs.Laws.{committed, IsUncommitted, TransactionLaw, ListLaw}
+
+module _ {P M A E W : Type 0} (store : P → Store) (number : P → ℕ) (meant : M → Merge) (tests : Error → Type 0) (reaches : Result (Commit A W) (TransactionError E) → Store → ℕ → Type 0) (batches_of : W → List (Tree × Writes)) (has_trees : Bool) (m : MachineValue P M) where
+  abbrev Calls : List MadeValue → DbValue P M → Type 0
+  Calls made new = MakesCalls store number meant m made (record m { db = new })
+
+  -- the group, and the flush where one is asked for
+  flushed : (commit : Commit A W) (run made : DbValue P M) → MakesWrites store number meant tests reaches batches_of has_trees m.db commit run made → (b : Bool) (new : DbValue P M) → flushes_as store number meant b made new
+      → (n : ℕ) × Calls (committed (batches_of commit.writes) b n) new
+  flushed commit run made k false new f = (0, subst (λ d. Calls (committed (batches_of commit.writes) false 0) d) (sym f) (OneCall (Called (TookIds k.runs.takes)) (OneCall (Called (DidGroup k.group)) NoCall)))
+  flushed commit run made k true new f = (f.0, OneCall (Called (TookIds k.runs.takes)) (OneCall (Called (DidGroup k.group)) (OneCall (Called (Flushed f.1)) NoCall)))
+
+  pub commits : (answer : A) (new : DbValue P M) → (t : Commits store number meant tests reaches batches_of has_trees m.db answer new) → (n : ℕ) × Calls (committed (batches_of t.commit.writes) (has_trees && t.commit.flushes) n) new
+  commits answer new t = flushed t.commit t.run t.made t.makes (has_trees && t.commit.flushes) new t.flushes
+
+  stops : (e : Error) (new : DbValue P M) → Stops store number meant tests reaches batches_of has_trees m.db e new → (made : List MadeValue) × IsUncommitted made × Calls made new
+  stops e new (ByTest t same) = ([], inl refl, subst (λ d. Calls [] d) (sym same) NoCall)
+  stops e new (ByClosure k) = ([], inl refl, OneCall (Called (TookIds k.takes)) NoCall)
+  stops e new (ByGroup commit run k g quiet) = ([], inl refl, OneCall (Called (TookIds k.takes)) (OneCall (Called (GroupStopped g)) NoCall))
+  stops e new (ByFlush commit run made k asked f) = (committed (batches_of commit.writes) false 0, inr (batches_of commit.writes, refl), OneCall (Called (TookIds k.runs.takes)) (OneCall (Called (DidGroup k.group)) (OneCall (Called (FlushStopped f)) NoCall)))
+
+  pub fails : (e : TransactionError E) (new : DbValue P M) → Fails store number meant tests reaches batches_of has_trees m.db e new → (made : List MadeValue) × IsUncommitted made × Calls made new
+  fails e new k = go e k.is
+    where
+      go : (e : TransactionError E) → fails_as store number meant tests reaches batches_of has_trees m.db e new → (made : List MadeValue) × IsUncommitted made × Calls made new
+      go (Abort x) k = ([], inl refl, OneCall (Called (TookIds k.takes)) NoCall)
+      go (Storage x) k = stops x new k
+
+module _ {P M F R A E : Type 0} (store : P → Store) (number : P → ℕ) (meant : M → Merge) where
+  pub transacts : (says : Closure F (TransactionalTree P) R) (result_of : R → Answer A E) → TransactionLaw store number meant says result_of
+  transacts says result_of = record {
+    made = λ m new f tree answer t. commits store number meant _ _ _ true m answer new t;
+    not_made = λ m new f tree e t. fails store number meant _ _ _ true m e new t;
+  }
+
+  pub transacts_all : (says : Closure F (TransactionalTrees P) R) (result_of : R → Answer A E) → ListLaw store number meant says result_of
+  transacts_all says result_of = record {
+    made = λ m new f trees answer t. commits store number meant _ _ _ _ m answer new t;
+    not_made = λ m new f trees e t. fails store number meant _ _ _ _ m e new t;
+  }

@@ -1,0 +1,52 @@
+-- What the calls of one owner come to together.
+use Rattle.std.specs.Prelude.{◌≡◌, ◌⊎◌, ℕ, Bool, true, false, ◌&&◌, List, [], ◌∷◌, ◌++◌}
+use Rattle.std.specs.List.{zip}
+use Rattle.sled_batch.specs.Batch.{Writes}
+use Rattle.sled_store.specs.Store.{Store}
+use Rattle.sled_model.specs.Collections.{Content}
+use Rattle.sled_model.specs.Maps.{Maps, Merge}
+use Rattle.sled_model.specs.declared.tree.Tree.{Tree}
+use Rattle.sled_model.specs.declared.reply.Reply.TheVariants as told
+use Rattle.tree_transactions.specs.Attempts.{Answer, Closure}
+use Rattle.tree_transactions.specs.declared.tree.TransactionalTree.{TransactionalTree}
+use Rattle.tree_transactions.specs.declared.trees.TransactionalTrees.{TransactionalTrees}
+use Rattle.tree_transactions.specs.declared.errors.TransactionError.{TransactionError}
+use Rattle.sled.specs.Transactions.{TransactionMade, TransactionNotMade, ListMade, ListNotMade, has_trees}
+use Rattle.sled.specs.Values.{DbValue}
+use Rattle.sled_calls.specs.Values.{MachineValue}
+use Rattle.sled_shared.specs.Made.{MadeValue, WholeMade}
+use Rattle.sled_shared.specs.Wholes as value
+use Rattle.call_laws.specs.Calls.{MakesCalls, IsRecord}
+
+-- what is a record of the calls up to now is one of all calls after more of them
+abbrev pub RecordLaw : {P M : Type 0} → (P → Store) → (P → ℕ) → (M → Merge) → Type 0
+RecordLaw {P} {M} store flush_number meant = (a b : MachineValue P M) (opening : List Content) (earlier : List Maps) (before made : List MadeValue) → IsRecord store a opening earlier before → MakesCalls store flush_number meant a made b
+    → IsRecord store b opening earlier (before ++ made)
+
+-- calls and then more calls are calls
+abbrev pub JoinedLaw : {P M : Type 0} → (P → Store) → (P → ℕ) → (M → Merge) → Type 0
+JoinedLaw {P} {M} store flush_number meant = (a m b : MachineValue P M) (made more : List MadeValue) → MakesCalls store flush_number meant a made m → MakesCalls store flush_number meant m more b → MakesCalls store flush_number meant a (made ++ more) b
+
+-- what a transaction made that was committed: the group of what it wrote, and then the flush that it asked for, if it did
+abbrev pub committed : List (Tree × Writes) → Bool → ℕ → List MadeValue
+committed batches false number = WholeMade (value.Group batches) told.Done ∷ []
+committed batches true number = WholeMade (value.Group batches) told.Done ∷ (WholeMade value.Flush (told.Number number) ∷ [])
+
+-- .. and one that was not made: nothing, or some group (that of what it wrote, where the flush that it asked for was refused; which it was is not said here)
+abbrev pub IsUncommitted : List MadeValue → Type 0
+IsUncommitted made = (made ≡ []) ⊎ ((batches : List (Tree × Writes)) × (made ≡ committed batches false 0))
+
+-- Whatever machine has the database, a transaction of a tree is calls of its owner. Where it was committed it made the group of what it wrote, with
+-- the flush that it asked for; and else nothing, or a group alone
+pub record TransactionLaw {P M F R A E : Type 0} (store : P → Store) (flush_number : P → ℕ) (meant : M → Merge) (says : Closure F (TransactionalTree P) R) (result_of : R → Answer A E) : Type 0 where
+  pub made : (m : MachineValue P M) (new : DbValue P M) (f : F) (tree : Tree) (answer : A) → (t : TransactionMade store flush_number meant says result_of f m.db tree answer new)
+      → (number : ℕ) × MakesCalls store flush_number meant m (committed ((tree, t.commit.writes) ∷ []) t.commit.flushes number) (record m { db = new })
+  pub not_made : (m : MachineValue P M) (new : DbValue P M) (f : F) (tree : Tree) (e : TransactionError E) → TransactionNotMade store flush_number meant says result_of f m.db tree e new
+      → (made : List MadeValue) × IsUncommitted made × MakesCalls store flush_number meant m made (record m { db = new })
+
+-- .. and so is one of a list of trees
+pub record ListLaw {P M F R A E : Type 0} (store : P → Store) (flush_number : P → ℕ) (meant : M → Merge) (says : Closure F (TransactionalTrees P) R) (result_of : R → Answer A E) : Type 0 where
+  pub made : (m : MachineValue P M) (new : DbValue P M) (f : F) (trees : List Tree) (answer : A) → (t : ListMade store flush_number meant says result_of f m.db trees answer new)
+      → (number : ℕ) × MakesCalls store flush_number meant m (committed (zip trees t.commit.writes) (has_trees trees && t.commit.flushes) number) (record m { db = new })
+  pub not_made : (m : MachineValue P M) (new : DbValue P M) (f : F) (trees : List Tree) (e : TransactionError E) → ListNotMade store flush_number meant says result_of f m.db trees e new
+      → (made : List MadeValue) × IsUncommitted made × MakesCalls store flush_number meant m made (record m { db = new })

@@ -1,0 +1,86 @@
+-- What reads under one lock tell.
+use Rattle.std.specs.Prelude.{◌≡◌, ◌↔◌, ℕ, Bool, true, IsTrue, List, [], length, take, Option, Some, is_some}
+use Rattle.std.specs.FinMap.Entries.{find}
+use Rattle.std.specs.declared.ops.Bound.{Bound}
+use Rattle.std.specs.declared.ops.Bound.TheVariants.{Excluded, Unbounded}
+use Rattle.sled_nodes.specs.Among.{IsSuccessor, IsPredecessor}
+use Rattle.sled_nodes.specs.Order.{Key, key_cmp}
+use Rattle.sled_store.specs.In.{In}
+use Rattle.sled_model.specs.Maps.{Map, Maps}
+use Rattle.sled_model.specs.declared.tree.Tree.{Tree}
+use Rattle.tree_reads.specs.Ranges.{pairs_within}
+use Rattle.sled.specs.Names.{Ascend}
+use Rattle.sled_shared.specs.Openings.{maps_from}
+use Rattle.sled_shared.specs.Orders.{in_order}
+use Rattle.sled_shared.specs.declared.read.Question.{Question}
+use Rattle.sled_shared.specs.declared.read.Question.TheVariants.{Get, ContainsKey, First, Last, GetLt, GetGt, Len, IsEmpty, Page}
+use Rattle.sled_shared.specs.declared.read.Answer.{Answer}
+use Rattle.sled_shared.specs.declared.read.Answer.TheVariants.{Value, Flag, Pair, Count, Pairs}
+use Rattle.sled_shared.specs.declared.read.Read.{Read}
+use Rattle.sled_shared.specs.declared.read.Read.TheVariants as read
+
+-- the first so many of the pairs within two bounds, in the order in which they are read
+abbrev pub page_of : Bound Key → Bound Key → Bool → ℕ → Map → List (Key × Key)
+page_of lo hi back most map = take most (in_order back (pairs_within lo hi map))
+
+-- a pair of which this holds, if there is one, is told
+abbrev pub TellsPair : (Option (Key × Key) → Type 0) → Answer → Type 0
+TellsPair claim answer = (found : Option (Key × Key)) × claim found × (answer ≡ Pair found)
+
+-- what a question about a map is answered
+abbrev pub answers_as : Map → Question → Answer → Type 0
+answers_as map (Get key) answer = answer ≡ Value (find key_cmp key map)
+answers_as map (ContainsKey key) answer = answer ≡ Flag (is_some (find key_cmp key map))
+answers_as map First answer = TellsPair (IsSuccessor Unbounded map) answer
+answers_as map Last answer = TellsPair (IsPredecessor Unbounded map) answer
+answers_as map (GetLt key) answer = TellsPair (IsPredecessor (Excluded key) map) answer
+answers_as map (GetGt key) answer = TellsPair (IsSuccessor (Excluded key) map) answer
+answers_as map Len answer = answer ≡ Count (length map)
+answers_as map IsEmpty answer = (empty : Bool) × (IsTrue empty ↔ (map ≡ [])) × (answer ≡ Flag empty)
+answers_as map (Page lo hi back most) answer = answer ≡ Pairs (page_of lo hi back most map)
+
+-- the question about a tree is answered by its map
+pub record AnswersIn (maps : Maps) (tree : Tree) (question : Question) (answer : Answer) : Type 0 where
+  pub map : Map
+  pub there : maps tree.name ≡ Some map
+  pub is : answers_as map question answer
+
+-- these are the names that have a map, in order
+pub record NamesIn (maps : Maps) (names : List Key) : Type 0 where
+  pub ascend : Ascend names
+  pub each : (name : Key) → In name names → is_some (maps name) ≡ true
+  pub all : (name : Key) → is_some (maps name) ≡ true → In name names
+
+-- what was read tells what these maps are
+abbrev pub reads_as : Maps → Read → Type 0
+reads_as maps (read.Tree tree question answer) = AnswersIn maps tree question answer
+reads_as maps (read.Names names) = NamesIn maps names
+reads_as maps (read.Export all) = maps ≡ maps_from all
+
+-- of the kinds of answers each
+abbrev pub IsValue : Answer → Type 0
+IsValue answer = (value : Option Key) × (answer ≡ Value value)
+
+abbrev pub IsFlag : Answer → Type 0
+IsFlag answer = (flag : Bool) × (answer ≡ Flag flag)
+
+abbrev pub IsPair : Answer → Type 0
+IsPair answer = (pair : Option (Key × Key)) × (answer ≡ Pair pair)
+
+abbrev pub IsCount : Answer → Type 0
+IsCount answer = (count : ℕ) × (answer ≡ Count count)
+
+abbrev pub IsPage : Answer → Type 0
+IsPage answer = (pairs : List (Key × Key)) × (answer ≡ Pairs pairs)
+
+-- the kind of answer that a question has
+abbrev pub IsAnswerTo : Question → Answer → Type 0
+IsAnswerTo (Get key) answer = IsValue answer
+IsAnswerTo (ContainsKey key) answer = IsFlag answer
+IsAnswerTo First answer = IsPair answer
+IsAnswerTo Last answer = IsPair answer
+IsAnswerTo (GetLt key) answer = IsPair answer
+IsAnswerTo (GetGt key) answer = IsPair answer
+IsAnswerTo Len answer = IsCount answer
+IsAnswerTo IsEmpty answer = IsFlag answer
+IsAnswerTo (Page lo hi back most) answer = IsPage answer

@@ -1,0 +1,260 @@
+//! Transactions by a caller: a closure is run over the pages as they are, and what it wrote is made as a group, which is noted.
+ghost use Rattle.std.specs.Prelude.{◌≡◌, ◌∷◌, [], IfOk, OnOk, OnErr};
+ghost use Rattle.sled_store.specs.Store.{now};
+ghost use Rattle.sled_model.specs.Refusal.{must_refuse_of};
+ghost use Rattle.sled.specs.Values.{db_state};
+ghost use Rattle.sled_shared.specs.Transactions.{AddsTransaction, RunsIn, RunsOnce, batches_of_tree, group_made, notes_ended};
+ghost use Rattle.sled_shared.specs.theory.Transacting.{CommitNotedBy, CommitStopped, FlushNotedBy, NotedBy, TransactionNotedBy, is_decided, is_undecided, ran_as};
+
+use crate::caller::Caller;
+use crate::handle::Handle;
+use crate::state::State;
+use lent_pages::{Lent, run_on};
+use sled::{TransactionAnswer, TransactionError, TransactionResult, TransactionalTree};
+use sled_batch::Batch;
+use sled_calls::Machine;
+use sled_model::{MergeOperator, Outcome, Tree, Whole};
+use sled_nodes::{Error, Pid, Result};
+use sled_store::Pages;
+use std::alloc::Global;
+use std::sync::Wait;
+use std::sync::ledger::Ledger;
+use tree_transactions::Commit;
+
+// The root of a tree that passes the tests.
+#[tactic(auto, using(sled::proofs::Reading::no_root))]
+fn root_of<P: Pages, M: MergeOperator>(machine: &Machine<P, M>, tree: &Tree) -> Result<Pid>
+    ensures tested { OnOk result (must_refuse_of (db_state P.store M.meant machine.now.db) (tree.now ∷ []) ≡ None) }
+    ensures is { IfOk result (λ root. (now (P.store machine.now.db.pages)).roots tree.now.name ≡ Some root) }
+{
+    if let Err(e) = machine.db().check(tree) {
+        return Err(e);
+    }
+    match machine.db().pages().root(tree.name.as_ref()) {
+        Some(root) => Ok(root),
+        None => unreachable!(),
+    }
+}
+
+// Runs a closure at a tree, over the pages as they are. No id is set aside for it, and nothing is written.
+fn run<P: Pages + Sync, M: MergeOperator, A, E, R: TransactionAnswer<A, E>, F>(
+    machine: &Machine<P, M>,
+    tree: &Tree,
+    f: F,
+) -> TransactionResult<Commit<A, Batch>, E>
+where
+    F: Fn(&mut TransactionalTree<'_, Lent<'_, P>>) -> R,
+    requires { (shown : _) → F.pre f shown }
+    ensures { ran_as (RunsIn P.store M.meant F.Fn R.result_of f tree.now machine.now.db) result }
+{
+    machine.audit();
+    let root = match root_of(machine, tree) {
+        Ok(root) => root,
+        Err(e) => return Err(TransactionError::Storage(e)),
+    };
+    let pages = machine.db().pages();
+    let mut greatest_id = pages.mark();
+    run_on(machine.db().allocator(), pages, root, &mut greatest_id, f)
+}
+
+// What was written of a tree, as a group.
+fn group_of(alloc: Global, tree: &Tree, writes: Batch) -> Result<Vec<(Tree, Batch)>>
+    ensures { IfOk result (λ group. group.items ≡ batches_of_tree tree.now writes) }
+{
+    let tree = match tree.clone() {
+        Ok(tree) => tree,
+        Err(e) => {
+            drop(writes);
+            return Err(e);
+        }
+    };
+    let mut group = Vec::new(alloc);
+    match group.push((tree, writes)) {
+        Ok(()) => Ok(group),
+        Err(failed) => {
+            drop(failed);
+            drop(group);
+            Err(Error::NoMemory)
+        }
+    }
+}
+
+// Whether a whole call was decided.
+fn decided(outcome: Outcome) -> Result<()>
+    ensures ok { OnOk result (is_decided outcome) }
+    ensures err { OnErr result (is_undecided outcome) }
+{
+    match outcome {
+        Outcome::Decided(reply) => {
+            drop(reply);
+            Ok(())
+        }
+        Outcome::Refused(e) => Err(e),
+        // no whole call comes to anything else
+        other => {
+            drop(other);
+            Err(Error::Closed)
+        }
+    }
+}
+
+// Makes a group, and notes it.
+fn make_batches<P: Pages, L: Ledger, M: MergeOperator>(
+    state: &mut State<P, L, M>,
+    me: &mut Caller<L>,
+    group: Vec<(Tree, Batch)>,
+) -> Result<()>
+    ensures ok { OnOk result (NotedBy state.old me.old (group_made group.items ∷ []) state.new me.new) }
+    ensures err { OnErr result (NotedBy state.old me.old [] state.new me.new) }
+{
+    let outcome = state.whole(me, Whole::Group(group));
+    decided(outcome)
+}
+
+// Makes what was written of a tree as a group, and notes it.
+fn make_group<P: Pages, L: Ledger, M: MergeOperator>(
+    state: &mut State<P, L, M>,
+    me: &mut Caller<L>,
+    tree: &Tree,
+    writes: Batch,
+) -> Result<()>
+    ensures ok { OnOk result (NotedBy state.old me.old (group_made (batches_of_tree tree.now writes) ∷ []) state.new me.new) }
+    ensures err { OnErr result (NotedBy state.old me.old [] state.new me.new) }
+{
+    let alloc = state.machine.db().allocator();
+    match group_of(alloc, tree, writes) {
+        Ok(group) => make_batches(state, me, group),
+        Err(e) => Err(e),
+    }
+}
+
+// Makes all durable, and notes it.
+fn make_flush<P: Pages, L: Ledger, M: MergeOperator>(
+    state: &mut State<P, L, M>,
+    me: &mut Caller<L>,
+) -> Result<()>
+    ensures ok { OnOk result (FlushNotedBy state.old me.old state.new me.new) }
+    ensures err { OnErr result (NotedBy state.old me.old [] state.new me.new) }
+{
+    let outcome = state.whole(me, Whole::Flush);
+    decided(outcome)
+}
+
+// Makes what was written of a tree, and then all durable where that is asked for.
+fn commit<P: Pages, L: Ledger, M: MergeOperator>(
+    state: &mut State<P, L, M>,
+    me: &mut Caller<L>,
+    tree: &Tree,
+    writes: Batch,
+    flushes: bool,
+) -> Result<()>
+    ensures ok { OnOk result (CommitNotedBy state.old me.old (group_made (batches_of_tree tree.now writes)) flushes state.new me.new) }
+    ensures err { OnErr result (CommitStopped state.old me.old (group_made (batches_of_tree tree.now writes)) flushes state.new me.new) }
+{
+    if let Err(e) = make_group(state, me, tree, writes) {
+        return Err(e);
+    }
+    if !flushes {
+        return Ok(());
+    }
+    make_flush(state, me)
+}
+
+// A transaction of a tree: its closure is run, and what that wrote is made and noted.
+fn transact<
+    P: Pages + Sync,
+    L: Ledger,
+    M: MergeOperator,
+    A: Drop,
+    E,
+    R: TransactionAnswer<A, E>,
+    F,
+>(state: &mut State<P, L, M>, me: &mut Caller<L>, tree: &Tree, f: F) -> TransactionResult<A, E>
+where
+    F: Fn(&mut TransactionalTree<'_, Lent<'_, P>>) -> R,
+    requires { (shown : _) → F.pre f shown }
+    ensures { TransactionNotedBy (notes_ended (RunsIn P.store M.meant F.Fn R.result_of f tree.now state.old.machine.db) (batches_of_tree tree.now)) state.old me.old result state.new me.new }
+{
+    let ended = run(&state.machine, tree, f);
+    match ended {
+        Ok(
+            Commit {
+                answer,
+                writes,
+                flushes,
+            },
+        ) => match commit(state, me, tree, writes, flushes) {
+            Ok(()) => Ok(answer),
+            Err(e) => {
+                drop(answer);
+                Err(TransactionError::Storage(e))
+            }
+        },
+        Err(e) => Err(e),
+    }
+}
+
+// The same of what a lock holds. What was taken from under it is closed.
+fn transact_in<
+    P: Pages + Sync,
+    L: Ledger,
+    M: MergeOperator,
+    A: Drop,
+    E,
+    R: TransactionAnswer<A, E>,
+    F,
+>(
+    held: &mut Option<State<P, L, M>>,
+    me: &mut Caller<L>,
+    tree: &Tree,
+    f: F,
+) -> TransactionResult<A, E>
+where
+    F: Fn(&mut TransactionalTree<'_, Lent<'_, P>>) -> R,
+    requires { (shown : _) → F.pre f shown }
+    ensures made { AddsTransaction (RunsOnce P.store M.meant F.Fn R.result_of f tree.now) (batches_of_tree tree.now) result me.old.made me.new.made }
+    ensures number { me.new.number ≡ me.old.number }
+{
+    match held {
+        None => Err(TransactionError::Storage(Error::Closed)),
+        Some(state) => transact(state, me, tree, f),
+    }
+}
+
+impl<P: Pages + Sync, L: Ledger, M: MergeOperator> Handle<P, L, M> {
+    /// Runs a closure as a transaction of a tree: all that it writes is made, or nothing, in one step under the lock, so nobody writes between
+    /// what it read and what it wrote. What it wrote comes to the end of this caller's list as a group, also where that is empty, and behind
+    /// it a flush where it asked for one; of a transaction that is given up or refused nothing does, but the group where its flush was refused.
+    ///
+    /// The closure ends as one of `transaction` of the database does, and is run again while it ends by `Conflict`. It is called while the lock
+    /// is held: it must make no call on this database. No ids are set aside for it, so `generate_id` inside is refused: take ids before.
+    /// Refused as `transaction` of the database is, and with `Closed` where the database was taken out of its lock.
+    ///
+    /// ```
+    /// // Moves the value of one key to another.
+    /// let moved: TransactionResult<bool, ()> = handle.transaction(rt, &tree, |weather| {
+    ///     let Some(value) = weather.remove(b"ulm")? else {
+    ///         return Ok(false);
+    ///     };
+    ///     weather.insert(b"bern", value.as_ref())?;
+    ///     Ok(true)
+    /// });
+    /// ```
+    pub fn transaction<A: Drop, E, R: TransactionAnswer<A, E>, F>(
+        &mut self,
+        rt: &impl Wait,
+        tree: &Tree,
+        f: F,
+    ) -> R::Ended
+    where
+        F: Fn(&mut TransactionalTree<'_, Lent<'_, P>>) -> R,
+        requires { (shown : _) → F.pre f shown }
+        ensures made { AddsTransaction (RunsOnce P.store M.meant F.Fn R.result_of f tree.now) (batches_of_tree tree.now) (R.answer_of result) self.old.made self.new.made }
+        ensures number { self.new.number ≡ self.old.number }
+    {
+        let mut guard = self.lock.lock(rt);
+        let ended = transact_in(&mut *guard, &mut self.me, tree, f);
+        drop(guard);
+        R::ended(ended)
+    }
+}
