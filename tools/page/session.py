@@ -102,8 +102,8 @@ def spelled_line(text):
 
 @functools.lru_cache(None)
 def meanings():
-    """What is wrong where pages are refused, by the code that tells it, as docs/LINES.md has it."""
-    page = (TOP / "docs/LINES.md").read_text(encoding="utf-8")
+    """What is wrong where pages are refused, by the code that tells it, as crates/sledsh/README.md has it."""
+    page = (TOP / "crates/sledsh/README.md").read_text(encoding="utf-8")
     return dict(re.findall(r"^\| (\d+) \| (.+) \|$", page.partition("| code | what is wrong |")[2], re.M))
 
 
