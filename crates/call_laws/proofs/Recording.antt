@@ -1,5 +1,6 @@
 -- What is a record of the calls of an owner is one of more calls.
-use Rattle.std.proofs.Common.{◌≡◌, ◌≢◌, ◌∙◌, ℕ, ◌≤◌, false, List, [], ◌∷◌, ◌++◌, append-nil, append_assoc, map, Option, Some, None, sym, refl, ap, subst}
+use Rattle.std.proofs.Common.{◌≡◌, ◌≢◌, ◌∙◌, ℕ, ◌≤◌, false, List, [], ◌∷◌, ◌++◌, append-nil, append_assoc, map, Option, Some, None, option_map, sym, refl, ap, subst}
+use Rattle.std.proofs.Math.Path.{fun_ext}
 use Rattle.std.proofs.lemmas.List.{map-append}
 use Rattle.sled_nodes.specs.declared.error.Error.{Error}
 use Rattle.sled_batch.specs.Batch.{Writes}
@@ -8,9 +9,9 @@ use Rattle.sled_store.specs.theory.Facts.{now_left}
 use Rattle.sled_model.specs.Collections.{Content}
 use Rattle.sled_model.specs.Groups.{writes_of, DecidesGroup}
 use Rattle.sled_model.specs.Imports.{Imports}
-use Rattle.sled_model.specs.Maps.{Maps, Merge}
+use Rattle.sled_model.specs.Maps.{Map, Maps, Merge}
 use Rattle.sled_model.specs.Refusal.{ToPoint, trees_of_batches}
-use Rattle.sled_model.specs.State.{State, maps_of}
+use Rattle.sled_model.specs.State.{State, NamedTree, maps_of}
 use Rattle.sled_model.specs.declared.call.Call.{Call}
 use Rattle.sled_model.specs.declared.call.Whole.{Whole}
 use Rattle.sled_model.specs.declared.call.Whole.TheVariants as whole
@@ -23,7 +24,7 @@ use Rattle.sled_model.specs.declared.reply.Reply.{Reply}
 use Rattle.sled_model.specs.declared.reply.Reply.TheVariants.{Number, Done}
 use Rattle.tree_laws.specs.Contents.{trees_of}
 use Rattle.tree_laws.specs.Crashes.{AddsCrashStates, StutterEquivalent}
-use Rattle.tree_laws.proofs.Crashing.{matches_same}
+use Rattle.tree_laws.proofs.Crashing.{matches_same, extends_same}
 use Rattle.tree_pages.specs.Export.{collections}
 use Rattle.sled.specs.Direct.{Conducts, PointDecided, WholeDecided, WholeRefused}
 use Rattle.sled.specs.Flush.{FlushesDb, RefusesFlush}
@@ -31,7 +32,7 @@ use Rattle.sled.specs.Groups.{GroupDecided, GroupRefused}
 use Rattle.sled.specs.Imports.{ImportDecided}
 use Rattle.sled.specs.Parts.{ImportRefusedAfter}
 use Rattle.sled.specs.Sound.{IsDb}
-use Rattle.sled.specs.Values.{DbValue, db_state}
+use Rattle.sled.specs.Values.{DbValue, db_state, named, numbers_of}
 use Rattle.sled.proofs.Flushing.{stays_state}
 use Rattle.sled.proofs.Grouped.{tested_open}
 use Rattle.sled.proofs.Numbering.{id_decided, id_refused}
@@ -60,7 +61,7 @@ use Rattle.sled_shared.proofs.Opening.{opened}
 use Rattle.sled_shared.proofs.Leading.{Ends, tested, adds, goes, matched, led, ends, still, rests, none_added, step_leaves, begun_leaves, unbegun_leaves, abandon_leaves, entry, decided_whole, group_stops, import_refused, refused_whole, legal_of}
 use Rattle.sled_shared.proofs.WholeMakes.{have_maps, writes, parts}
 use Rattle.sled_shared.proofs.WholeTests.{pass_each}
-use Rattle.call_laws.specs.Calls.{DbCall, DidPoint, PointStopped, FetchStopped, DidWhole, WholeStopped, Flushed, FlushStopped, DidGroup, GroupStopped, Imported, ImportStopped, Dropped, DropStopped, GaveId, IdStopped, TookIds, Watched, WatchStopped, ToldNext, Unsubscribed, MachineCall, Stepped, Did, Stopped, Called, MakesCalls, NoCall, OneCall, IsOfSlot, made_by_step, owned, IsRecord, LeavesBefore, alone}
+use Rattle.call_laws.specs.Calls.{DbCall, DidPoint, PointStopped, FetchStopped, DidWhole, WholeStopped, Flushed, FlushStopped, DidGroup, GroupStopped, Imported, ImportStopped, Dropped, DropStopped, GaveId, IdStopped, TookIds, SetOperator, OperatorStopped, Watched, WatchStopped, ToldNext, Unsubscribed, MachineCall, Stepped, Did, Stopped, Called, MakesCalls, NoCall, OneCall, IsOfSlot, made_by_step, owned, IsRecord, LeavesBefore, alone}
 use Rattle.call_laws.specs.Laws.{RecordLaw, JoinedLaw}
 
 -- what is made later stands behind what was made before
@@ -75,6 +76,15 @@ kept_other other off reply added after kept = refl
 goes_on : (w : Whole) (e : Error) (added : List Maps) (after : Maps) (kept : List Maps) (so : List Maps → Type 0) → so (kept ++ added) → so (crash_maps_after (step.Whole w) (outcome.Refused e) added after kept)
 goes_on whole.Flush e added after kept so k = k
 goes_on other e added after kept so k = k
+
+-- no map depends on the operators
+same_maps : {P M : Type 0} (store : P → Store) (meant : M → Merge) (d : DbValue P M) (operators : List (ℕ × M)) → maps_of (db_state store meant (record d { operators = operators })) ≡ maps_of (db_state store meant d)
+same_maps store meant d operators = fun_ext (λ name. go (numbers_of d.trees name) (trees_of (now (store d.pages)) name) _ _)
+  where
+    go : (o : Option ℕ) (t : Option Map) (f g : ℕ → Option Merge) → option_map (λ (t : NamedTree). t.map) (named o t f) ≡ option_map (λ (t : NamedTree). t.map) (named o t g)
+    go None t f g = refl
+    go (Some n) None f g = refl
+    go (Some n) (Some x) f g = refl
 
 module _ {P M : Type 0} (store : P → Store) (number : P → ℕ) (meant : M → Merge) where
   -- ---- whole calls of a database, as steps of a machine that has it
@@ -259,6 +269,8 @@ module _ {P M : Type 0} (store : P → Store) (number : P → ℕ) (meant : M �
     of_db new made (GaveId {id = id} d) = did (record a { db = new }) whole.GenerateId (Number id) (whole_step a new whole.GenerateId (Number id) (λ e. cc) (id_decided store meant _ _ _ d))
     of_db new made (IdStopped {e = e} d) = stopped (record a { db = new }) whole.GenerateId e 0 (whole_stops a new whole.GenerateId e (id_refused store meant _ _ _ d)) (record { is = refl })
     of_db new made (TookIds d) = nothing new (ap maps_of (d.state (λ n. None) 0)) (ap (λ (s : State). s.is_open) (d.state (λ n. None) 0)) d.leaves.extends d.rises
+    of_db new made (SetOperator d) = subst (λ (x : DbValue P M). Records (record a { db = x }) []) (sym d.same) (nothing (record a.db { operators = new.operators }) (same_maps store meant a.db new.operators) refl (extends_same (store a.db.pages)) (at_most _ _ refl))
+    of_db new made (OperatorStopped d) = subst (λ (x : DbValue P M). Records (record a { db = x }) []) (sym d.is) (nothing a.db refl refl (extends_same (store a.db.pages)) (at_most _ _ refl))
     of_db new made (Watched {tree = tree} {prefix = prefix} d) = did (record a { db = new }) (whole.Watch tree prefix) _ (whole_step a new (whole.Watch tree prefix) _ (λ e. cc) (watch_decided store meant _ _ _ _ _ d))
     of_db new made (WatchStopped {tree = tree} {prefix = prefix} {e = e} d) = stopped (record a { db = new }) (whole.Watch tree prefix) e 0 (whole_stops a new (whole.Watch tree prefix) e (watch_refused store meant _ _ _ _ _ d)) (record { is = refl })
     of_db new made (ToldNext {subscriber = subscriber} d) = did (record a { db = new }) (whole.Next subscriber) _ (whole_step a new (whole.Next subscriber) _ (λ e. cc) (next_decided store meant _ _ _ _ d))

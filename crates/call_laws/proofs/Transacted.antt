@@ -1,5 +1,5 @@
 -- A transaction is calls of its owner: its closure takes ids, what it wrote is made as a group, and a flush may follow.
-use Rattle.std.proofs.Common.{◌≡◌, ℕ, Bool, true, false, ◌&&◌, List, [], Result, sym, refl, subst, inl, inr}
+use Rattle.std.proofs.Common.{◌≡◌, ℕ, Bool, true, false, ◌&&◌, List, [], Result, sym, subst}
 use Rattle.sled_nodes.specs.declared.error.Error.{Error}
 use Rattle.sled_batch.specs.Batch.{Writes}
 use Rattle.sled_store.specs.Store.{Store}
@@ -11,12 +11,12 @@ use Rattle.tree_transactions.specs.declared.errors.TransactionError.{Transaction
 use Rattle.tree_transactions.specs.declared.errors.TransactionError.TheVariants.{Abort, Storage}
 use Rattle.tree_transactions.specs.declared.tree.TransactionalTree.{TransactionalTree}
 use Rattle.tree_transactions.specs.declared.trees.TransactionalTrees.{TransactionalTrees}
-use Rattle.sled.specs.Transactions.{flushes_as, MakesWrites, Commits, Stops, ByTest, ByClosure, ByGroup, ByFlush, fails_as, Fails}
+use Rattle.sled.specs.Transactions.{flushes_as, MakesWrites, Commits, Stops, ByTest, ByClosure, ByGroup, ByFlush, Fails}
 use Rattle.sled.specs.Values.{DbValue}
 use Rattle.sled_calls.specs.Values.{MachineValue}
 use Rattle.sled_shared.specs.Made.{MadeValue}
 use Rattle.call_laws.specs.Calls.{TookIds, DidGroup, GroupStopped, Flushed, FlushStopped, Called, MakesCalls, NoCall, OneCall}
-use Rattle.call_laws.specs.Laws.{committed, IsUncommitted, TransactionLaw, ListLaw}
+use Rattle.call_laws.specs.Laws.{committed, made_before_stop, uncommitted, TransactionLaw, ListLaw}
 
 module _ {P M A E W : Type 0} (store : P → Store) (number : P → ℕ) (meant : M → Merge) (tests : Error → Type 0) (reaches : Result (Commit A W) (TransactionError E) → Store → ℕ → Type 0) (batches_of : W → List (Tree × Writes)) (has_trees : Bool) (m : MachineValue P M) where
   abbrev Calls : List MadeValue → DbValue P M → Type 0
@@ -31,18 +31,15 @@ module _ {P M A E W : Type 0} (store : P → Store) (number : P → ℕ) (meant 
   pub commits : (answer : A) (new : DbValue P M) → (t : Commits store number meant tests reaches batches_of has_trees m.db answer new) → (n : ℕ) × Calls (committed (batches_of t.commit.writes) (has_trees && t.commit.flushes) n) new
   commits answer new t = flushed t.commit t.run t.made t.makes (has_trees && t.commit.flushes) new t.flushes
 
-  stops : (e : Error) (new : DbValue P M) → Stops store number meant tests reaches batches_of has_trees m.db e new → (made : List MadeValue) × IsUncommitted made × Calls made new
-  stops e new (ByTest t same) = ([], inl refl, subst (λ d. Calls [] d) (sym same) NoCall)
-  stops e new (ByClosure k) = ([], inl refl, OneCall (Called (TookIds k.takes)) NoCall)
-  stops e new (ByGroup commit run k g quiet) = ([], inl refl, OneCall (Called (TookIds k.takes)) (OneCall (Called (GroupStopped g)) NoCall))
-  stops e new (ByFlush commit run made k asked f) = (committed (batches_of commit.writes) false 0, inr (batches_of commit.writes, refl), OneCall (Called (TookIds k.runs.takes)) (OneCall (Called (DidGroup k.group)) (OneCall (Called (FlushStopped f)) NoCall)))
+  stops : (e : Error) (new : DbValue P M) → (k : Stops store number meant tests reaches batches_of has_trees m.db e new) → Calls (made_before_stop k) new
+  stops e new (ByTest t same) = subst (λ d. Calls [] d) (sym same) NoCall
+  stops e new (ByClosure k) = OneCall (Called (TookIds k.takes)) NoCall
+  stops e new (ByGroup commit run k g quiet) = OneCall (Called (TookIds k.takes)) (OneCall (Called (GroupStopped g)) NoCall)
+  stops e new (ByFlush commit run made k asked f) = OneCall (Called (TookIds k.runs.takes)) (OneCall (Called (DidGroup k.group)) (OneCall (Called (FlushStopped f)) NoCall))
 
-  pub fails : (e : TransactionError E) (new : DbValue P M) → Fails store number meant tests reaches batches_of has_trees m.db e new → (made : List MadeValue) × IsUncommitted made × Calls made new
-  fails e new k = go e k.is
-    where
-      go : (e : TransactionError E) → fails_as store number meant tests reaches batches_of has_trees m.db e new → (made : List MadeValue) × IsUncommitted made × Calls made new
-      go (Abort x) k = ([], inl refl, OneCall (Called (TookIds k.takes)) NoCall)
-      go (Storage x) k = stops x new k
+  pub fails : (e : TransactionError E) (new : DbValue P M) → (k : Fails store number meant tests reaches batches_of has_trees m.db e new) → Calls (uncommitted e k) new
+  fails (Abort x) new k = OneCall (Called (TookIds k.is.takes)) NoCall
+  fails (Storage x) new k = stops x new k.is
 
 module _ {P M F R A E : Type 0} (store : P → Store) (number : P → ℕ) (meant : M → Merge) where
   pub transacts : (says : Closure F (TransactionalTree P) R) (result_of : R → Answer A E) → TransactionLaw store number meant says result_of

@@ -26,6 +26,7 @@ use Rattle.sled.specs.Flush.{FlushesDb, RefusesFlush}
 use Rattle.sled.specs.Groups.{GroupDecided, GroupRefused}
 use Rattle.sled.specs.Ids.{GivesId, RefusesId}
 use Rattle.sled.specs.Imports.{ImportDecided}
+use Rattle.sled.specs.Operators.{OperatorSet, OperatorNotSet}
 use Rattle.sled.specs.Parts.{ImportRefusedAfter}
 use Rattle.sled.specs.Transactions.{TakesIds}
 use Rattle.sled.specs.Values.{DbValue, db_state}
@@ -79,6 +80,9 @@ module _ {P M : Type 0} (store : P → Store) (flush_number : P → ℕ) (meant 
     GaveId : {old new : DbValue P M} {id : ℕ} → GivesId store meant old id new → DbCall old (WholeMade value.GenerateId (told.Number id) ∷ []) new
     IdStopped : {old new : DbValue P M} {e : Error} → RefusesId store meant old e new → DbCall old [] new
     TookIds : {old new : DbValue P M} → TakesIds store meant old new → DbCall old [] new
+    -- a merge operator of a tree, which changes no map
+    SetOperator : {old new : DbValue P M} {tree : Tree} {merge : Merge} → OperatorSet store meant old tree merge new → DbCall old [] new
+    OperatorStopped : {old new : DbValue P M} {tree : Tree} {e : Error} → OperatorNotSet store meant old tree e new → DbCall old [] new
     -- a subscriber; what it was told is told once, and stands as done
     Watched : {old new : DbValue P M} {tree : Tree} {prefix : Key} {number : ℕ} → WatchesDb store meant old tree prefix number new → DbCall old (WholeMade (value.Watch tree prefix) (told.Subscriber number) ∷ []) new
     WatchStopped : {old new : DbValue P M} {tree : Tree} {prefix : Key} {e : Error} → RefusesWatch store meant old tree prefix e new → DbCall old [] new

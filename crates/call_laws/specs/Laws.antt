@@ -1,6 +1,7 @@
 -- What the calls of one owner come to together.
-use Rattle.std.specs.Prelude.{◌≡◌, ◌⊎◌, ℕ, Bool, true, false, ◌&&◌, List, [], ◌∷◌, ◌++◌}
+use Rattle.std.specs.Prelude.{ℕ, Bool, true, false, ◌&&◌, List, [], ◌∷◌, ◌++◌, Result}
 use Rattle.std.specs.List.{zip}
+use Rattle.sled_nodes.specs.declared.error.Error.{Error}
 use Rattle.sled_batch.specs.Batch.{Writes}
 use Rattle.sled_store.specs.Store.{Store}
 use Rattle.sled_model.specs.Collections.{Content}
@@ -10,8 +11,10 @@ use Rattle.sled_model.specs.declared.reply.Reply.TheVariants as told
 use Rattle.tree_transactions.specs.Attempts.{Answer, Closure}
 use Rattle.tree_transactions.specs.declared.tree.TransactionalTree.{TransactionalTree}
 use Rattle.tree_transactions.specs.declared.trees.TransactionalTrees.{TransactionalTrees}
+use Rattle.tree_transactions.specs.declared.attempts.Commit.{Commit}
 use Rattle.tree_transactions.specs.declared.errors.TransactionError.{TransactionError}
-use Rattle.sled.specs.Transactions.{TransactionMade, TransactionNotMade, ListMade, ListNotMade, has_trees}
+use Rattle.tree_transactions.specs.declared.errors.TransactionError.TheVariants.{Abort, Storage}
+use Rattle.sled.specs.Transactions.{Stops, ByTest, ByClosure, ByGroup, ByFlush, Fails, TransactionMade, TransactionNotMade, ListMade, ListNotMade, has_trees}
 use Rattle.sled.specs.Values.{DbValue}
 use Rattle.sled_calls.specs.Values.{MachineValue}
 use Rattle.sled_shared.specs.Made.{MadeValue, WholeMade}
@@ -32,21 +35,29 @@ abbrev pub committed : List (Tree × Writes) → Bool → ℕ → List MadeValue
 committed batches false number = WholeMade (value.Group batches) told.Done ∷ []
 committed batches true number = WholeMade (value.Group batches) told.Done ∷ (WholeMade value.Flush (told.Number number) ∷ [])
 
--- .. and one that was not made: nothing, or some group (that of what it wrote, where the flush that it asked for was refused; which it was is not said here)
-abbrev pub IsUncommitted : List MadeValue → Type 0
-IsUncommitted made = (made ≡ []) ⊎ ((batches : List (Tree × Writes)) × (made ≡ committed batches false 0))
+-- What one made that was not: nothing. But if all that was refused is the flush that it asked for, it made the group of what it wrote
+module _ {P M A E W : Type 0} {store : P → Store} {flush_number : P → ℕ} {meant : M → Merge} {tests : Error → Type 0} {reaches : Result (Commit A W) (TransactionError E) → Store → ℕ → Type 0} {batches_of : W → List (Tree × Writes)} {has_trees : Bool} {old : DbValue P M} {new : DbValue P M} where
+  abbrev pub made_before_stop : {e : Error} → Stops store flush_number meant tests reaches batches_of has_trees old e new → List MadeValue
+  made_before_stop (ByTest t same) = []
+  made_before_stop (ByClosure runs) = []
+  made_before_stop (ByGroup commit run runs refused quiet) = []
+  made_before_stop (ByFlush commit run made makes asked refused) = committed (batches_of commit.writes) false 0
+
+  abbrev pub uncommitted : (e : TransactionError E) → Fails store flush_number meant tests reaches batches_of has_trees old e new → List MadeValue
+  uncommitted (Abort e) fails = []
+  uncommitted (Storage e) fails = made_before_stop fails.is
 
 -- Whatever machine has the database, a transaction of a tree is calls of its owner. Where it was committed it made the group of what it wrote, with
--- the flush that it asked for; and else nothing, or a group alone
+-- the flush that it asked for; if that flush was refused, the group alone; and else nothing
 pub record TransactionLaw {P M F R A E : Type 0} (store : P → Store) (flush_number : P → ℕ) (meant : M → Merge) (says : Closure F (TransactionalTree P) R) (result_of : R → Answer A E) : Type 0 where
   pub made : (m : MachineValue P M) (new : DbValue P M) (f : F) (tree : Tree) (answer : A) → (t : TransactionMade store flush_number meant says result_of f m.db tree answer new)
       → (number : ℕ) × MakesCalls store flush_number meant m (committed ((tree, t.commit.writes) ∷ []) t.commit.flushes number) (record m { db = new })
-  pub not_made : (m : MachineValue P M) (new : DbValue P M) (f : F) (tree : Tree) (e : TransactionError E) → TransactionNotMade store flush_number meant says result_of f m.db tree e new
-      → (made : List MadeValue) × IsUncommitted made × MakesCalls store flush_number meant m made (record m { db = new })
+  pub not_made : (m : MachineValue P M) (new : DbValue P M) (f : F) (tree : Tree) (e : TransactionError E) → (t : TransactionNotMade store flush_number meant says result_of f m.db tree e new)
+      → MakesCalls store flush_number meant m (uncommitted e t) (record m { db = new })
 
 -- .. and so is one of a list of trees
 pub record ListLaw {P M F R A E : Type 0} (store : P → Store) (flush_number : P → ℕ) (meant : M → Merge) (says : Closure F (TransactionalTrees P) R) (result_of : R → Answer A E) : Type 0 where
   pub made : (m : MachineValue P M) (new : DbValue P M) (f : F) (trees : List Tree) (answer : A) → (t : ListMade store flush_number meant says result_of f m.db trees answer new)
       → (number : ℕ) × MakesCalls store flush_number meant m (committed (zip trees t.commit.writes) (has_trees trees && t.commit.flushes) number) (record m { db = new })
-  pub not_made : (m : MachineValue P M) (new : DbValue P M) (f : F) (trees : List Tree) (e : TransactionError E) → ListNotMade store flush_number meant says result_of f m.db trees e new
-      → (made : List MadeValue) × IsUncommitted made × MakesCalls store flush_number meant m made (record m { db = new })
+  pub not_made : (m : MachineValue P M) (new : DbValue P M) (f : F) (trees : List Tree) (e : TransactionError E) → (t : ListNotMade store flush_number meant says result_of f m.db trees e new)
+      → MakesCalls store flush_number meant m (uncommitted e t) (record m { db = new })

@@ -50,8 +50,8 @@ pub fn law_joined<P: Pages, M: MergeOperator>()
 {}
 
 /// Does nothing. A transaction of a tree is calls of the owner: what its closure took of ids, the group of what it wrote, and the flush that it
-/// asked for. One that was given up or refused made nothing, or a group alone: this is for a flush that was refused behind its group, and the
-/// law does not say which it was, nor what the group wrote. `TransactionNotMade` of `sled` does.
+/// asked for. One that was given up or refused made nothing. But if its group was made and only the flush behind it was refused, it made that
+/// group of what its closure wrote.
 ///
 /// ```
 /// let put = |weather: &mut TransactionalTree<'_, MemPages>| -> ConflictableTransactionResult<(), ()> {

@@ -2,8 +2,8 @@
 //!
 //! A program that owns a database makes calls on keys, batches, transactions, fetches, flushes and the rest, one after the other. A program
 //! that owns a machine over it also begins calls, steps them and gives them up in between. Each of these calls has a contract of its own.
-//! Here they are the cases of one relation (`DbCall`, `MachineCall` in `specs/Calls`). It has no case for setting a merge operator, for reads,
-//! and for a plain `clear` that is refused midway (`clear_counted` has one).
+//! Here they are the cases of one relation (`DbCall`, `MachineCall` in `specs/Calls`). It has no case for reads, which change nothing, and for
+//! a plain `clear` that is refused midway (`clear_counted` has one).
 //!
 //! `law_record` says of any list of these calls what a machine promises of its steps. While the database is open the trees are the maps that
 //! the list gives in its order. The reply of each call on a key is the map's at its place, but that a merge wrote what its operator answered.

@@ -1,7 +1,11 @@
 -- What an owner makes, call after call, and what a crash leaves of it.
-use Rattle.std.proofs.Common.{◌≡◌, ◌∙◌, ℕ, Bool, false, List, [], ◌∷◌, ◌++◌, append-nil, append_assoc, map, Option, Result, Ok, Err, IfOk, IfErr, sym, refl, ap, subst, inl, inr}
-use Rattle.sled_nodes.specs.Order.{Key}
+use Rattle.std.proofs.Common.{◌≡◌, ◌∙◌, ℕ, Bool, true, false, List, [], ◌∷◌, ◌++◌, append-nil, map, Option, Some, Result, Ok, Err, is_ok, IfOk, IfErr, OnOk, sym, refl, ap, subst}
+use Rattle.std.specs.FinMap.Entries.{put}
+use denote.Ref.{MutBor}
+use Rattle.sled_nodes.proofs.Basics.{false_true}
+use Rattle.sled_nodes.specs.Order.{Key, key_cmp}
 use Rattle.sled_nodes.specs.declared.error.Error.{Error}
+use Rattle.sled_batch.specs.Batch.{Writes}
 use Rattle.sled_store.specs.In.{In}
 use Rattle.sled_store.specs.Store.{Store, now}
 use Rattle.sled_store.specs.Crash.{crash_states, IsCrashState, Crashes}
@@ -9,29 +13,37 @@ use Rattle.sled_store.proofs.Lists.{map_in}
 use Rattle.sled_store.specs.theory.Facts.{may_leave_crashed}
 use Rattle.sled_pages.specs.Memory.{store_of, flush_number_of}
 use Rattle.sled_pages.specs.declared.memory.MemPages.{MemPages}
-use Rattle.sled_model.specs.Collections.{Content}
 use Rattle.sled_model.specs.Maps.{Maps, Merge}
 use Rattle.sled_model.specs.declared.call.Call.TheVariants.{Insert}
 use Rattle.sled_model.specs.declared.reply.Reply.TheVariants.{Value}
 use Rattle.sled_model.specs.declared.tree.Tree.{Tree}
 use Rattle.tree_laws.specs.Contents.{trees_of}
 use Rattle.tree_pages.specs.Export.{collections}
-use Rattle.tree_transactions.specs.Attempts.{Answer, Closure}
+use Rattle.tree_transactions.specs.Attempts.{Answer, Closure, Ends}
+use Rattle.tree_transactions.specs.Ids.{SetsAside}
+use Rattle.tree_transactions.specs.Transactions.{Begins, left_of_tree}
+use Rattle.tree_transactions.specs.declared.attempts.Commit.{Commit}
 use Rattle.tree_transactions.specs.declared.errors.TransactionError.{TransactionError}
+use Rattle.tree_transactions.specs.declared.errors.TransactionError.TheVariants.{Abort, Storage}
 use Rattle.tree_transactions.specs.declared.tree.TransactionalTree.{TransactionalTree}
 use Rattle.sled.specs.Direct.{PointDecided, PointRefused}
 use Rattle.sled.specs.Flush.{FlushesDb, RefusesFlush}
 use Rattle.sled.specs.Opens.{Opens, with_default}
-use Rattle.sled.specs.Transactions.{TransactionMade, TransactionNotMade}
+use Rattle.sled.specs.Transactions.{Stops, ByTest, ByClosure, ByGroup, ByFlush, RunsOnTree, tests_tree, batch_of, TransactionMade, TransactionNotMade}
 use Rattle.sled.specs.Values.{DbValue}
 use Rattle.sled_shared.specs.Crashes.{LeadsThrough}
 use Rattle.sled_shared.specs.History.{maps_from}
 use Rattle.sled_shared.specs.Made.{MadeValue}
 use Rattle.call_laws.specs.Calls.{MakesCalls, NoCall, OneCall, Called, DbCall, DidPoint, PointStopped, Flushed, FlushStopped, alone, owned, IsRecord, LeavesBefore}
-use Rattle.call_laws.specs.Laws.{committed, JoinedLaw, RecordLaw, TransactionLaw}
+use Rattle.call_laws.specs.Laws.{committed, made_before_stop, uncommitted, JoinedLaw, RecordLaw, TransactionLaw}
 use Rattle.example_parts.proofs.Added.{matches_has}
-use Rattle.owned_examples.specs.Owned.{IsInsert, IsGroup, IsFlush, IsOrder, FoundAfter}
-use Rattle.owned_examples.specs.theory.Owned.{Goes}
+use Rattle.owned_examples.specs.Owned.{IsInsert, both_writes, IsBoth, IsFlush, IsOrder, FoundAfter}
+use Rattle.owned_examples.specs.declared.owned.Written.{Written}
+use Rattle.owned_examples.specs.theory.Owned.{Goes, WritesInside}
+
+-- what is told of a call of the closure
+abbrev Told : {P F R A E : Type 0} → Closure F (TransactionalTree P) R → (R → Answer A E) → F → Key → Key → Key → Type 0
+Told {P} {R = R} says result_of f one other value = (shown left : MutBor (TransactionalTree P)) (answer : R) → says.post f (shown, tt) (answer, (left, tt)) → OnOk (result_of answer) (WritesInside shown.now one other value left.now)
 
 module _ {P M : Type 0} (store : P → Store) (number : P → ℕ) (meant : M → Merge) where
   -- one call of the database
@@ -39,53 +51,91 @@ module _ {P M : Type 0} (store : P → Store) (number : P → ℕ) (meant : M �
   calls_one old new made k = subst (λ l. MakesCalls store number meant (alone old) l (alone new)) (append-nil made) (OneCall (Called k) NoCall)
 
   -- an insert and a flush, however they came out
-  pub put_did : (old new : DbValue P M) (tree : Tree) (key value : Key) (stood : Option Key) → PointDecided store meant old tree (Insert key value) (Value stood) new → Goes store number meant old (IsInsert tree key value) new
-  put_did old new tree key value stood d = record { made = _; calls = calls_one old new _ (DidPoint d); is = inr (stood, refl) }
+  pub put_did : (old new : DbValue P M) (tree : Tree) (key value : Key) (stood : Option Key) → PointDecided store meant old tree (Insert key value) (Value stood) new → Goes store number meant old (IsInsert tree key value true) new
+  put_did old new tree key value stood d = record { made = _; calls = calls_one old new _ (DidPoint d); is = (stood, refl) }
 
-  pub put_stopped : (old new : DbValue P M) (tree : Tree) (key value : Key) (e : Error) → PointRefused store meant old tree (Insert key value) e new → Goes store number meant old (IsInsert tree key value) new
-  put_stopped old new tree key value e d = record { made = _; calls = calls_one old new _ (PointStopped d); is = inl refl }
+  pub put_stopped : (old new : DbValue P M) (tree : Tree) (key value : Key) (e : Error) → PointRefused store meant old tree (Insert key value) e new → Goes store number meant old (IsInsert tree key value false) new
+  put_stopped old new tree key value e d = record { made = _; calls = calls_one old new _ (PointStopped d); is = refl }
 
-  pub flush_did : (old new : DbValue P M) (n : ℕ) → FlushesDb store number meant old n new → Goes store number meant old IsFlush new
-  flush_did old new n d = record { made = _; calls = calls_one old new _ (Flushed d); is = inr (n, refl) }
+  pub flush_did : (old new : DbValue P M) (n : ℕ) → FlushesDb store number meant old n new → Goes store number meant old (IsFlush true) new
+  flush_did old new n d = record { made = _; calls = calls_one old new _ (Flushed d); is = (n, refl) }
 
-  pub flush_stopped : (old new : DbValue P M) (e : Error) → RefusesFlush store meant old new e → Goes store number meant old IsFlush new
-  flush_stopped old new e d = record { made = _; calls = calls_one old new _ (FlushStopped d); is = inl refl }
+  pub flush_stopped : (old new : DbValue P M) (e : Error) → RefusesFlush store meant old new e → Goes store number meant old (IsFlush false) new
+  flush_stopped old new e d = record { made = _; calls = calls_one old new _ (FlushStopped d); is = refl }
+
+  -- .. as their results tell
+  pub put_goes : (old new : DbValue P M) (tree : Tree) (key value : Key) (r : Result (Option Key) Error) → IfOk r (λ stood. PointDecided store meant old tree (Insert key value) (Value stood) new) → IfErr r (λ e. PointRefused store meant old tree (Insert key value) e new)
+      → Goes store number meant old (IsInsert tree key value (is_ok r)) new
+  put_goes old new tree key value (Ok stood) ok err = put_did old new tree key value stood ok
+  put_goes old new tree key value (Err e) ok err = put_stopped old new tree key value e err
+
+  pub flush_goes : (old new : DbValue P M) (r : Result ℕ Error) → IfOk r (λ n. FlushesDb store number meant old n new) → IfErr r (λ e. RefusesFlush store meant old new e) → Goes store number meant old (IsFlush (is_ok r)) new
+  flush_goes old new (Ok n) ok err = flush_did old new n ok
+  flush_goes old new (Err e) ok err = flush_stopped old new e err
 
   -- a transaction
-  pub both_goes : {F R A E : Type 0} (says : Closure F (TransactionalTree P) R) (result_of : R → Answer A E) (f : F) (old new : DbValue P M) (tree : Tree) → TransactionLaw store number meant says result_of → (r : Result A (TransactionError E))
-      → IfOk r (λ a. TransactionMade store number meant says result_of f old tree a new) → IfErr r (λ e. TransactionNotMade store number meant says result_of f old tree e new) → Goes store number meant old IsGroup new
-  both_goes says result_of f old new tree law (Ok a) ok err =
-      let k = law.made (alone old) new f tree a ok in
-      record { made = committed ((tree, ok.commit.writes) ∷ []) ok.commit.flushes k.0; calls = k.1; is = inr ((tree, ok.commit.writes) ∷ [], ok.commit.flushes, k.0, refl) }
-  both_goes says result_of f old new tree law (Err e) ok err =
-      let k = law.not_made (alone old) new f tree e err in
-      record { made = k.0; calls = k.2; is = elim k.1 [ inl none ↦ inl none | inr left ↦ inr (left.0, false, 0, left.1) ] }
+  module _ {F R A E : Type 0} (says : Closure F (TransactionalTree P) R) (result_of : R → Answer A E) (f : F) (old new : DbValue P M) (tree : Tree) (one other value : Key)
+      (law : TransactionLaw store number meant says result_of) (told : Told says result_of f one other value) where
+    -- what its closure wrote
+    wrote : (root : ℕ) (answer : A) (writes : Writes) (flushes : Bool) (s : Store) (next : ℕ) → Ends says result_of f SetsAside (Begins store root) left_of_tree (store old.pages) old.greatest_id (Ok answer) writes flushes s next
+        → (writes ≡ both_writes one other value) × (flushes ≡ false)
+    wrote root answer writes flushes s next e =
+        let c = e.last.calls in
+        let w : WritesInside c.shown.now one other value c.left.now = subst (λ r. OnOk r (WritesInside c.shown.now one other value c.left.now)) c.tells (told c.shown c.left c.told c.met) in
+        let is : e.last.after ≡ record e.last.given { overlay = put key_cmp other (Some value) (put key_cmp one (Some value) e.last.given.overlay) } =
+        sym c.leaves ∙ w.is ∙ ap (λ (t : TransactionalTree P). record t { overlay = put key_cmp other (Some value) (put key_cmp one (Some value) t.overlay) }) c.shows in (
+          e.last.writes_are ∙ ap (λ (t : TransactionalTree P). t.overlay) is ∙ ap (λ (ws : Writes). put key_cmp other (Some value) (put key_cmp one (Some value) ws)) e.last.fresh.empty,
+          e.last.flushes_is ∙ ap (λ (t : TransactionalTree P). t.flushes) is ∙ e.last.fresh.quiet,
+        )
 
-  -- no insert
-  pub no_insert : (d : DbValue P M) (tree : Tree) (key value : Key) → Goes store number meant d (IsInsert tree key value) d
-  no_insert d tree key value = record { made = []; calls = NoCall; is = inl refl }
+    committed_so : (commit : Commit A Writes) (s : Store) (next : ℕ) → RunsOnTree store meant says result_of f old tree (Ok commit) s next → (commit.writes ≡ both_writes one other value) × (commit.flushes ≡ false)
+    committed_so commit s next r = wrote r.root commit.answer commit.writes commit.flushes s next r.runs.is
 
-  -- the calls of an order: what was refused ends it
-  module _ (tree : Tree) (key first second : Key) (joins : JoinedLaw store number meant) where
-    abbrev Ordered : DbValue P M → DbValue P M → Type 0
-    Ordered old new = Goes store number meant old (IsOrder tree key first second) new
+    pub both_made : (a : A) → TransactionMade store number meant says result_of f old tree a new → Goes store number meant old (IsBoth tree one other value true) new
+    both_made a t =
+        let k = law.made (alone old) new f tree a t in
+        let w = committed_so t.commit (store t.run.pages) t.run.greatest_id t.makes.runs.runs in
+        record {
+          made = committed ((tree, both_writes one other value) ∷ []) false k.0;
+          calls = subst (λ ws. MakesCalls store number meant (alone old) (committed ((tree, ws) ∷ []) false k.0) (alone new)) w.0 (subst (λ b. MakesCalls store number meant (alone old) (committed ((tree, t.commit.writes) ∷ []) b k.0) (alone new)) w.1 k.1);
+          is = refl;
+        }
 
-    pub order_all : (a b c d e : DbValue P M) → Goes store number meant a (IsInsert tree key first) b → Goes store number meant b IsGroup c → Goes store number meant c IsFlush d → Goes store number meant d (IsInsert tree key second) e → Ordered a e
-    order_all a b c d e i g f l = record {
-      made = i.made ++ (g.made ++ (f.made ++ l.made));
-      calls = joins (alone a) (alone b) (alone e) i.made (g.made ++ (f.made ++ l.made)) i.calls (joins (alone b) (alone c) (alone e) g.made (f.made ++ l.made) g.calls (joins (alone c) (alone d) (alone e) f.made l.made f.calls l.calls));
-      is = record { insert = i.made; group = g.made; flush = f.made; later = l.made; is = refl; inserts = i.is; groups = g.is; flushes = f.is; inserts_later = l.is };
-    }
+    nothing_made : (e : Error) (k : Stops store number meant (tests_tree store number meant says result_of f old tree) (RunsOnTree store meant says result_of f old tree) (batch_of store number meant says result_of f old tree) true old e new) → made_before_stop k ≡ []
+    nothing_made e (ByTest t same) = refl
+    nothing_made e (ByClosure runs) = refl
+    nothing_made e (ByGroup commit run runs refused quiet) = refl
+    nothing_made e (ByFlush commit run made makes asked refused) = false_true (sym (committed_so commit (store run.pages) run.greatest_id makes.runs.runs).1 ∙ asked)
+
+    none_made : (e : TransactionError E) (t : TransactionNotMade store number meant says result_of f old tree e new) → uncommitted e t ≡ []
+    none_made (Abort x) t = refl
+    none_made (Storage x) t = nothing_made x t.is
+
+    pub both_stopped : (e : TransactionError E) → TransactionNotMade store number meant says result_of f old tree e new → Goes store number meant old (IsBoth tree one other value false) new
+    both_stopped e t = record { made = uncommitted e t; calls = law.not_made (alone old) new f tree e t; is = none_made e t }
+
+    pub both_goes : (r : Result A (TransactionError E)) → IfOk r (λ a. TransactionMade store number meant says result_of f old tree a new) → IfErr r (λ e. TransactionNotMade store number meant says result_of f old tree e new) → Goes store number meant old (IsBoth tree one other value (is_ok r)) new
+    both_goes (Ok a) ok err = both_made a ok
+    both_goes (Err e) ok err = both_stopped e err
+
+  -- the calls of an order
+  pub order_all : (tree : Tree) (key first second one other : Key) (joins : JoinedLaw store number meant) (written : Written) (a b c d e : DbValue P M) → Goes store number meant a (IsInsert tree key first written.insert) b → Goes store number meant b (IsBoth tree one other first written.both) c
+      → Goes store number meant c (IsFlush written.flush) d → Goes store number meant d (IsInsert tree key second written.later) e → Goes store number meant a (IsOrder tree key first second one other written) e
+  order_all tree key first second one other joins written a b c d e i g f l = record {
+    made = i.made ++ (g.made ++ (f.made ++ l.made));
+    calls = joins (alone a) (alone b) (alone e) i.made (g.made ++ (f.made ++ l.made)) i.calls (joins (alone b) (alone c) (alone e) g.made (f.made ++ l.made) g.calls (joins (alone c) (alone d) (alone e) f.made l.made f.calls l.calls));
+    is = record { insert = i.made; both = g.made; flush = f.made; later = l.made; is = refl; inserts = i.is; writes_both = g.is; flushes = f.is; inserts_later = l.is };
+  }
 
 -- what a crash leaves after such calls, and an opening finds
-module _ {M N : Type 0} (meant : M → Merge) (key first second name : Key) where
-  pub survives : (before : Store) (start last : DbValue MemPages M) (tree : Tree) (pages left : MemPages) (again : DbValue MemPages N) (end : MemPages) (keep : ℕ)
+module _ {M N : Type 0} (meant : M → Merge) (key first second one other name : Key) where
+  pub survives : (before : Store) (start last : DbValue MemPages M) (tree : Tree) (pages left : MemPages) (again : DbValue MemPages N) (end : MemPages) (keep : ℕ) (written : Written)
       → Opens store_of before name start
       → ((earlier : List Maps) → LeavesBefore (store_of start.pages) earlier → IsRecord store_of (alone start) (collections (trees_of (now (store_of start.pages))) start.trees) earlier [])
       → maps_from (collections (trees_of (now (store_of start.pages))) start.trees) ≡ trees_of (now (store_of start.pages))
-      → RecordLaw store_of flush_number_of meant → Goes store_of flush_number_of meant start (IsOrder tree key first second) last → pages ≡ last.pages → Crashes keep (store_of pages) (store_of left)
-      → Opens store_of (store_of left) name again → end ≡ again.pages → FoundAfter (trees_of (now before)) (trees_of (now (store_of end))) key first second
-  survives before start last tree pages left again end keep o begins maps law goes same crash reopens out =
+      → RecordLaw store_of flush_number_of meant → Goes store_of flush_number_of meant start (IsOrder tree key first second one other written) last → pages ≡ last.pages → Crashes keep (store_of pages) (store_of left)
+      → Opens store_of (store_of left) name again → end ≡ again.pages → FoundAfter (trees_of (now before)) (trees_of (now (store_of end))) key first second one other written
+  survives before start last tree pages left again end keep written o begins maps law goes same crash reopens out =
       let opening = collections (trees_of (now (store_of start.pages))) start.trees in
       let r : IsRecord store_of (alone last) opening [] goes.made = law (alone start) (alone last) opening [] [] goes.made (begins [] (ap (map trees_of) o.left)) goes.calls in
       let may : IsCrashState (store_of pages) (store_of left).base = may_leave_crashed _ _ _ crash in
@@ -101,6 +151,6 @@ module _ {M N : Type 0} (meant : M → Merge) (key first second name : Key) wher
         left = r.crashes.left;
         leads = subst (λ e. LeadsThrough (maps_from opening) (e ++ maps_from opening ∷ []) (owned goes.made) r.crashes.last r.crashes.left) r.begins r.crashes.leads;
         kept = trees_of (store_of left).base;
-        one = matches_has (map trees_of (crash_states (store_of last.pages))) r.crashes.left (trees_of (store_of left).base) r.crashes.leaves.is (map_in trees_of (crash_states (store_of last.pages)) (store_of left).base here);
+        one_left = matches_has (map trees_of (crash_states (store_of last.pages))) r.crashes.left (trees_of (store_of left).base) r.crashes.leaves.is (map_in trees_of (crash_states (store_of last.pages)) (store_of left).base here);
         is = ap (λ (q : MemPages). trees_of (now (store_of q))) out ∙ reopens.maps ∙ ap (λ z. with_default (trees_of z)) base;
       }

@@ -1,6 +1,7 @@
 -- What an owner makes by direct calls and a transaction, and what a crash leaves of it.
-use Rattle.std.specs.Prelude.{◌≡◌, ◌⊎◌, ℕ, Bool, List, [], ◌∷◌, ◌++◌, Option}
-use Rattle.sled_nodes.specs.Order.{Key}
+use Rattle.std.specs.Prelude.{◌≡◌, ℕ, Bool, true, false, List, [], ◌∷◌, ◌++◌, Option, Some}
+use Rattle.std.specs.FinMap.Entries.{put}
+use Rattle.sled_nodes.specs.Order.{Key, key_cmp}
 use Rattle.sled_batch.specs.Batch.{Writes}
 use Rattle.sled_store.specs.In.{In}
 use Rattle.sled_model.specs.Maps.{Maps}
@@ -13,41 +14,50 @@ use Rattle.sled_shared.specs.Made.{MadeValue, PointMade, WholeMade}
 use Rattle.sled_shared.specs.Wholes.{Flush}
 use Rattle.call_laws.specs.Calls.{owned}
 use Rattle.call_laws.specs.Laws.{committed}
+use Rattle.owned_examples.specs.declared.owned.Written.{Written}
 
--- an insert was made, or it was refused and nothing was
-abbrev pub IsInsert : Tree → Key → Key → List MadeValue → Type 0
-IsInsert tree key value made = (made ≡ []) ⊎ ((stood : Option Key) × (made ≡ PointMade tree (Insert key value) (Value stood) ∷ []))
+-- an insert made one entry if it succeeded, and else none
+abbrev pub IsInsert : Tree → Key → Key → Bool → List MadeValue → Type 0
+IsInsert tree key value true made = (stood : Option Key) × (made ≡ PointMade tree (Insert key value) (Value stood) ∷ [])
+IsInsert tree key value false made = made ≡ []
 
--- .. and the same of a group of writes, with the flush that its transaction asked for, if it did; and of a flush
-abbrev pub IsGroup : List MadeValue → Type 0
-IsGroup made = (made ≡ []) ⊎ ((batches : List (Tree × Writes)) × (flushes : Bool) × (number : ℕ) × (made ≡ committed batches flushes number))
+-- two keys are to have this value
+abbrev pub both_writes : Key → Key → Key → Writes
+both_writes one other value = put key_cmp other (Some value) (put key_cmp one (Some value) [])
 
-abbrev pub IsFlush : List MadeValue → Type 0
-IsFlush made = (made ≡ []) ⊎ ((number : ℕ) × (made ≡ WholeMade Flush (Number number) ∷ []))
+-- .. the same of a transaction that writes two keys
+abbrev pub IsBoth : Tree → Key → Key → Key → Bool → List MadeValue → Type 0
+IsBoth tree one other value true made = made ≡ committed ((tree, both_writes one other value) ∷ []) false 0
+IsBoth tree one other value false made = made ≡ []
 
--- an insert, a group, a flush and another insert, in this order
-pub record IsOrder (tree : Tree) (key first second : Key) (made : List MadeValue) : Type 0 where
+-- .. and of a flush
+abbrev pub IsFlush : Bool → List MadeValue → Type 0
+IsFlush true made = (number : ℕ) × (made ≡ WholeMade Flush (Number number) ∷ [])
+IsFlush false made = made ≡ []
+
+-- an insert, a transaction, a flush and another insert of the key, in this order, each as it came out
+pub record IsOrder (tree : Tree) (key first second one other : Key) (written : Written) (made : List MadeValue) : Type 0 where
   pub insert : List MadeValue
-  pub group : List MadeValue
+  pub both : List MadeValue
   pub flush : List MadeValue
   pub later : List MadeValue
-  pub is : made ≡ insert ++ (group ++ (flush ++ later))
-  pub inserts : IsInsert tree key first insert
-  pub groups : IsGroup group
-  pub flushes : IsFlush flush
-  pub inserts_later : IsInsert tree key second later
+  pub is : made ≡ insert ++ (both ++ (flush ++ later))
+  pub inserts : IsInsert tree key first written.insert insert
+  pub writes_both : IsBoth tree one other first written.both both
+  pub flushes : IsFlush written.flush flush
+  pub inserts_later : IsInsert tree key second written.later later
 
--- A database was opened over these maps, its owner made some of these calls, each of which replied and wrote what it does at its place, its store
--- crashed, and what was left was opened again: what is found is one of the maps that a crash of such a list may leave
-pub record FoundAfter (before found : Maps) (key first second : Key) : Type 0 where
+-- A database was opened over these maps, its owner made these calls, which came out so, its store crashed, and what was left was opened again.
+-- What is found is one of the maps that a crash may leave of the calls that succeeded: each of them replied and wrote what it does at its place
+pub record FoundAfter (before found : Maps) (key first second one other : Key) (written : Written) : Type 0 where
   pub start : Maps
   pub opens : start ≡ with_default before
   pub tree : Tree
   pub made : List MadeValue
-  pub order : IsOrder tree key first second made
+  pub order : IsOrder tree key first second one other written made
   pub last : Maps
   pub left : List Maps
   pub leads : LeadsThrough start (start ∷ []) (owned made) last left
   pub kept : Maps
-  pub one : In kept left
+  pub one_left : In kept left
   pub is : found ≡ with_default kept

@@ -4,4 +4,4 @@
 
 mod owned;
 
-pub use owned::write_and_crash;
+pub use owned::{Written, write_and_crash};

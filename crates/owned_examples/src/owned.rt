@@ -1,54 +1,41 @@
 //! Direct calls, a transaction between them, and a crash.
-ghost use Rattle.std.specs.Prelude.{◌≡◌, false, IfOk};
+ghost use Rattle.std.specs.Prelude.{◌≡◌, false, IfOk, OnOk};
 ghost use Rattle.sled_store.specs.Store.{now};
 ghost use Rattle.sled_pages.specs.Memory.{store_of, empty_store};
 ghost use Rattle.tree_laws.specs.Contents.{trees_of};
 ghost use Rattle.tree_laws.specs.Crashes.{IsValid};
-ghost use Rattle.owned_examples.specs.Owned.{IsFlush, IsGroup, IsInsert, IsOrder, FoundAfter};
-ghost use Rattle.owned_examples.specs.theory.Owned.{Goes};
+ghost use Rattle.owned_examples.specs.Owned.{IsBoth, IsFlush, IsInsert, IsOrder, FoundAfter};
+ghost use Rattle.owned_examples.specs.theory.Owned.{Goes, WritesInside};
 
 use call_laws::{audit_opening, law_joined, law_record, law_transaction};
-use sled::{
-    ConflictableTransactionResult, Db, TransactionResult, TransactionalTree, crash_pages,
-    empty_pages,
-};
+use sled::{ConflictableTransactionResult, Db, TransactionalTree, crash_pages, empty_pages};
 use sled_model::{MergeOperator, Tree};
 use sled_nodes::Result;
 use sled_pages::MemPages;
 use sled_store::Pages;
 use std::alloc::Global;
 
-// Sets the value at a key.
-fn put<P: Pages, M: MergeOperator>(
-    db: &mut Db<P, M>,
-    tree: &Tree,
-    key: &[u8],
-    value: &[u8],
-) -> Result<()>
-    ensures { Goes P.store P.flush_number M.meant db.old (IsInsert tree.now key.now value.now) db.new }
-{
-    match db.insert(tree, key, value) {
-        Ok(stood) => {
-            drop(stood);
-            Ok(())
-        }
-        Err(e) => Err(e),
-    }
+/// Which of the calls of `write_and_crash` succeeded.
+#[derive(Clone, Copy, Debug, PartialEq, Eq)]
+pub struct Written {
+    /// The first insert of the key.
+    pub insert: bool,
+    /// The transaction that writes two other keys.
+    pub both: bool,
+    /// The flush after both.
+    pub flush: bool,
+    /// The second insert of the key.
+    pub later: bool,
 }
 
-// Sets the value at two keys, or at none.
-fn put_both<P: Pages, M: MergeOperator>(
-    db: &mut Db<P, M>,
-    tree: &Tree,
-    one: &[u8],
-    other: &[u8],
-    value: &[u8],
-) -> TransactionResult<(), ()>
-    ensures { Goes P.store P.flush_number M.meant db.old IsGroup db.new }
+// Sets the value at a key, and says whether that succeeded.
+fn put<P: Pages, M: MergeOperator>(db: &mut Db<P, M>, tree: &Tree, key: &[u8], value: &[u8]) -> bool
+    ensures { Goes P.store P.flush_number M.meant db.old (IsInsert tree.now key.now value.now result) db.new }
 {
-    let writes = |inside: &mut TransactionalTree<'_, P>| write_both(inside, one, other, value);
-    law_transaction::<P, M, (), (), _, _>(&writes);
-    db.transaction(tree, writes)
+    let inserted = db.insert(tree, key, value);
+    let is_made = inserted.is_ok();
+    drop(inserted);
+    is_made
 }
 
 // What the closure of `put_both` does.
@@ -57,46 +44,71 @@ fn write_both<P: Pages>(
     one: &[u8],
     other: &[u8],
     value: &[u8],
-) -> ConflictableTransactionResult<(), ()> {
+) -> ConflictableTransactionResult<(), ()>
+    ensures { OnOk result (WritesInside inside.old one.now other.now value.now inside.new) }
+{
     drop(inside.insert(one, value)?);
     drop(inside.insert(other, value)?);
     Ok(())
 }
 
-// Makes all durable.
-fn settle<P: Pages, M: MergeOperator>(db: &mut Db<P, M>) -> Result<()>
-    ensures { Goes P.store P.flush_number M.meant db.old IsFlush db.new }
+// Sets the value at two keys or at none, by a transaction, and says whether that succeeded.
+fn put_both<P: Pages, M: MergeOperator>(
+    db: &mut Db<P, M>,
+    tree: &Tree,
+    one: &[u8],
+    other: &[u8],
+    value: &[u8],
+) -> bool
+    ensures { Goes P.store P.flush_number M.meant db.old (IsBoth tree.now one.now other.now value.now result) db.new }
 {
-    match db.flush() {
-        Ok(_) => Ok(()),
-        Err(e) => Err(e),
-    }
+    let writes = |inside: &mut TransactionalTree<'_, P>| write_both(inside, one, other, value);
+    law_transaction::<P, M, (), (), _, _>(&writes);
+    let ended = db.transaction(tree, writes);
+    ended.is_ok()
 }
 
-// Sets a key, writes two others in a transaction, makes all durable, and sets the first one anew.
+// Makes all durable, and says whether that succeeded.
+fn settle<P: Pages, M: MergeOperator>(db: &mut Db<P, M>) -> bool
+    ensures { Goes P.store P.flush_number M.meant db.old (IsFlush result) db.new }
+{
+    let flushed = db.flush();
+    flushed.is_ok()
+}
+
+// Sets a key, writes two others in a transaction, makes all durable, and sets the first one anew, whatever comes of each.
 fn write<P: Pages, M: MergeOperator>(
     db: &mut Db<P, M>,
     tree: &Tree,
     key: &[u8],
     first: &[u8],
     second: &[u8],
-) -> Result<()>
-    ensures { Goes P.store P.flush_number M.meant db.old (IsOrder tree.now key.now first.now second.now) db.new }
+    one: &[u8],
+    other: &[u8],
+) -> Written
+    ensures { Goes P.store P.flush_number M.meant db.old (IsOrder tree.now key.now first.now second.now one.now other.now result) db.new }
 {
     law_joined::<P, M>();
-    put(db, tree, key, first)?;
-    drop(put_both(db, tree, b"stock", b"log", first));
-    settle(db)?;
-    put(db, tree, key, second)
+    let insert = put(db, tree, key, first);
+    let both = put_both(db, tree, one, other, first);
+    let flush = settle(db);
+    let later = put(db, tree, key, second);
+    Written {
+        insert,
+        both,
+        flush,
+        later,
+    }
 }
 
-/// Opens a database over new pages, and makes an insert, a transaction of two writes, a flush and another insert of the same key. Each of them
-/// may be refused. Then its store crashes, and keeps so many of the last actions, and what is left is opened again. What is found is what a
-/// crash may leave of a list of such calls: the two inserts, a group and a flush, in this order, each of which may be missing. Which of them
-/// were made, and what the group wrote, the contract leaves open. Refused as an opening is, and with `NoMemory`.
+/// Opens a database over new pages, and makes an insert of a key, a transaction that writes two others, a flush and another insert of the key,
+/// each whatever came of those before. Then its store crashes, and keeps at most so many of the last actions, and what is left is opened again.
+/// Returns which of the four succeeded, and the pages. What is found is what a crash may leave of the calls that succeeded, in this order: if
+/// the flush succeeded it is what they gave up to there, or up to the last of them; and else what some beginning of them gave. Refused as an
+/// opening is, and with `NoMemory`.
 ///
 /// ```
-/// let pages = write_and_crash(alloc, b"shop", b"order", b"17", b"18", 3)?; // Three actions after the flush, at most.
+/// let (written, pages) = write_and_crash(alloc, b"shop", b"order", b"17", b"18", b"stock", b"log", 3)?;
 /// ```
 pub fn write_and_crash(
     alloc: Global,
@@ -104,11 +116,13 @@ pub fn write_and_crash(
     key: &[u8],
     first: &[u8],
     second: &[u8],
+    one: &[u8],
+    other: &[u8],
     keep: usize,
-) -> Result<MemPages>
-    ensures ok { IfOk result (λ pages. FoundAfter (trees_of (now empty_store)) (trees_of (now (store_of pages))) key.now first.now second.now) }
-    ensures well { IfOk result (λ pages. IsValid (now (store_of pages))) }
-    ensures no_group { IfOk result (λ pages. (now (store_of pages)).in_group ≡ false) }
+) -> Result<(Written, MemPages)>
+    ensures ok { IfOk result (λ r. FoundAfter (trees_of (now empty_store)) (trees_of (now (store_of r.1))) key.now first.now second.now one.now other.now r.0) }
+    ensures well { IfOk result (λ r. IsValid (now (store_of r.1))) }
+    ensures no_group { IfOk result (λ r. (now (store_of r.1)).in_group ≡ false) }
 {
     let mut db = match Db::open(alloc, empty_pages(alloc), name) {
         Ok(db) => db,
@@ -126,13 +140,12 @@ pub fn write_and_crash(
         }
     };
     law_record::<MemPages, Box<dyn MergeOperator + Send>>();
-    let done = write(&mut db, &tree, key, first, second);
+    let written = write(&mut db, &tree, key, first, second, one, other);
     drop(tree);
-    drop(done);
     db.audit();
     let left = crash_pages(db.into_pages(), keep)?;
     match Db::open(alloc, left, name) {
-        Ok(db) => Ok(db.into_pages()),
+        Ok(db) => Ok((written, db.into_pages())),
         Err((left, e)) => {
             drop(left);
             Err(e)

@@ -1,7 +1,7 @@
-//! Runs the caller in `owned_examples`, with crashes that keep more and more, and prints what is found.
+//! Runs the caller in `owned_examples`, with crashes that keep more and more, and prints what succeeded and what is found.
 #![tactic(auto)]
 
-use owned_examples::write_and_crash;
+use owned_examples::{Written, write_and_crash};
 use sled::{Db, IVec, MemPages, Tree};
 
 // A value as text, or a dash.
@@ -27,10 +27,23 @@ fn show(rt: &HostRuntime, db: &Db<MemPages>, tree: &Tree, keep: usize) -> sled::
     Ok(())
 }
 
+fn tell(rt: &HostRuntime, written: Written) {
+    let Written {
+        insert,
+        both,
+        flush,
+        later,
+    } = written;
+    let _ = println!(rt; "insert {insert}, both {both}, flush {flush}, later {later}");
+}
+
 fn main(rt: HostRuntime) -> sled::Result<()> {
     let alloc = rt.alloc();
     for keep in 0..3 {
-        let pages = write_and_crash(alloc, b"shop", b"order", b"17", b"18", keep)?;
+        let (written, pages) = write_and_crash(
+            alloc, b"shop", b"order", b"17", b"18", b"stock", b"log", keep,
+        )?;
+        tell(&rt, written);
         let db = Db::open(alloc, pages, b"shop").map_err(|(_, e)| e)?;
         let tree = db.default_tree()?;
         show(&rt, &db, &tree, keep)?;

@@ -1,7 +1,10 @@
 -- Of Owned, for proofs. How an owner's calls go on one after the other.
-use Rattle.std.specs.Prelude.{ℕ, List}
+use Rattle.std.specs.Prelude.{◌≡◌, ℕ, List, Some}
+use Rattle.std.specs.FinMap.Entries.{put}
+use Rattle.sled_nodes.specs.Order.{Key, key_cmp}
 use Rattle.sled_store.specs.Store.{Store}
 use Rattle.sled_model.specs.Maps.{Merge}
+use Rattle.tree_transactions.specs.declared.tree.TransactionalTree.{TransactionalTree}
 use Rattle.sled.specs.Values.{DbValue}
 use Rattle.sled_shared.specs.Made.{MadeValue}
 use Rattle.call_laws.specs.Calls.{MakesCalls, alone}
@@ -11,3 +14,7 @@ pub record Goes {P M : Type 0} (store : P → Store) (flush_number : P → ℕ) 
   pub made : List MadeValue
   pub calls : MakesCalls store flush_number meant (alone old) made (alone new)
   pub is : is_made made
+
+-- two keys are written inside a transaction
+pub record WritesInside {P : Type 0} (old : TransactionalTree P) (one other value : Key) (new : TransactionalTree P) : Type 0 where
+  pub is : new ≡ record old { overlay = put key_cmp other (Some value) (put key_cmp one (Some value) old.overlay) }

@@ -1,8 +1,8 @@
-use Rattle.owned_examples.proofs.Owning.{put_did, put_stopped}
+use Rattle.std.proofs.Common.{subst, sym}
+use Rattle.owned_examples.specs.Owned.{IsInsert}
+use Rattle.owned_examples.specs.theory.Owned.{Goes}
+use Rattle.owned_examples.proofs.Owning.{put_goes}
 use Rattle.owned_examples.proofs.owned.put.Goals as goal
 
-pub returns-in-Ok : goal.returns-in-Ok
-returns-in-Ok g c = put_did g.P.Pages.store g.P.Pages.flush_number g.M.MergeOperator.meant _ _ _ _ _ _ c.in-Ok.ensures.ok
-
-pub returns-in-Err : goal.returns-in-Err
-returns-in-Err g c = put_stopped g.P.Pages.store g.P.Pages.flush_number g.M.MergeOperator.meant _ _ _ _ _ _ c.in-Err.ensures.err
+pub returns : goal.returns
+returns g c = subst (λ b. Goes g.P.Pages.store g.P.Pages.flush_number g.M.MergeOperator.meant c.args.db.now (IsInsert c.args.tree.now c.args.key.now c.args.value.now b) c.insert-inserted.new.self) (sym c.is_ok-is_made.ensures.value) (put_goes g.P.Pages.store g.P.Pages.flush_number g.M.MergeOperator.meant _ _ _ _ _ c.insert-inserted.result c.insert-inserted.ensures.ok c.insert-inserted.ensures.err)

@@ -1,5 +1,9 @@
+use Rattle.std.proofs.Common.{rules, subst, sym}
+use Rattle.owned_examples.specs.Owned.{IsBoth}
+use Rattle.owned_examples.specs.theory.Owned.{Goes}
 use Rattle.owned_examples.proofs.Owning.{both_goes}
 use Rattle.owned_examples.proofs.owned.put_both.Goals as goal
 
 pub returns : goal.returns
-returns g c = both_goes g.P.Pages.store g.P.Pages.flush_number g.M.MergeOperator.meant _ _ _ _ _ _ c.law_transaction.ensures c.transaction.result c.transaction.ensures.ok c.transaction.ensures.err
+returns g c = subst (λ b. Goes g.P.Pages.store g.P.Pages.flush_number g.M.MergeOperator.meant c.args.db.now (IsBoth c.args.tree.now c.args.one.now c.args.other.now c.args.value.now b) c.transaction-ended.new.self) (sym c.is_ok.ensures.value)
+    (both_goes g.P.Pages.store g.P.Pages.flush_number g.M.MergeOperator.meant _ _ _ _ _ _ _ _ _ c.law_transaction.ensures (λ shown left answer k. search rules) c.transaction-ended.result c.transaction-ended.ensures.ok c.transaction-ended.ensures.err)

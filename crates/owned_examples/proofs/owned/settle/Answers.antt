@@ -1,8 +1,8 @@
-use Rattle.owned_examples.proofs.Owning.{flush_did, flush_stopped}
+use Rattle.std.proofs.Common.{subst, sym}
+use Rattle.owned_examples.specs.Owned.{IsFlush}
+use Rattle.owned_examples.specs.theory.Owned.{Goes}
+use Rattle.owned_examples.proofs.Owning.{flush_goes}
 use Rattle.owned_examples.proofs.owned.settle.Goals as goal
 
-pub returns-in-Ok : goal.returns-in-Ok
-returns-in-Ok g c = flush_did g.P.Pages.store g.P.Pages.flush_number g.M.MergeOperator.meant _ _ _ c.in-Ok.ensures.ok
-
-pub returns-in-Err : goal.returns-in-Err
-returns-in-Err g c = flush_stopped g.P.Pages.store g.P.Pages.flush_number g.M.MergeOperator.meant _ _ _ c.in-Err.ensures.err
+pub returns : goal.returns
+returns g c = subst (λ b. Goes g.P.Pages.store g.P.Pages.flush_number g.M.MergeOperator.meant c.args.db.now (IsFlush b) c.flush-flushed.new.self) (sym c.is_ok.ensures.value) (flush_goes g.P.Pages.store g.P.Pages.flush_number g.M.MergeOperator.meant _ _ c.flush-flushed.result c.flush-flushed.ensures.ok c.flush-flushed.ensures.err)
