@@ -16,6 +16,10 @@ pub mod Hoisting
 pub mod Relinking
 pub mod Receiving
 pub mod Splitting
+pub mod Below
+pub mod Fresh
+pub mod Arriving
+pub mod Seeking
 pub mod Staying
 pub mod Stepping
 pub mod Halves

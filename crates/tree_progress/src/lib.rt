@@ -20,6 +20,7 @@
 //! than 3. With sizes for which this does not hold, a split and a merge may undo each other for ever.
 #![tactic(auto)]
 
+ghost use Rattle.tree_progress.specs.Alone.{AloneLaw};
 ghost use Rattle.tree_progress.specs.Steps.{HalvesLaw, StepLaw};
 ghost use Rattle.tree_progress.specs.Laws.{LinkRaises, InstallLowers, PostLowers, SwapLowers, IntendLowers, CapLowers, ReceiveLowers, ConfirmLowers};
 
@@ -124,4 +125,15 @@ pub fn law_step()
 /// ```
 pub fn law_halves()
     ensures { HalvesLaw }
+{}
+
+/// Does nothing. A call on a key that is made alone, on any well-formed pages, half-done splits and merges included, is decided, or refused
+/// for want of memory or for a fault, within a number of steps (`alone_steps`) that is computed from the pages: what is left to repair in its
+/// tree and one more, times four more than twice the pages of the tree and what is left to repair.
+///
+/// ```
+/// law_alone(); // From here on a proof knows it.
+/// ```
+pub fn law_alone()
+    ensures { AloneLaw }
 {}

@@ -1,0 +1,6 @@
+use Rattle.tree_progress.proofs.Arriving.{arrives}
+use Rattle.tree_progress.proofs.Seeking.{reads_before}
+use Rattle.tree_progress.proofs.law_alone.Goals as goal
+
+pub returns : goal.returns
+returns c = ?
