@@ -1,6 +1,7 @@
 pub mod Arithmetic
 pub mod Sums
 pub mod Shapes
+pub mod Counting
 pub mod Among
 pub mod Levels
 pub mod Changing

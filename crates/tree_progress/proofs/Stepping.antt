@@ -56,7 +56,7 @@ refused_now e old new k = go e k.is
 
 -- less is left by as much, and so by 1
 one_at_least : (a b : State) (t : Tree) (by : ℕ) → 1 ≤ by → Lowers a b t by → Lowers a b t 1
-one_at_least a b t by l k = record { here = less _ _ k.here; others = k.others }
+one_at_least a b t by l k = record { here = less _ _ k.here; pages = k.pages; others = k.others }
   where
     less : (x y : ℕ) → x + by ≤ y → x + 1 ≤ y
     less x y u = omega arith

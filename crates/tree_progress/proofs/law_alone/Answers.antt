@@ -1,4 +1,5 @@
 use Rattle.tree_progress.proofs.Arriving.{arrives}
+use Rattle.tree_progress.proofs.Stepping.{step_law}
 use Rattle.tree_progress.proofs.Seeking.{reads_before}
 use Rattle.tree_progress.proofs.law_alone.Goals as goal
 
