@@ -21,6 +21,7 @@ pub mod Below
 pub mod Fresh
 pub mod Arriving
 pub mod Seeking
+pub mod Landing
 pub mod Staying
 pub mod Stepping
 pub mod Halves

@@ -1,3 +1,4 @@
+use Rattle.tree_progress.proofs.Landing.{lands}
 use Rattle.tree_progress.proofs.Arriving.{arrives}
 use Rattle.tree_progress.proofs.Stepping.{step_law}
 use Rattle.tree_progress.proofs.Seeking.{reads_before}
