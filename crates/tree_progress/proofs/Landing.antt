@@ -10,7 +10,7 @@ use Rattle.sled_nodes.specs.Order.{Key}
 use Rattle.sled_nodes.specs.Posting.{takes_pointer}
 use Rattle.sled_nodes.specs.declared.error.Error.{Error}
 use Rattle.sled_nodes.specs.declared.link.Link.{Link}
-use Rattle.sled_nodes.specs.declared.link.Link.TheVariants.{ParentMergeIntention, ParentMergeConfirm, ChildMergeCap}
+use Rattle.sled_nodes.specs.declared.link.Link.TheVariants.{Set, Del, ParentMergeIntention, ParentMergeConfirm, ChildMergeCap}
 use Rattle.sled_nodes.specs.declared.node.Node.{Node}
 use Rattle.sled_store.specs.In.{In}
 use Rattle.sled_store.specs.State.{State, nodes_of, PageBecomes, RootBecomes, after}
@@ -227,8 +227,8 @@ module _ (j : Course) (old new : Store) (numbers : Tree → Option ℕ) (given :
 
       go : (e : Effect) → (decision_at operator j.call look.node.content).effect ≡ e → (key : Key) → MatchOption (link_of e key) ((new ≡ old) × (next ≡ Go stage.Root)) (λ link. TakesWay (after_link link) look.pid look.version old new next (λ _. Decided (decision_at operator j.call look.node.content).reply) (λ _. Go stage.Root)) → goes m m' v j n next
       go effect.Nothing e key y = absurd (links_law operator j.call (value_at look.node.content (key_of j.call)) none e)
-      go (effect.Set value) e key y = over _ y
-      go effect.Remove e key y = over _ y
+      go (effect.Set value) e key y = over (Set key value) y
+      go effect.Remove e key y = over (Del key) y
 
   pub lands : (n : ℕ) (a : Stage) (next : Sequel) → IsStage m w t number j.aim a → changes_at j a → HasHalves (nodes_of (now old)) a → IsFresh m w j n a → follows_as j old a next new → goes m m' v j n next
   lands n stage.Root next k c h f x = at_root n next f x.0 x.1
@@ -240,7 +240,7 @@ module _ (j : Course) (old new : Store) (numbers : Tree → Option ℕ) (given :
   lands n (stage.Split a) next k c h f x = or_refused n next go x
     where
       go : follows_split old new a next → goes m m' v j n next
-      go (inr y) = absurd (y.0 (f.2, f.3.not_merging, f.3.free))
+      go (inr y) = absurd (y.0 (f.2, (f.3.not_merging, f.3.free)))
       go (inl y) =
           let q : ℕ = y.1.right in
           let e = now_allocates _ q y.1.version old new y.1.made in

@@ -25,3 +25,4 @@ pub mod Landing
 pub mod Staying
 pub mod Stepping
 pub mod Halves
+pub mod Alone
