@@ -1,9 +1,10 @@
 -- A call that is made alone: each step reads on or repairs, and a number falls with each of them.
-use Rattle.std.proofs.Common.{◌≡◌, ◌≢◌, ℕ, zero, suc, ◌+◌, ◌*◌, ◌≤◌, ◌<◌, Bool, Option, Some, sym, refl, ap, ◌∙◌, subst, inl, inr, ◌⊎◌, arith}
+use Rattle.std.proofs.Common.{◌≡◌, ◌≢◌, ℕ, suc, ◌+◌, ◌*◌, ◌≤◌, ◌<◌, Bool, Option, Some, sym, refl, ap, ◌∙◌, subst, inl, inr, ◌⊎◌, arith}
 use Rattle.std.proofs.Math.Nat.{suc-mul, mul_comm, mul-le-mul_left}
+use Rattle.sled_nodes.proofs.Basics.{none_some}
 use Rattle.sled_nodes.specs.declared.error.Error.{Error}
 use Rattle.sled_nodes.specs.declared.error.Error.TheVariants.{NoMemory, Io}
-use Rattle.sled_store.specs.State.{State, nodes_of}
+use Rattle.sled_store.specs.State.{nodes_of}
 use Rattle.sled_store.specs.Store.{Store, now}
 use Rattle.sled_model.specs.Maps.{Merge as Operator}
 use Rattle.sled_model.specs.State.{IsOnKey}
@@ -12,7 +13,8 @@ use Rattle.tree_laws.specs.Paths.{tree_pages}
 use Rattle.tree_laws.specs.Snapshot.{HasForest, snapshot_of}
 use Rattle.tree_laws.specs.declared.flight.Stage.{Stage}
 use Rattle.tree_laws.specs.declared.flight.Stage.TheVariants as stage
-use Rattle.sled_tree.specs.Course.{Course, course, course_of}
+use Rattle.sled_tree.specs.Course.{Course, course, course_of, IsAimed}
+use Rattle.sled_tree.specs.Follows.{Follows}
 use Rattle.sled_tree.specs.Stages.{Knows}
 use Rattle.sled_tree.specs.theory.Linking.{StepsBy}
 use Rattle.sled_tree.specs.theory.StageAction.{Only, flight_step_as, is_action_refused_as}
@@ -20,44 +22,48 @@ use Rattle.sled_tree.specs.declared.flight.InFlight.{InFlight}
 use Rattle.sled_tree.specs.declared.flight.Sequel.TheVariants.{Go}
 use Rattle.sled_tree.specs.declared.flight.Went.{Went}
 use Rattle.sled_tree.specs.declared.flight.Went.TheVariants as went
-use Rattle.tree_progress.specs.Alone.{MovesAlone, Begins, Moves, alone_steps, BeginsAlone, Ends, EndsWithin, AloneLaw}
+use Rattle.tree_progress.specs.Alone.{MovesAlone, Begins, Moves, alone_steps, Ends, AloneLaw}
 use Rattle.tree_progress.specs.Steps.{HasHalves}
 use Rattle.tree_progress.specs.ToDo.{to_do}
 use Rattle.tree_progress.proofs.Fresh.{IsFresh}
 use Rattle.tree_progress.proofs.Halves.{halves_law}
-use Rattle.tree_progress.proofs.Landing.{lands}
+use Rattle.tree_progress.proofs.Landing.{Stays, lands}
 
 -- what holds of a call that is alone, between two of its steps: the pages are well formed, and it sees them as they are
-record IsAlone (numbers : Tree → Option ℕ) (given : ℕ → Bool) (s : Store) (j : Course) (a : Stage) (n : ℕ) (w : Forest) : Type 0 where
-  formed : HasForest (snapshot_of s numbers given) w
-  named : numbers j.tree.name ≡ Some j.tree.number
-  knows : Knows (snapshot_of s numbers given) w j a
-  halves : HasHalves (nodes_of (now s)) a
-  fresh : IsFresh (snapshot_of s numbers given) w j n a
-  on_key : IsOnKey j.call
+pub record IsAlone (numbers : Tree → Option ℕ) (given : ℕ → Bool) (s : Store) (j : Course) (a : Stage) (n : ℕ) (w : Forest) : Type 0 where
+  pub formed : HasForest (snapshot_of s numbers given) w
+  pub named : numbers j.tree.name ≡ Some j.tree.number
+  pub knows : Knows (snapshot_of s numbers given) w j a
+  pub halves : HasHalves (nodes_of (now s)) a
+  pub fresh : IsFresh (snapshot_of s numbers given) w j n a
+  pub on_key : IsOnKey j.call
 
--- a step that goes on: fewer are ahead, or less is left to repair
-record GoesOn (numbers : Tree → Option ℕ) (given : ℕ → Bool) (old new : Store) (j : Course) (b : Stage) (n : ℕ) : Type 0 where
-  forest : Forest
-  ahead : ℕ
-  alone : IsAlone numbers given new j b ahead forest
-  falls : ((to_do (now new) j.tree.name ≡ to_do (now old) j.tree.name) × (tree_pages (now new) j.tree.name ≡ tree_pages (now old) j.tree.name) × (ahead < n))
-      ⊎ ((to_do (now new) j.tree.name + 1 ≤ to_do (now old) j.tree.name) × (tree_pages (now new) j.tree.name ≤ tree_pages (now old) j.tree.name + 1) × (ahead < 2 * tree_pages (now new) j.tree.name + 4))
+-- a step of the call by which it goes on, and the forest after it
+pub record LeadsOn (numbers : Tree → Option ℕ) (given : ℕ → Bool) (old new : Store) (j : Course) (a b : Stage) (w v : Forest) : Type 0 where
+  pub follows : Follows j old a (Go b) new
+  pub formed : HasForest (snapshot_of new numbers given) v
+  pub stays : Stays (nodes_of (now new)) w v
+  pub knows : Knows (snapshot_of new numbers given) v j b
 
-steps_on : (numbers : Tree → Option ℕ) (given : ℕ → Bool) (old new : Store) (f g : InFlight) (operator : Option Operator) (n : ℕ) (w : Forest) → IsAlone numbers given old (course_of f) f.stage n w → StepsBy operator old f went.Moved new g
-    → GoesOn numbers given old new (course_of f) g.stage n
-steps_on numbers given old new f g operator n w a k =
-    let j : Course = course_of f in
-    let b = k.advances.is.3.is numbers given w a.formed a.named a.knows in
-    let x = lands j old new numbers given w b.0 a.formed b.1.is b.1.goes.keeps j.tree.number a.named a.on_key (a.knows.2.key a.on_key) n f.stage (Go g.stage) a.knows.0 a.knows.1 a.halves a.fresh k.follows.is.is in
-    let next : (ahead : ℕ) → IsFresh (snapshot_of new numbers given) b.0 j ahead g.stage → IsAlone numbers given new j g.stage ahead b.0 = λ ahead fresh. record { formed = b.1.is; named = a.named; knows = b.2.0; halves = halves_law.steps j old new f.stage (Go g.stage) k.follows.is; fresh = fresh; on_key = a.on_key } in
+-- fewer steps are ahead, or less is left to repair
+abbrev pub FallsBy : Store → Store → Tree → ℕ → ℕ → Type 0
+FallsBy old new t n ahead = ((to_do (now new) t ≡ to_do (now old) t) × (tree_pages (now new) t ≡ tree_pages (now old) t) × (ahead < n))
+    ⊎ ((to_do (now new) t + 1 ≤ to_do (now old) t) × (tree_pages (now new) t ≤ tree_pages (now old) t + 1) × (ahead < 2 * tree_pages (now new) t + 4))
+
+steps_on : (numbers : Tree → Option ℕ) (given : ℕ → Bool) (old new : Store) (j : Course) (a b : Stage) (n : ℕ) (w v : Forest) → IsAlone numbers given old j a n w → LeadsOn numbers given old new j a b w v
+    → (ahead : ℕ) × IsAlone numbers given new j b ahead v × FallsBy old new j.tree.name n ahead
+steps_on numbers given old new j a b n w v k l =
+    let x = lands j old new numbers given w v k.formed l.formed l.stays j.tree.number k.named k.on_key (k.knows.2.key k.on_key) n a (Go b) k.knows.0 k.knows.1 k.halves k.fresh l.follows.is in
     elim x [
       | inl over ↦ absurd over
       | inr y ↦ elim y [
-        | inl z ↦ record { forest = b.0; ahead = z.2.0; alone = next z.2.0 z.2.2; falls = inl (z.0, z.1, z.2.1) }
-        | inr z ↦ record { forest = b.0; ahead = z.2.0; alone = next z.2.0 z.2.2; falls = inr (z.0, z.1, z.2.1) }
+        | inl z ↦ (z.2.0, next z.2.0 z.2.2, inl (z.0, z.1, z.2.1))
+        | inr z ↦ (z.2.0, next z.2.0 z.2.2, inr (z.0, z.1, z.2.1))
       ]
     ]
+  where
+    next : (ahead : ℕ) → IsFresh (snapshot_of new numbers given) v j ahead b → IsAlone numbers given new j b ahead v
+    next ahead fresh = record { formed = l.formed; named = k.named; knows = l.knows; halves = halves_law.steps j old new a (Go b) l.follows; fresh = fresh; on_key = k.on_key }
 
 -- the numbers: x is left to repair, the tree has p pages, and n steps are ahead; no attempt has more than k
 fewer_ahead : (i x n k : ℕ) (x' n' total : ℕ) → x' ≡ x → n' < n → i + x * k + n ≤ total → suc i + x' * k + n' ≤ total
@@ -74,53 +80,97 @@ less_left i x n k x' n' total l l' u =
     sum : (a b : ℕ) → b + k ≤ a → i + a + n ≤ total → suc i + b + n' ≤ total
     sum a b g u = omega (arith, l')
 
--- so many steps were done, and so many are ahead at most
-record IsAhead (numbers : Tree → Option ℕ) (given : ℕ → Bool) (a b : Store) (f g : InFlight) (n i most : ℕ) : Type 0 where
-  forest : Forest
-  ahead : ℕ
-  same : course_of g ≡ course_of f
-  alone : IsAlone numbers given b (course_of f) g.stage ahead forest
-  few : tree_pages (now b) f.job.tree.name + to_do (now b) f.job.tree.name ≤ most
-  falls : i + to_do (now b) f.job.tree.name * (2 * most + 4) + ahead ≤ to_do (now a) f.job.tree.name * (2 * most + 4) + n
+-- so many steps were done from the store a on, and so many are ahead at most
+pub record IsAhead (numbers : Tree → Option ℕ) (given : ℕ → Bool) (a b : Store) (j : Course) (stage : Stage) (i : ℕ) : Type 0 where
+  pub forest : Forest
+  pub ahead : ℕ
+  pub alone : IsAlone numbers given b j stage ahead forest
+  pub few : tree_pages (now b) j.tree.name + to_do (now b) j.tree.name ≤ tree_pages (now a) j.tree.name + to_do (now a) j.tree.name
+  pub falls : i + to_do (now b) j.tree.name * (2 * (tree_pages (now a) j.tree.name + to_do (now a) j.tree.name) + 4) + ahead
+      ≤ to_do (now a) j.tree.name * (2 * (tree_pages (now a) j.tree.name + to_do (now a) j.tree.name) + 4) + (2 * tree_pages (now a) j.tree.name + 2)
 
-moves : (numbers : Tree → Option ℕ) (given : ℕ → Bool) (a : Store) (f : InFlight) (n : ℕ) (w : Forest) → IsAlone numbers given a (course_of f) f.stage n w → (i : ℕ) (b : Store) (g : InFlight) → MovesAlone a f i b g
-    → IsAhead numbers given a b f g n i (tree_pages (now a) f.job.tree.name + to_do (now a) f.job.tree.name)
-moves numbers given a f n w k i b g Begins = record { forest = w; ahead = n; same = refl; alone = k; few = omega arith; falls = omega arith }
-moves numbers given a f n w k i b g (Moves {b = c} {g = h} {n = l} {operator = operator} rest step) =
-    let r = moves numbers given a f n w k l c h rest in
-    let x = subst (λ z. GoesOn numbers given c b z g.stage r.ahead) r.same (steps_on numbers given c b h g operator r.ahead r.forest (subst (λ z. IsAlone numbers given c z h.stage r.ahead r.forest) (sym r.same) r.alone) step) in
-    let course_is : course_of g ≡ course_of f = ap (λ z. course z g.aim) step.advances.is.0 ∙ ap (course h.job) step.advances.is.1 ∙ r.same in
-    elim x.falls [
-      | inl z ↦ record { forest = x.forest; ahead = x.ahead; same = course_is; alone = x.alone; few = kept z.0 z.1 r.few; falls = fewer_ahead l (left c) r.ahead (2 * most + 4) (left b) x.ahead _ z.0 z.2 r.falls }
-      | inr z ↦ record { forest = x.forest; ahead = x.ahead; same = course_is; alone = x.alone; few = one_more z.0 z.1 r.few; falls = less_left l (left c) r.ahead (2 * most + 4) (left b) x.ahead _ z.0 (within x.ahead (one_more z.0 z.1 r.few) z.2) r.falls }
+-- a call on a key that begins
+pub ahead_first : (numbers : Tree → Option ℕ) (given : ℕ → Bool) (s : Store) (j : Course) (w : Forest) → HasForest (snapshot_of s numbers given) w → numbers j.tree.name ≡ Some j.tree.number → IsOnKey j.call → IsAimed j → IsAhead numbers given s s j stage.Root 0
+ahead_first numbers given s j w formed named on_key aimed = record {
+  forest = w;
+  ahead = 2 * tree_pages (now s) j.tree.name + 2;
+  alone = record { formed = formed; named = named; knows = (tt, tt, aimed); halves = tt; fresh = same _; on_key = on_key };
+  few = same _;
+  falls = none _ _;
+}
+  where
+    same : (x : ℕ) → x ≤ x
+    same x = omega arith
+
+    none : (x y : ℕ) → 0 + x + y ≤ x + y
+    none x y = omega arith
+
+-- .. and one step more
+pub ahead_next : (numbers : Tree → Option ℕ) (given : ℕ → Bool) (a b c : Store) (j : Course) (was is : Stage) (i : ℕ) (r : IsAhead numbers given a b j was i) (v : Forest) → LeadsOn numbers given b c j was is r.forest v → IsAhead numbers given a c j is (suc i)
+ahead_next numbers given a b c j was is i r v l =
+    let x = steps_on numbers given b c j was is r.ahead r.forest v r.alone l in
+    elim x.2 [
+      | inl z ↦ record { forest = v; ahead = x.0; alone = x.1; few = kept z.0 z.1 r.few; falls = fewer_ahead i (left b) r.ahead (2 * most + 4) (left c) x.0 _ z.0 z.2 r.falls }
+      | inr z ↦ record { forest = v; ahead = x.0; alone = x.1; few = one_more z.0 z.1 r.few; falls = less_left i (left b) r.ahead (2 * most + 4) (left c) x.0 _ z.0 (within x.0 (one_more z.0 z.1 r.few) z.2) r.falls }
     ]
   where
     left : Store → ℕ
-    left s = to_do (now s) f.job.tree.name
+    left s = to_do (now s) j.tree.name
 
     pages : Store → ℕ
-    pages s = tree_pages (now s) f.job.tree.name
+    pages s = tree_pages (now s) j.tree.name
 
     most : ℕ
     most = pages a + left a
 
-    kept : left b ≡ left c → pages b ≡ pages c → pages c + left c ≤ most → pages b + left b ≤ most
+    kept : left c ≡ left b → pages c ≡ pages b → pages b + left b ≤ most → pages c + left c ≤ most
     kept e e' l = sum _ _ _ _ _ e e' l
       where
         sum : (x y u v t : ℕ) → x ≡ y → u ≡ v → v + y ≤ t → u + x ≤ t
         sum x y u v t e e' l = omega arith
 
-    one_more : left b + 1 ≤ left c → pages b ≤ pages c + 1 → pages c + left c ≤ most → pages b + left b ≤ most
+    one_more : left c + 1 ≤ left b → pages c ≤ pages b + 1 → pages b + left b ≤ most → pages c + left c ≤ most
     one_more e e' l = sum _ _ _ _ _ e e' l
       where
         sum : (x y u v t : ℕ) → x + 1 ≤ y → u ≤ v + 1 → v + y ≤ t → u + x ≤ t
         sum x y u v t e e' l = omega arith
 
-    within : (q : ℕ) → pages b + left b ≤ most → q < 2 * pages b + 4 → q < 2 * most + 4
+    within : (q : ℕ) → pages c + left c ≤ most → q < 2 * pages c + 4 → q < 2 * most + 4
     within q l u = sum q _ _ _ l u
       where
         sum : (q p x t : ℕ) → p + x ≤ t → q < 2 * p + 4 → q < 2 * t + 4
         sum q p x t l u = omega arith
+
+-- so fewer steps were done than this
+pub ahead_few : {numbers : Tree → Option ℕ} {given : ℕ → Bool} {a b : Store} {j : Course} {stage : Stage} {i : ℕ} → IsAhead numbers given a b j stage i → i < alone_steps (now a) j.tree.name
+ahead_few {a = a} {b = b} {j = j} {i = i} r = sum (to_do (now a) j.tree.name) (tree_pages (now a) j.tree.name) _ r.ahead r.falls
+  where
+    sum : (x p y ahead : ℕ) → i + y + ahead ≤ x * (2 * (p + x) + 4) + (2 * p + 2) → i < (x + 1) * (2 * (p + x) + 4)
+    sum x p y ahead l = all (x * (2 * (p + x) + 4)) _ (ap (λ z. z * (2 * (p + x) + 4)) one ∙ suc-mul x (2 * (p + x) + 4)) l
+      where
+        one : x + 1 ≡ suc x
+        one = omega arith
+
+        all : (a b : ℕ) → b ≡ a + (2 * (p + x) + 4) → i + y + ahead ≤ a + (2 * p + 2) → i < b
+        all a b e l = omega arith
+
+-- steps of a call in flight that is alone
+moves : (numbers : Tree → Option ℕ) (given : ℕ → Bool) (a : Store) (f : InFlight) → IsAhead numbers given a a (course_of f) f.stage 0 → (i : ℕ) (b : Store) (g : InFlight) → MovesAlone a f i b g → IsAhead numbers given a b (course_of f) g.stage i × (course_of g ≡ course_of f)
+moves numbers given a f k i b g Begins = (k, refl)
+moves numbers given a f k i b g (Moves {b = c} {g = h} {n = l} step_before step) =
+    let r = moves numbers given a f k l c h step_before in
+    let at = subst (λ z. IsAhead numbers given a c z h.stage l) (sym r.1) r.0 in
+    let x = step.advances.is.3.is numbers given at.forest at.alone.formed at.alone.named at.alone.knows in
+    let on : LeadsOn numbers given c b (course_of h) h.stage g.stage at.forest x.0 = record {
+      follows = step.follows.is;
+      formed = x.1.is;
+      stays = λ y p i.
+      let page = at.alone.formed.formed.page y p (at.alone.formed.formed.homed y p i) in
+      let o = x.1.goes.keeps.stood y p page.0 (λ e. none_some e) i page.1.live in
+      elim o.3 [ inl u ↦ inl u | inr u ↦ inr (o.0, o.1, u) ];
+      knows = x.2.0;
+    } in
+    (subst (λ z. IsAhead numbers given a b z g.stage (suc l)) r.1 (ahead_next numbers given a c b (course_of h) h.stage g.stage l at x.0 on), ap (λ z. course z g.aim) step.advances.is.0 ∙ ap (course h.job) step.advances.is.1 ∙ r.1)
 
 -- by whatever a step ends a call, it is decided, or refused for memory or for a fault
 ends_by : (by : Option Operator → Type 0) (a b : Store) (g h : InFlight) (out : Went) → flight_step_as by a g out b h → out ≢ went.Moved → Ends out
@@ -136,21 +186,9 @@ ends_by by a b g h (went.Refused e) k off = go e k.touches
 
 pub alone_law : AloneLaw
 alone_law s f k = record {
-  few = λ i new g m. let r = moves k.numbers k.given s f (2 * tree_pages (now s) f.job.tree.name + 2) k.forest start i new g m in within i _ _ _ _ r.falls;
+  few = λ i new g m. ahead_few (moves k.numbers k.given s f start i new g m).0;
   ends = λ i a b g h operator out m step off. ends_by (Only operator) a b g h out step.advances.is off;
 }
   where
-    start : IsAlone k.numbers k.given s (course_of f) f.stage (2 * tree_pages (now s) f.job.tree.name + 2) k.forest
-    start = subst (λ z. IsAlone k.numbers k.given s (course_of f) z (2 * tree_pages (now s) f.job.tree.name + 2) k.forest) (sym k.begins) (record { formed = k.formed; named = k.named; knows = (tt, tt, k.aimed); halves = tt; fresh = same _; on_key = k.on_key })
-      where
-        same : (x : ℕ) → x ≤ x
-        same x = omega arith
-
-    within : (i x p y ahead : ℕ) → i + y + ahead ≤ x * (2 * (p + x) + 4) + (2 * p + 2) → i < (x + 1) * (2 * (p + x) + 4)
-    within i x p y ahead l = sum (x * (2 * (p + x) + 4)) _ (ap (λ z. z * (2 * (p + x) + 4)) one ∙ suc-mul x (2 * (p + x) + 4)) l
-      where
-        one : x + 1 ≡ suc x
-        one = omega arith
-
-        sum : (a b : ℕ) → b ≡ a + (2 * (p + x) + 4) → i + y + ahead ≤ a + (2 * p + 2) → i < b
-        sum a b e l = omega arith
+    start : IsAhead k.numbers k.given s s (course_of f) f.stage 0
+    start = subst (λ z. IsAhead k.numbers k.given s s (course_of f) z 0) (sym k.begins) (ahead_first k.numbers k.given s (course_of f) k.forest k.formed k.named k.on_key k.aimed)

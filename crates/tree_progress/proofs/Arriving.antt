@@ -1,14 +1,10 @@
 -- A call that sees pages as they are now reads a page of its walk: it ends, or goes on with fewer steps.
-use Rattle.std.proofs.Common.{◌≡◌, ◌≢◌, ℕ, zero, suc, ◌+◌, ◌*◌, ◌≤◌, ◌<◌, Bool, true, false, List, [], ◌∷◌, length, Option, Some, None, option_map, sym, refl, ap, ◌∙◌, subst, inl, inr, ◌⊎◌, arith}
-use Rattle.std.specs.List.{list_any}
-use Rattle.std.specs.declared.ops.Bound.{Bound}
-use Rattle.sled_nodes.proofs.Basics.{none_some, some_is, true_false, false_true}
-use Rattle.sled_nodes.specs.Among.{is_up_to, IsBefore, IsPointer, IsPointerBefore, IsPointerFor}
+use Rattle.std.proofs.Common.{◌≡◌, ℕ, zero, suc, ◌+◌, ◌*◌, ◌≤◌, ◌<◌, Bool, true, false, List, [], ◌∷◌, length, Option, Some, None, option_map, sym, refl, ap, ◌∙◌, subst, inl, inr, ◌⊎◌, arith}
+use Rattle.sled_nodes.proofs.Basics.{none_some, some_is, true_false}
+use Rattle.sled_nodes.specs.Among.{is_up_to, IsPointer, IsPointerBefore, IsPointerFor}
 use Rattle.sled_nodes.specs.Halves.{right_half}
 use Rattle.sled_nodes.specs.Node.{pointers, count, Within}
 use Rattle.sled_nodes.specs.Order.{Key, Below, UpTo}
-use Rattle.sled_nodes.specs.Posting.{takes_pointer}
-use Rattle.sled_nodes.specs.Ranges.{Range}
 use Rattle.sled_nodes.specs.declared.node.Data.{Data}
 use Rattle.sled_nodes.specs.declared.node.Data.TheVariants.{Leaf, Index}
 use Rattle.sled_nodes.specs.declared.node.Node.{Node}
@@ -16,7 +12,7 @@ use Rattle.sled_store.specs.In.{In}
 use Rattle.sled_store.specs.State.{State}
 use Rattle.sled_store.specs.declared.page.Page.{Page}
 use Rattle.sled_store.specs.declared.page.View.{View}
-use Rattle.sled_model.specs.State.{IsOnKey, range_of}
+use Rattle.sled_model.specs.State.{IsOnKey}
 use Rattle.sled_model.specs.declared.reply.Reply.{Reply}
 use Rattle.tree_laws.specs.Forest.{Tree, Forest, Place, place, Holds, later}
 use Rattle.tree_laws.specs.Paths.{pages_below, IsAhead}
@@ -31,16 +27,16 @@ use Rattle.tree_laws.proofs.Cover.{holds_at, child_below, pointer_within}
 use Rattle.tree_laws.proofs.Halving.{halved_law}
 use Rattle.tree_laws.proofs.Known.{sound_at, index_high}
 use Rattle.tree_laws.proofs.Looking.{pointer_in, next_in, next_some, ahead_next, ahead_down, last_in}
-use Rattle.tree_laws.proofs.Order.{upto-below, upto-trans, upto-refl, upto_below-trans, below_irrefl, within_below}
+use Rattle.tree_laws.proofs.Order.{upto-below, upto-trans, upto_below-trans, below_irrefl, within_below}
 use Rattle.tree_laws.proofs.Walks.{rises_at}
 use Rattle.sled_tree.specs.Change.{reply_at}
 use Rattle.sled_tree.specs.Course.{Course}
-use Rattle.sled_tree.specs.Follows.{ResumesMerge, BeginsMerge, MayMerge, GoesDown, Where, OrNoMemory, EndsWithin, resumed, begun, onward, pointed, down, done_at, kept_at, posting_of, follows_read, follows_not_merging, follows_open, follows_here, follows_content, follows_leaf, follows_leaf_as}
+use Rattle.sled_tree.specs.Follows.{ResumesMerge, EndsWithin, resumed, begun, onward, down, done_at, posting_of, follows_read, follows_not_merging, follows_open, follows_here, follows_content, follows_leaf_as}
 use Rattle.sled_tree.specs.Passing.{IsUnchanged}
 use Rattle.sled_tree.specs.declared.flight.Sequel.{Sequel}
-use Rattle.sled_tree.specs.declared.flight.Sequel.TheVariants.{Go, Decided, Refused}
+use Rattle.sled_tree.specs.declared.flight.Sequel.TheVariants.{Go}
 use Rattle.tree_progress.proofs.Below.{up_to_last, awake_under, takes_at, takes_within, has_before}
-use Rattle.tree_progress.proofs.Fresh.{IsAbove, IsOverNow, IsAwake, IsComing, fresh_reached, fresh_posting, IsMergingNow, IsReadingNow, IsFresh, toward}
+use Rattle.tree_progress.proofs.Fresh.{IsOverNow, IsComing, fresh_reached, fresh_posting, toward}
 
 pub node_of : (s : State) (v : View) → IsUnchanged s v → option_map (λ (z : Page). z.node) (s.pages v.pid) ≡ Some v.node
 node_of s v e = ap (option_map (λ (z : Page). z.node)) e
@@ -108,15 +104,18 @@ module _ {m : Snapshot} {w : Forest} (is : HasForest m w) (j : Course) where
         let a = ahead_next is.formed t p.height look.pid q p.ahead node p.is_ahead live next in (
           2 * a.0 + 2,
           less a.0 a.1,
-          (d.0, record {
-            height = p.height;
-            here = record { chained = d.1; live = d.2; awake = awake_under is.formed t p.height parent.pid q parent.node d.0 u.above.chained (node_of m.state parent u.above.now) (λ e. none_some (sym u.is_open.free ∙ e)) d.1 d.2 within };
-            begins = up_next;
-            is_reached = (record { above = u.above; is_open = u.is_open; under = u.under; low = low; last = λ k c i e. upto-below k d.0.lo (upto_below-trans k node.lo d.0.lo (u.last k c i e) rises) }, λ k c i e. upto_below-trans k node.lo d.0.lo (u.last k c i e) rises);
-            ahead = a.0;
-            is_ahead = a.2;
-            few = same _;
-          }),
+          (
+            d.0,
+            record {
+              height = p.height;
+              here = record { chained = d.1; live = d.2; awake = awake_under is.formed t p.height parent.pid q parent.node d.0 u.above.chained (node_of m.state parent u.above.now) (λ e. none_some (sym u.is_open.free ∙ e)) d.1 d.2 within };
+              begins = up_next;
+              is_reached = (record { above = u.above; is_open = u.is_open; under = u.under; low = low; last = λ k c i e. upto-below k d.0.lo (upto_below-trans k node.lo d.0.lo (u.last k c i e) rises) }, λ k c i e. upto_below-trans k node.lo d.0.lo (u.last k c i e) rises);
+              ahead = a.0;
+              is_ahead = a.2;
+              few = same _;
+            },
+          ),
         )
       where
         less : (k : ℕ) → k < p.ahead → 2 * k + 2 < n
@@ -190,15 +189,18 @@ module _ {m : Snapshot} {w : Forest} (is : HasForest m w) (j : Course) where
             } in (
               2 * next.0 + 2,
               less next.0 next.1,
-              (d.0, record {
-                height = g;
-                here = record { chained = d.1; live = d.2; awake = awake_under is.formed t g look.pid c node d.0 i live (λ e. none_some (sym calm.free ∙ e)) d.1 d.2 (subst (λ z. Within node.lo node.hi z) (sym d.3) within) };
-                begins = ap (is_up_to j.aim) d.3 ∙ k.last.passed;
-                is_reached = reach b over (λ e. subst (λ z. In (z, c) (later (pointers node.content))) (sym d.3) (subst (λ z. In (k.key, c) (later (pointers z))) (sym index) (at.1 e)));
-                ahead = next.0;
-                is_ahead = next.2;
-                few = same _;
-              }),
+              (
+                d.0,
+                record {
+                  height = g;
+                  here = record { chained = d.1; live = d.2; awake = awake_under is.formed t g look.pid c node d.0 i live (λ e. none_some (sym calm.free ∙ e)) d.1 d.2 (subst (λ z. Within node.lo node.hi z) (sym d.3) within) };
+                  begins = ap (is_up_to j.aim) d.3 ∙ k.last.passed;
+                  is_reached = reach b over (λ e. subst (λ z. In (z, c) (later (pointers node.content))) (sym d.3) (subst (λ z. In (k.key, c) (later (pointers z))) (sym index) (at.1 e)));
+                  ahead = next.0;
+                  is_ahead = next.2;
+                  few = same _;
+                },
+              ),
             )
           where
             reach : {lo : Key} (b : Bool) → IsOverNow m w t g j.aim look lo → (b ≡ false → In (lo, c) (later (pointers node.content))) → fresh_reached m w t g j.aim (by_pointer look b) lo c

@@ -1,5 +1,5 @@
 -- What stands under an index as it is now: pages that do not merge, keys without a pointer, and the last pointer within a bound.
-use Rattle.std.proofs.Common.{◌≡◌, ◌≢◌, ℕ, zero, suc, ◌+◌, ◌≤◌, ◌<◌, Bool, true, false, cond, T, is_none, List, [], ◌∷◌, ◌++◌, Option, Some, None, sym, refl, ap, ◌∙◌, subst, inl, inr, arith}
+use Rattle.std.proofs.Common.{◌≡◌, ◌≢◌, ℕ, suc, Bool, true, false, cond, T, is_none, List, [], ◌∷◌, ◌++◌, Option, Some, None, sym, refl, ap, ◌∙◌, subst, inl, inr}
 use Rattle.std.proofs.lemmas.Bool.{or_parts}
 use Rattle.std.specs.FinMap.{is_sorted}
 use Rattle.std.specs.FinMap.Entries.{find, below_all}
@@ -15,12 +15,12 @@ use Rattle.sled_nodes.specs.Order.{Key, key_cmp, Below, UpTo}
 use Rattle.sled_nodes.specs.Posting.{takes_pointer}
 use Rattle.sled_nodes.specs.declared.link.Link.TheVariants.{ParentMergeIntention}
 use Rattle.sled_nodes.specs.declared.node.Data.{Data}
-use Rattle.sled_nodes.specs.declared.node.Data.TheVariants.{Leaf, Index}
+use Rattle.sled_nodes.specs.declared.node.Data.TheVariants.{Index}
 use Rattle.sled_nodes.specs.declared.node.Node.{Node}
 use Rattle.sled_store.specs.In.{In}
 use Rattle.sled_store.specs.State.{Nodes}
 use Rattle.sled_store.specs.theory.Facts.{put_here}
-use Rattle.tree_laws.specs.Forest.{Tree, Forest, Place, place, Holds, WellFormed, later}
+use Rattle.tree_laws.specs.Forest.{Tree, Forest, place, WellFormed, later}
 use Rattle.tree_laws.specs.Snapshot.{IsOpen}
 use Rattle.tree_laws.specs.theory.Action.{put_node}
 use Rattle.tree_laws.proofs.Before.{before_child_law}
@@ -89,7 +89,7 @@ module _ {nodes : Nodes} {roots : Tree → Option ℕ} {w : Forest} (f : WellFor
       let a = f.pointer t h up.0 up.1 up.2 up.3 k.0 q (later_in up.1.content k.0 q k.1) in
       let key : k.0 ≡ d.lo = sym a.key ∙ ap (λ (z : Node). z.lo) (some_is (sym a.live ∙ there)) in
       let same : p ≡ up.0 = one_cover f (place t (suc h)) p up.0 n up.1 d.lo i up.2 live up.3 within
-          (subst (λ z. Within up.1.lo up.1.hi z) key (pointer_within h up.1.lo up.1.hi up.1.content (holds_at f (place t (suc h)) up.0 up.1 up.2 up.3) k.0 q (later_in up.1.content k.0 q k.1))) in
+      (subst (λ z. Within up.1.lo up.1.hi z) key (pointer_within h up.1.lo up.1.hi up.1.content (holds_at f (place t (suc h)) up.0 up.1 up.2 up.3) k.0 q (later_in up.1.content k.0 q k.1))) in
       subst (λ (z : Node). z.merging_child ≡ Some q) (some_is (sym up.3 ∙ ap nodes (sym same) ∙ live)) up.4
 
   -- so under an open one none merges

@@ -1,10 +1,8 @@
 -- How many pages a tree has, along its levels.
-use Rattle.std.proofs.Common.{◌≡◌, ◌≢◌, ℕ, zero, suc, ◌+◌, ◌≤◌, ◌<◌, ◌^◌, List, [], ◌∷◌, Option, Some, None, length, sym, refl, ap, ◌∙◌, subst, arith, le_refl}
-use Rattle.sled_store.specs.In.{In}
+use Rattle.std.proofs.Common.{◌≡◌, ◌≢◌, ℕ, zero, suc, ◌+◌, ◌≤◌, ◌<◌, List, [], ◌∷◌, Option, Some, None, length, sym, refl, ap, ◌∙◌, arith, le_refl}
 use Rattle.sled_store.specs.State.{State, Nodes, nodes_of}
-use Rattle.sled_store.specs.declared.page.Page.{Page}
 use Rattle.tree_laws.specs.Forest.{Tree, head}
-use Rattle.tree_laws.specs.Contents.{page_numbers, next_of, first_of}
+use Rattle.tree_laws.specs.Contents.{page_numbers, first_of}
 use Rattle.tree_laws.specs.Paths.{length_along, pages_under, tree_pages}
 use Rattle.tree_progress.proofs.Shapes.{Leads, IsShape}
 use Rattle.tree_progress.proofs.Sums.{over, over_one}

@@ -1,5 +1,5 @@
 -- A call that sees pages as they are now: what it knows at its stage, and how many steps it has at most until it changes a page.
-use Rattle.std.proofs.Common.{◌≡◌, ◌≢◌, ℕ, suc, ◌+◌, ◌*◌, ◌<◌, ◌≤◌, Bool, true, false, Option, Some, None}
+use Rattle.std.proofs.Common.{◌≡◌, ◌≢◌, ℕ, suc, ◌+◌, ◌*◌, ◌<◌, ◌≤◌, true, false, Some}
 use Rattle.std.specs.declared.ops.Bound.{Bound}
 use Rattle.sled_nodes.specs.Among.{is_up_to, IsBefore}
 use Rattle.sled_nodes.specs.Halves.{right_half}
@@ -21,7 +21,6 @@ use Rattle.tree_laws.specs.declared.flight.Posting.TheVariants as posting
 use Rattle.tree_laws.specs.declared.flight.Merge.{Merge}
 use Rattle.tree_laws.specs.declared.flight.Cap.{Cap}
 use Rattle.tree_laws.specs.declared.flight.Seek.{Seek}
-use Rattle.tree_laws.specs.declared.flight.Walk.{Walk}
 use Rattle.tree_laws.specs.declared.flight.Stage.{Stage}
 use Rattle.tree_laws.specs.declared.flight.Stage.TheVariants as stage
 use Rattle.sled_tree.specs.Course.{Course}

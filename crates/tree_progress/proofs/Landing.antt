@@ -1,20 +1,18 @@
 -- A step of a call that sees pages as they are now: it reads one and goes on with fewer steps, or repairs one, and sees them so again.
-use Rattle.std.proofs.Common.{◌≡◌, ◌≢◌, ℕ, zero, suc, ◌+◌, ◌*◌, ◌≤◌, ◌<◌, ◌^◌, Bool, true, false, not, List, [], length, Option, Some, None, Result, Ok, Err, MatchOption, option_map, sym, refl, ap, ◌∙◌, subst, inl, inr, ◌⊎◌, arith}
-use Rattle.std.specs.declared.ops.Bound.{Bound}
+use Rattle.std.proofs.Common.{◌≡◌, ◌≢◌, ℕ, zero, suc, ◌+◌, ◌*◌, ◌≤◌, ◌<◌, Bool, true, false, not, List, [], length, Option, Some, None, Result, Ok, Err, MatchOption, option_map, sym, refl, ap, ◌∙◌, subst, inl, inr, ◌⊎◌, arith}
 use Rattle.std.specs.declared.ops.Bound.TheVariants.{Included}
 use Rattle.sled_nodes.proofs.Basics.{none_some, some_is, true_false, same_or_not}
 use Rattle.sled_nodes.specs.Among.{is_up_to}
 use Rattle.sled_nodes.specs.Halves.{right_half, after_receiving}
-use Rattle.sled_nodes.specs.Node.{count, value_at, after_link, after_intention}
+use Rattle.sled_nodes.specs.Node.{value_at, after_link, after_intention}
 use Rattle.sled_nodes.specs.Order.{Key}
-use Rattle.sled_nodes.specs.Posting.{takes_pointer}
 use Rattle.sled_nodes.specs.declared.error.Error.{Error}
 use Rattle.sled_nodes.specs.declared.link.Link.{Link}
 use Rattle.sled_nodes.specs.declared.link.Link.TheVariants.{Set, Del, ParentMergeIntention, ParentMergeConfirm, ChildMergeCap}
 use Rattle.sled_nodes.specs.declared.node.Node.{Node}
 use Rattle.sled_store.specs.In.{In}
-use Rattle.sled_store.specs.State.{State, nodes_of, PageBecomes, RootBecomes, after}
-use Rattle.sled_store.specs.Store.{Store, now, view_of, Allocates, swaps_as, frees_as}
+use Rattle.sled_store.specs.State.{State, Nodes, nodes_of, PageBecomes, RootBecomes, after}
+use Rattle.sled_store.specs.Store.{Store, now, view_of, swaps_as, frees_as}
 use Rattle.sled_store.specs.theory.Facts.{now_acted, now_acts, now_allocates, put_here, put_elsewhere}
 use Rattle.sled_store.specs.declared.page.Page.{Page}
 use Rattle.sled_store.specs.declared.page.View.{View}
@@ -25,10 +23,8 @@ use Rattle.sled_model.specs.declared.decision.Effect.{Effect}
 use Rattle.sled_model.specs.declared.decision.Effect.TheVariants as effect
 use Rattle.tree_laws.specs.Forest.{Tree, Forest, Place, place}
 use Rattle.tree_laws.specs.Paths.{tree_pages, pages_below}
-use Rattle.tree_laws.specs.Snapshot.{Snapshot, snapshot_of, nodes_at, HasForest, IsOpen}
+use Rattle.tree_laws.specs.Snapshot.{Snapshot, snapshot_of, HasForest}
 use Rattle.tree_laws.specs.Stages.{IsStage}
-use Rattle.tree_laws.specs.theory.Snapshot.{KeepsNodes}
-use Rattle.tree_laws.specs.declared.flight.InstallLeft.{InstallLeft}
 use Rattle.tree_laws.specs.declared.flight.Posting.{Posting}
 use Rattle.tree_laws.specs.declared.flight.Posting.TheVariants as posting
 use Rattle.tree_laws.specs.declared.flight.Reached.TheVariants as reached
@@ -43,7 +39,7 @@ use Rattle.tree_laws.proofs.Replace.{not_both}
 use Rattle.sled_tree.proofs.Replying.{links_law}
 use Rattle.sled_tree.specs.Change.{link_of, decision_at}
 use Rattle.sled_tree.specs.Course.{Course}
-use Rattle.sled_tree.specs.Follows.{FollowsPage, TakesWay, OrRefused, links_by, after_install_left, after_swap_root, read_again, sought_again, follows_as, follows_root, follows_read, follows_post, follows_split}
+use Rattle.sled_tree.specs.Follows.{FollowsPage, TakesWay, OrRefused, links_by, after_install_left, after_swap_root, read_again, sought_again, follows_as, follows_root, follows_post, follows_split}
 use Rattle.sled_tree.specs.Passing.{IsUnchanged}
 use Rattle.sled_tree.specs.Stages.{changes_at}
 use Rattle.sled_tree.specs.declared.flight.Sequel.{Sequel}
@@ -56,7 +52,7 @@ use Rattle.tree_progress.proofs.Capping.{cap_lowers}
 use Rattle.tree_progress.proofs.Changing.{level_low}
 use Rattle.tree_progress.proofs.Counting.{pages_levels}
 use Rattle.tree_progress.proofs.Confirming.{confirm_lowers}
-use Rattle.tree_progress.proofs.Fresh.{IsAbove, IsMergingNow, IsComing, IsFresh, fresh_posting, toward}
+use Rattle.tree_progress.proofs.Fresh.{IsComing, IsFresh, fresh_posting, toward}
 use Rattle.tree_progress.proofs.Hoisting.{swap_lowers}
 use Rattle.tree_progress.proofs.Intending.{intend_lowers}
 use Rattle.tree_progress.proofs.Posting.{post_lowers}
@@ -67,6 +63,10 @@ use Rattle.tree_progress.proofs.Splitting.{install_lowers}
 use Rattle.tree_progress.proofs.Staying.{stray_stays, stray_counts}
 use Rattle.tree_progress.proofs.Stepping.{fresh_out}
 use Rattle.tree_progress.proofs.Sums.{over}
+
+-- a page that stood on a level stands there still, or is merging
+abbrev pub Stays : Nodes → Forest → Forest → Type 0
+Stays nodes w v = (x : Place) (p : ℕ) → In p (w.chain x) → In p (v.chain x) ⊎ ((n : Node) × (nodes p ≡ Some n) × (n.merging ≡ true))
 
 -- the call ends
 abbrev pub is_over : Sequel → Type 0
@@ -128,7 +128,7 @@ below_total {m} {w} is t root e h p i =
     sum : (x y u : ℕ) {v : ℕ} → x ≡ u → y ≡ v → u ≤ v → x ≤ y
     sum x y u a b c = omega arith
 
-module _ (j : Course) (old new : Store) (numbers : Tree → Option ℕ) (given : ℕ → Bool) (w v : Forest) (is : HasForest (snapshot_of old numbers given) w) (is_new : HasForest (snapshot_of new numbers given) v) {mine : List ℕ} (keeps : KeepsNodes mine None (nodes_of (now old)) (nodes_of (now new)) w v)
+module _ (j : Course) (old new : Store) (numbers : Tree → Option ℕ) (given : ℕ → Bool) (w v : Forest) (is : HasForest (snapshot_of old numbers given) w) (is_new : HasForest (snapshot_of new numbers given) v) (stays : Stays (nodes_of (now new)) w v)
     (number : ℕ) (named : numbers j.tree.name ≡ Some number) (on_key : IsOnKey j.call) (aimed : j.aim ≡ Included (key_of j.call)) where
   abbrev t : Tree
   t = j.tree.name
@@ -185,10 +185,9 @@ module _ (j : Course) (old new : Store) (numbers : Tree → Option ℕ) (given :
   posting_elsewhere q o p at posting.Nowhere e off k = tt
 
   -- an index stands where it stood
-  stays_chained : (h p : ℕ) (n : Node) (d : Node) → In p (w.chain (place t h)) → nodes_of (now old) p ≡ Some n → nodes_of (now new) p ≡ Some d → d.merging ≡ false → In p (v.chain (place t h))
-  stays_chained h p n d i was is calm =
-      let b = keeps.stood (place t h) p n (λ e. none_some e) i was in
-      elim b.3 [ inl a ↦ a | inr e ↦ not_both d.merging calm (subst (λ (z : Node). z.merging ≡ true) (some_is (sym b.1 ∙ is)) e) ]
+  stays_chained : (h p : ℕ) (d : Node) → In p (w.chain (place t h)) → nodes_of (now new) p ≡ Some d → d.merging ≡ false → In p (v.chain (place t h))
+  stays_chained h p d i is calm =
+      elim (stays (place t h) p i) [ inl a ↦ a | inr e ↦ not_both d.merging calm (subst (λ (z : Node). z.merging ≡ true) (some_is (sym e.1 ∙ is)) e.2) ]
 
   two : 2 ≤ 2
   two = omega arith
@@ -297,7 +296,7 @@ module _ (j : Course) (old new : Store) (numbers : Tree → Option ℕ) (given :
           let node_is : after_link (ParentMergeIntention a.child) a.parent.node ≡ record (a.parent.node) { merging_child = Some a.child } = ap (λ o. record (a.parent.node) { merging_child = o }) (ap (λ z. after_intention z a.child a.parent.node.merging_child) es.1) in
           let parent : View = record { pid = a.parent.pid; version = d.0; node = record (a.parent.node) { merging_child = Some a.child } } in
           let here : IsUnchanged (now new) parent = ap (λ (s : State). s.pages a.parent.pid) d.1 ∙ put_here (now old).pages a.parent.pid _ ∙ ap (λ z. Some (record { version = d.0; node = z })) node_is in
-          let chained = stays_chained (suc f.height) a.parent.pid a.parent.node parent.node f.above.chained (node_of m.state a.parent f.above.now) (node_of (now new) parent here) k.above.seen.is_open.not_merging in
+          let chained = stays_chained (suc f.height) a.parent.pid parent.node f.above.chained (node_of (now new) parent here) k.above.seen.is_open.not_merging in
           repairs n 1 next _ d.1 (omega arith) (record { here = l.small (f.small u.node u.live); pages = l.pages; others = l.others })
           (subst (λ z. toward m' v j (2 * tree_pages (now new) t + 4) z) (sym d.2)
           (2 * pages_below v t (suc f.height) + 3, fits _ _ _ (below_total is_new t root_new.0 root_new.1 (suc f.height) a.parent.pid chained), record { height = f.height; merging = record { above = record { now = here; chained = chained }; child = refl; before = f.before }; few = same _ }))
@@ -323,7 +322,7 @@ module _ (j : Course) (old new : Store) (numbers : Tree → Option ℕ) (given :
       go y =
           let d = made a.node f.child y in
           let here : IsUnchanged (now new) a.merge.parent = elsewhere (now old) (now new) a.merge.child _ a.merge.parent d.1 off f.merging.above.now in
-          let chained = stays_chained (suc f.height) a.merge.parent.pid a.merge.parent.node a.merge.parent.node f.merging.above.chained (node_of m.state a.merge.parent f.merging.above.now) (node_of (now new) a.merge.parent here) k.merging.merger.not_merging in
+          let chained = stays_chained (suc f.height) a.merge.parent.pid a.merge.parent.node f.merging.above.chained (node_of (now new) a.merge.parent here) k.merging.merger.not_merging in
           let live : nodes_of (now new) a.merge.child ≡ Some (record (a.node) { merging = true }) = ap (λ (s : State). nodes_of s a.merge.child) d.1 ∙ ap (option_map (λ (z : Page). z.node)) (put_here (now old).pages a.merge.child _) in
           repairs n 1 next _ d.1 (omega arith) (cap_lowers m w t number a a.node d.0 is named k f.child)
           (subst (λ z. toward m' v j (2 * tree_pages (now new) t + 4) z) (sym d.2)

@@ -1,10 +1,9 @@
 -- A call that sees pages as they are now reads the child of a merge, or a page before it: it goes on with fewer steps.
-use Rattle.std.proofs.Common.{◌≡◌, ◌≢◌, ℕ, suc, ◌+◌, ◌*◌, ◌≤◌, ◌<◌, Bool, true, false, is_gt, List, [], Option, Some, None, sym, refl, ap, ◌∙◌, subst, inl, inr, ◌⊎◌, arith, Less, Equal, Greater}
+use Rattle.std.proofs.Common.{◌≡◌, ◌≢◌, ℕ, suc, ◌+◌, ◌*◌, ◌≤◌, ◌<◌, true, false, is_gt, List, Option, Some, None, sym, refl, ap, ◌∙◌, subst, inl, inr, ◌⊎◌, arith, Less, Equal, Greater}
 use Rattle.std.specs.Ordering.{ordering_reverse}
 use Rattle.std.specs.declared.cmp.Ordering.{Ordering}
-use Rattle.sled_nodes.proofs.Basics.{none_some, some_is, true_false, key_total}
-use Rattle.sled_nodes.specs.Among.{IsBefore}
-use Rattle.sled_nodes.specs.Node.{pointers, count, Within}
+use Rattle.sled_nodes.proofs.Basics.{some_is, true_false, key_total}
+use Rattle.sled_nodes.specs.Node.{pointers, Within}
 use Rattle.sled_nodes.specs.Order.{Key, key_cmp, Below, UpTo}
 use Rattle.sled_nodes.specs.declared.node.Node.{Node}
 use Rattle.sled_store.specs.In.{In}
@@ -14,22 +13,21 @@ use Rattle.tree_laws.specs.Paths.{pages_below, IsAhead}
 use Rattle.tree_laws.specs.Snapshot.{Snapshot, nodes_at, HasForest, IsOpen}
 use Rattle.tree_laws.specs.declared.flight.Merge.{Merge}
 use Rattle.tree_laws.specs.declared.flight.Seek.{Seek}
-use Rattle.tree_laws.specs.declared.flight.Posting.TheVariants as posting
 use Rattle.tree_laws.specs.declared.flight.Stage.TheVariants as stage
 use Rattle.tree_laws.proofs.Before.{before_child_law}
 use Rattle.tree_laws.proofs.Cover.{holds_at, later_in, pointer_within}
 use Rattle.tree_laws.proofs.Halving.{before_child}
 use Rattle.tree_laws.proofs.Known.{sound_at}
 use Rattle.tree_laws.proofs.Looking.{next_in, next_some, ahead_next, ahead_at, ahead_few}
-use Rattle.tree_laws.proofs.Order.{upto-below, upto-trans, below-trans, below_upto-trans, below_irrefl, below_not_upto}
+use Rattle.tree_laws.proofs.Order.{upto-below, upto-trans, below-trans, below_irrefl}
 use Rattle.tree_laws.proofs.Walks.{rises_at}
 use Rattle.sled_tree.specs.Course.{Course}
 use Rattle.sled_tree.specs.Follows.{searched, ReachesTo, follows_met, follows_search, follows_cursor, follows_cursor_not_merging, follows_child, follows_child_not_merging}
 use Rattle.sled_tree.specs.Passing.{IsUnchanged}
 use Rattle.sled_tree.specs.declared.flight.Sequel.{Sequel}
-use Rattle.sled_tree.specs.declared.flight.Sequel.TheVariants.{Go, Decided, Refused}
+use Rattle.sled_tree.specs.declared.flight.Sequel.TheVariants.{Go}
 use Rattle.tree_progress.proofs.Below.{awake_under}
-use Rattle.tree_progress.proofs.Fresh.{IsAbove, IsAwake, IsMergingNow, IsReadingNow, IsSeekingNow, IsFresh, toward}
+use Rattle.tree_progress.proofs.Fresh.{IsMergingNow, IsReadingNow, IsSeekingNow, toward}
 use Rattle.tree_progress.proofs.Arriving.{node_of, fewer, resumes}
 
 -- of two keys one is up to the other, or stands behind it
@@ -87,17 +85,20 @@ module _ {m : Snapshot} {w : Forest} (is : HasForest m w) (j : Course) where
       let ahead = ahead_at is.formed t h a.before b.1 in (
         2 * ahead.0 + 2,
         less ahead.0 (pages_below w t (suc h)) (ahead_few is.formed t h a.before ahead.0 ahead.1) room,
-        (b.0, record {
-          height = h;
-          merging = k;
-          child = there;
-          here = record { chained = b.1; live = b.2; awake = calm_before h a k d there a.before b.0 b.1 b.2 low below };
-          low = low;
-          before = below;
-          ahead = ahead.0;
-          is_ahead = ahead.1;
-          few = same _;
-        }),
+        (
+          b.0,
+          record {
+            height = h;
+            merging = k;
+            child = there;
+            here = record { chained = b.1; live = b.2; awake = calm_before h a k d there a.before b.0 b.1 b.2 low below };
+            low = low;
+            before = below;
+            ahead = ahead.0;
+            is_ahead = ahead.1;
+            few = same _;
+          },
+        ),
       )
     where
       less : (x y : ℕ) → x ≤ y → 2 * y + 2 < n → 2 * x + 2 < n
@@ -210,17 +211,20 @@ module _ {m : Snapshot} {w : Forest} (is : HasForest m w) (j : Course) where
           subst (λ z. toward m w j n z) (sym (e ∙ ap (searched a) q.1)) (
             2 * x.0 + 2,
             less x.0 x.1,
-            (d.0, record {
-              height = k.height;
-              merging = k.merging;
-              child = k.child;
-              here = record { chained = d.1; live = d.2; awake = calm_before k.height a.merge k.merging a.node k.child q.0 d.0 d.1 d.2 low_next below };
-              low = low_next;
-              before = below;
-              ahead = x.0;
-              is_ahead = x.2;
-              few = same _;
-            }),
+            (
+              d.0,
+              record {
+                height = k.height;
+                merging = k.merging;
+                child = k.child;
+                here = record { chained = d.1; live = d.2; awake = calm_before k.height a.merge k.merging a.node k.child q.0 d.0 d.1 d.2 low_next below };
+                low = low_next;
+                before = below;
+                ahead = x.0;
+                is_ahead = x.2;
+                few = same _;
+              },
+            ),
           )
         where
           less : (x : ℕ) → x < k.ahead → 2 * x + 2 < n
