@@ -16,7 +16,6 @@ use Rattle.tree_laws.specs.declared.flight.Stage.TheVariants as stage
 use Rattle.sled_tree.specs.Course.{Course, course, course_of, IsAimed}
 use Rattle.sled_tree.specs.Follows.{Follows}
 use Rattle.sled_tree.specs.Stages.{Knows}
-use Rattle.sled_tree.specs.theory.Linking.{StepsBy}
 use Rattle.sled_tree.specs.theory.StageAction.{Only, flight_step_as, is_action_refused_as}
 use Rattle.sled_tree.specs.declared.flight.InFlight.{InFlight}
 use Rattle.sled_tree.specs.declared.flight.Sequel.TheVariants.{Go}
@@ -165,9 +164,9 @@ moves numbers given a f k i b g (Moves {b = c} {g = h} {n = l} step_before step)
       follows = step.follows.is;
       formed = x.1.is;
       stays = λ y p i.
-      let page = at.alone.formed.formed.page y p (at.alone.formed.formed.homed y p i) in
-      let o = x.1.goes.keeps.stood y p page.0 (λ e. none_some e) i page.1.live in
-      elim o.3 [ inl u ↦ inl u | inr u ↦ inr (o.0, o.1, u) ];
+          let page = at.alone.formed.formed.page y p (at.alone.formed.formed.homed y p i) in
+          let o = x.1.goes.keeps.stood y p page.0 (λ e. none_some e) i page.1.live in
+          elim o.3 [ inl u ↦ inl u | inr u ↦ inr (o.0, o.1, u) ];
       knows = x.2.0;
     } in
     (subst (λ z. IsAhead numbers given a b z g.stage (suc l)) r.1 (ahead_next numbers given a c b (course_of h) h.stage g.stage l at x.0 on), ap (λ z. course z g.aim) step.advances.is.0 ∙ ap (course h.job) step.advances.is.1 ∙ r.1)

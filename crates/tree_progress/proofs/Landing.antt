@@ -1,7 +1,7 @@
 -- A step of a call that sees pages as they are now: it reads one and goes on with fewer steps, or repairs one, and sees them so again.
-use Rattle.std.proofs.Common.{◌≡◌, ◌≢◌, ℕ, zero, suc, ◌+◌, ◌*◌, ◌≤◌, ◌<◌, Bool, true, false, not, List, [], length, Option, Some, None, Result, Ok, Err, MatchOption, option_map, sym, refl, ap, ◌∙◌, subst, inl, inr, ◌⊎◌, arith}
+use Rattle.std.proofs.Common.{◌≡◌, ◌≢◌, ℕ, zero, suc, ◌+◌, ◌*◌, ◌≤◌, ◌<◌, Bool, true, false, not, [], length, Option, Some, None, Result, Ok, Err, MatchOption, option_map, sym, refl, ap, ◌∙◌, subst, inl, inr, ◌⊎◌, arith}
 use Rattle.std.specs.declared.ops.Bound.TheVariants.{Included}
-use Rattle.sled_nodes.proofs.Basics.{none_some, some_is, true_false, same_or_not}
+use Rattle.sled_nodes.proofs.Basics.{some_is, true_false, same_or_not}
 use Rattle.sled_nodes.specs.Among.{is_up_to}
 use Rattle.sled_nodes.specs.Halves.{right_half, after_receiving}
 use Rattle.sled_nodes.specs.Node.{value_at, after_link, after_intention}

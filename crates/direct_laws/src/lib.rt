@@ -1,0 +1,26 @@
+//! A law: a call on a key that a database makes at once is decided within a number of steps that its pages tell.
+//!
+//! Such a call makes the steps of a call in flight, one after the other, repairs included, and nobody else does a step meanwhile. After
+//! 1,000,000 steps that go on it is refused for its turns. Here it is said of which pages it never is: the steps that go on are fewer than
+//! `alone_steps` of `tree_progress`, a number of the pages alone. Most trees are far from it. Pages that only another program makes, as a
+//! long chain of empty leaves without an index, may come to it, and then the repairs that the refused call made stay: a second try has less
+//! to repair.
+//!
+//! Nothing is done here. The law is concluded from the public contract of the call alone (`DbRunsToEnd` of `sled`).
+#![tactic(auto)]
+
+ghost use Rattle.direct_laws.specs.Turns.{DirectLaw};
+
+use sled_model::MergeOperator;
+use sled_store::Pages;
+
+/// Does nothing. A call on a key that a database makes at once goes on for fewer steps than `alone_steps` tells of the pages as it begins,
+/// whatever was left half done: what is left to repair in its tree and one more, times four more than twice the pages of the tree and what
+/// is left to repair. So where this number is 1,000,000 at most the call is never refused for its turns.
+///
+/// ```
+/// law_direct::<MemPages, Adds>(); // From here on a proof knows it.
+/// ```
+pub fn law_direct<P: Pages, M: MergeOperator>()
+    ensures { DirectLaw P.store M.meant }
+{}
