@@ -2,7 +2,7 @@
 use Rattle.std.proofs.Common.{◌≡◌, ◌≢◌, ℕ, zero, suc, ◌+◌, ◌*◌, ◌<◌, Option, Some, None, sym, refl, ap, ◌∙◌, subst, inl, inr, arith}
 use Rattle.std.proofs.Math.Nat.{suc-mul}
 use Rattle.std.specs.declared.ops.Bound.TheVariants.{Included}
-use Rattle.sled_nodes.proofs.Basics.{some_is, none_some, some_none}
+use Rattle.sled_nodes.proofs.Basics.{some_is, none_some}
 use Rattle.sled_nodes.specs.declared.error.Error.{Error}
 use Rattle.sled_nodes.specs.declared.error.Error.TheVariants as error
 use Rattle.sled_store.specs.Store.{Store, now}
@@ -11,21 +11,20 @@ use Rattle.sled_model.specs.Maps.{Merge}
 use Rattle.sled_model.specs.Refusal.{MustRefuse, ToStep, ToPoint, must_refuse, may_refuse_as, TellsTurns, turns_limit}
 use Rattle.sled_model.specs.State.{State, CallInFlight, IsOnKey, range_of}
 use Rattle.sled_model.specs.declared.call.Call.{Call}
-use Rattle.sled_model.specs.declared.call.Call.TheVariants.{Get, Insert, Remove, CompareAndSwap, Scan}
-use Rattle.sled_model.specs.declared.call.Call.TheVariants as call
 use Rattle.sled_model.specs.declared.tree.Tree.{Tree}
 use Rattle.tree_laws.specs.Forest.{Forest}
 use Rattle.tree_laws.specs.Snapshot.{HasForest, snapshot_of}
-use Rattle.sled_tree.specs.Course.{Course, course_of, first_aim, IsAimed}
+use Rattle.sled_tree.proofs.Known.{aims}
+use Rattle.sled_tree.specs.Course.{Course, course_of, IsAimed}
 use Rattle.sled_tree.specs.Follows.{FollowsOn}
 use Rattle.sled_tree.specs.Stages.{Knows}
 use Rattle.sled_tree.specs.declared.flight.InFlight.{InFlight}
 use Rattle.sled_tree.specs.declared.flight.Job.{Job}
 use Rattle.sled_tree.specs.declared.flight.Went.{Went}
 use Rattle.sled_tree.specs.declared.flight.Went.TheVariants.{Moved, Refused}
-use Rattle.tree_progress.specs.Alone.{alone_steps}
+use Rattle.tree_progress.specs.Alone.{alone_steps, GoesOnAlone}
 use Rattle.tree_progress.specs.ToDo.{to_do}
-use Rattle.tree_progress.proofs.Alone.{IsAhead, LeadsOn, ahead_first, ahead_next, ahead_few}
+use Rattle.tree_progress.proofs.Alone.{IsAhead, ahead_first, ahead_next, ahead_few}
 use Rattle.sled.proofs.Flying.{everywhere, named_now, went_on, turn_taken}
 use Rattle.sled.proofs.Testing.{untold_turns}
 use Rattle.sled.specs.Direct.{begun_flight}
@@ -41,18 +40,6 @@ course_is f on_key aimed = ap (λ z. record { tree = f.job.tree; call = f.job.ca
 same_course : (f g : InFlight) → g.job ≡ f.job → IsOnKey f.job.call → IsAimed (course_of f) → IsAimed (course_of g) → course_of g ≡ course_of f
 same_course f g job on_key one two =
     course_is g (ap (λ (z : Job). range_of z.call) job ∙ on_key) two ∙ ap (λ (z : Job). record { tree = z.tree; call = z.call; aim = Included (key_of z.call) }) job ∙ sym (course_is f on_key one)
-
--- a call on a key aims at it as it begins
-aims_at : (call : Call) → IsOnKey call → first_aim call ≡ Included (key_of call)
-aims_at (Get k) e = refl
-aims_at (Insert k v) e = refl
-aims_at (Remove k) e = refl
-aims_at (CompareAndSwap k old new) e = refl
-aims_at (call.Merge k bytes) e = refl
-aims_at (Scan lo hi back) e = some_none e
-
-aims : (tree : Tree) (call : Call) → IsOnKey call → IsAimed (course_of (begun_flight tree call))
-aims tree call on_key = record { key = λ e. aims_at call e; rises = λ range is back. none_some (sym on_key ∙ is) }
 
 module _ {P M : Type 0} (store : P → Store) (meant : M → Merge) where
   -- the tests let a call pass that goes on
@@ -70,7 +57,8 @@ module _ {P M : Type 0} (store : P → Store) (meant : M → Merge) where
     aimed : IsAimed (course_of f)
     db : IsDb store b
     turns : f.turns ≡ i
-    ahead : IsAhead (numbers_of first.trees) (given_to first.trees_given) (store first.pages) (store b.pages) j f.stage i
+    forest : Forest
+    ahead : IsAhead (numbers_of first.trees) (given_to first.trees_given) (store first.pages) (store b.pages) j f.stage i forest
 
   -- a step more
   goes_once : (first : DbValue P M) (j : Course) (b c : DbValue P M) (f g : InFlight) (i : ℕ) → IsAfter first j b f i → DbStepContract store meant b f Moved c g → IsDb store c → IsAfter first j c g (suc i)
@@ -82,7 +70,7 @@ module _ {P M : Type 0} (store : P → Store) (meant : M → Merge) where
       let course : course_of g ≡ course_of f = same_course f g on.0 k.on_key k.aimed on.1.aimed in
       let moment : snapshot_of_db store c ≡ snapshot_of (store c.pages) (numbers_of first.trees) (given_to first.trees_given) = ap (λ z. snapshot_of (store c.pages) (numbers_of z) (given_to c.trees_given)) trees ∙ ap (λ z. snapshot_of (store c.pages) (numbers_of first.trees) (given_to z)) given in
       let was : snapshot_of_db store b ≡ snapshot_of (store b.pages) (numbers_of first.trees) (given_to first.trees_given) = ap (λ z. snapshot_of (store b.pages) (numbers_of z) (given_to b.trees_given)) k.trees ∙ ap (λ z. snapshot_of (store b.pages) (numbers_of first.trees) (given_to z)) k.given in
-      let w : Forest = k.ahead.forest in
+      let w : Forest = k.forest in
       let v : Forest = db.forest in
       let formed : HasForest (snapshot_of_db store b) w = subst (λ z. HasForest z w) (sym was) k.ahead.alone.formed in
       let stays = flies.loses w v formed db.is in
@@ -95,8 +83,9 @@ module _ {P M : Type 0} (store : P → Store) (meant : M → Merge) where
         aimed = on.1.aimed;
         db = db;
         turns = turn.1 ∙ ap (λ z. z + 1) k.turns ∙ one i;
-        ahead = ahead_next (numbers_of first.trees) (given_to first.trees_given) (store first.pages) (store b.pages) (store c.pages) j f.stage g.stage i k.ahead v
-            (subst (λ z. LeadsOn (numbers_of first.trees) (given_to first.trees_given) (store b.pages) (store c.pages) z f.stage g.stage w v) k.course (record {
+        forest = v;
+        ahead = ahead_next (numbers_of first.trees) (given_to first.trees_given) (store first.pages) (store b.pages) (store c.pages) j f.stage g.stage i w v k.ahead
+            (subst (λ z. GoesOnAlone (numbers_of first.trees) (given_to first.trees_given) z (store b.pages) f.stage w (store c.pages) g.stage v) k.course (record {
               follows = follows.is;
               formed = subst (λ z. HasForest z v) moment db.is;
               stays = λ x p i. stays.is x p (λ e. none_some e) i;
@@ -149,10 +138,11 @@ module _ {P M : Type 0} (store : P → Store) (meant : M → Merge) where
     given = refl;
     course = refl;
     on_key = on_key;
-    aimed = aims tree call on_key;
+    aimed = aims tree call;
     db = db;
     turns = refl;
-    ahead = ahead_first (numbers_of old.trees) (given_to old.trees_given) (store old.pages) (course_of (begun_flight tree call)) db.forest db.is (named_now store meant old db (begun_flight tree call) must) on_key (aims tree call on_key);
+    forest = db.forest;
+    ahead = ahead_first (numbers_of old.trees) (given_to old.trees_given) (store old.pages) (course_of (begun_flight tree call)) db.forest db.is (named_now store meant old db (begun_flight tree call) must) on_key (aims tree call);
   }
 
   all_counts : (old : DbValue P M) (tree : Tree) (call : Call) → IsDb store old → IsOnKey call → (n : ℕ) (c : DbValue P M) (g : InFlight) (went : Went) → DbSteps store meant n old (begun_flight tree call) went c g

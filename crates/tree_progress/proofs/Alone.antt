@@ -1,5 +1,5 @@
 -- A call that is made alone: each step reads on or repairs, and a number falls with each of them.
-use Rattle.std.proofs.Common.{◌≡◌, ◌≢◌, ℕ, suc, ◌+◌, ◌*◌, ◌≤◌, ◌<◌, Bool, Option, Some, sym, refl, ap, ◌∙◌, subst, inl, inr, ◌⊎◌, arith}
+use Rattle.std.proofs.Common.{◌≡◌, ◌≢◌, ℕ, suc, ◌+◌, ◌*◌, ◌≤◌, ◌<◌, Bool, Option, Some, sym, refl, ap, ◌∙◌, subst, inl, inr, ◌⊎◌, arith, le_refl}
 use Rattle.std.proofs.Math.Nat.{suc-mul, mul_comm, mul-le-mul_left}
 use Rattle.sled_nodes.proofs.Basics.{none_some}
 use Rattle.sled_nodes.specs.declared.error.Error.{Error}
@@ -21,12 +21,12 @@ use Rattle.sled_tree.specs.declared.flight.InFlight.{InFlight}
 use Rattle.sled_tree.specs.declared.flight.Sequel.TheVariants.{Go}
 use Rattle.sled_tree.specs.declared.flight.Went.{Went}
 use Rattle.sled_tree.specs.declared.flight.Went.TheVariants as went
-use Rattle.tree_progress.specs.Alone.{MovesAlone, Begins, Moves, alone_steps, Ends, AloneLaw}
+use Rattle.tree_progress.specs.Alone.{GoesOnAlone, MovesAlone, Begins, Moves, alone_steps, AloneLaw}
 use Rattle.tree_progress.specs.Steps.{HasHalves}
 use Rattle.tree_progress.specs.ToDo.{to_do}
 use Rattle.tree_progress.proofs.Fresh.{IsFresh}
 use Rattle.tree_progress.proofs.Halves.{halves_law}
-use Rattle.tree_progress.proofs.Landing.{Stays, lands}
+use Rattle.tree_progress.proofs.Landing.{lands}
 
 -- what holds of a call that is alone, between two of its steps: the pages are well formed, and it sees them as they are
 pub record IsAlone (numbers : Tree → Option ℕ) (given : ℕ → Bool) (s : Store) (j : Course) (a : Stage) (n : ℕ) (w : Forest) : Type 0 where
@@ -37,19 +37,12 @@ pub record IsAlone (numbers : Tree → Option ℕ) (given : ℕ → Bool) (s : S
   pub fresh : IsFresh (snapshot_of s numbers given) w j n a
   pub on_key : IsOnKey j.call
 
--- a step of the call by which it goes on, and the forest after it
-pub record LeadsOn (numbers : Tree → Option ℕ) (given : ℕ → Bool) (old new : Store) (j : Course) (a b : Stage) (w v : Forest) : Type 0 where
-  pub follows : Follows j old a (Go b) new
-  pub formed : HasForest (snapshot_of new numbers given) v
-  pub stays : Stays (nodes_of (now new)) w v
-  pub knows : Knows (snapshot_of new numbers given) v j b
-
 -- fewer steps are ahead, or less is left to repair
 abbrev pub FallsBy : Store → Store → Tree → ℕ → ℕ → Type 0
 FallsBy old new t n ahead = ((to_do (now new) t ≡ to_do (now old) t) × (tree_pages (now new) t ≡ tree_pages (now old) t) × (ahead < n))
     ⊎ ((to_do (now new) t + 1 ≤ to_do (now old) t) × (tree_pages (now new) t ≤ tree_pages (now old) t + 1) × (ahead < 2 * tree_pages (now new) t + 4))
 
-steps_on : (numbers : Tree → Option ℕ) (given : ℕ → Bool) (old new : Store) (j : Course) (a b : Stage) (n : ℕ) (w v : Forest) → IsAlone numbers given old j a n w → LeadsOn numbers given old new j a b w v
+steps_on : (numbers : Tree → Option ℕ) (given : ℕ → Bool) (old new : Store) (j : Course) (a b : Stage) (n : ℕ) (w v : Forest) → IsAlone numbers given old j a n w → GoesOnAlone numbers given j old a w new b v
     → (ahead : ℕ) × IsAlone numbers given new j b ahead v × FallsBy old new j.tree.name n ahead
 steps_on numbers given old new j a b n w v k l =
     let x = lands j old new numbers given w v k.formed l.formed l.stays j.tree.number k.named k.on_key (k.knows.2.key k.on_key) n a (Go b) k.knows.0 k.knows.1 k.halves k.fresh l.follows.is in
@@ -80,37 +73,32 @@ less_left i x n k x' n' total l l' u =
     sum a b g u = omega (arith, l')
 
 -- so many steps were done from the store a on, and so many are ahead at most
-pub record IsAhead (numbers : Tree → Option ℕ) (given : ℕ → Bool) (a b : Store) (j : Course) (stage : Stage) (i : ℕ) : Type 0 where
-  pub forest : Forest
+pub record IsAhead (numbers : Tree → Option ℕ) (given : ℕ → Bool) (a b : Store) (j : Course) (stage : Stage) (i : ℕ) (w : Forest) : Type 0 where
   pub ahead : ℕ
-  pub alone : IsAlone numbers given b j stage ahead forest
+  pub alone : IsAlone numbers given b j stage ahead w
   pub few : tree_pages (now b) j.tree.name + to_do (now b) j.tree.name ≤ tree_pages (now a) j.tree.name + to_do (now a) j.tree.name
   pub falls : i + to_do (now b) j.tree.name * (2 * (tree_pages (now a) j.tree.name + to_do (now a) j.tree.name) + 4) + ahead
       ≤ to_do (now a) j.tree.name * (2 * (tree_pages (now a) j.tree.name + to_do (now a) j.tree.name) + 4) + (2 * tree_pages (now a) j.tree.name + 2)
 
 -- a call on a key that begins
-pub ahead_first : (numbers : Tree → Option ℕ) (given : ℕ → Bool) (s : Store) (j : Course) (w : Forest) → HasForest (snapshot_of s numbers given) w → numbers j.tree.name ≡ Some j.tree.number → IsOnKey j.call → IsAimed j → IsAhead numbers given s s j stage.Root 0
+pub ahead_first : (numbers : Tree → Option ℕ) (given : ℕ → Bool) (s : Store) (j : Course) (w : Forest) → HasForest (snapshot_of s numbers given) w → numbers j.tree.name ≡ Some j.tree.number → IsOnKey j.call → IsAimed j → IsAhead numbers given s s j stage.Root 0 w
 ahead_first numbers given s j w formed named on_key aimed = record {
-  forest = w;
   ahead = 2 * tree_pages (now s) j.tree.name + 2;
-  alone = record { formed = formed; named = named; knows = (tt, tt, aimed); halves = tt; fresh = same _; on_key = on_key };
-  few = same _;
+  alone = record { formed = formed; named = named; knows = (tt, tt, aimed); halves = tt; fresh = le_refl _; on_key = on_key };
+  few = le_refl _;
   falls = none _ _;
 }
   where
-    same : (x : ℕ) → x ≤ x
-    same x = omega arith
-
     none : (x y : ℕ) → 0 + x + y ≤ x + y
     none x y = omega arith
 
 -- .. and one step more
-pub ahead_next : (numbers : Tree → Option ℕ) (given : ℕ → Bool) (a b c : Store) (j : Course) (was is : Stage) (i : ℕ) (r : IsAhead numbers given a b j was i) (v : Forest) → LeadsOn numbers given b c j was is r.forest v → IsAhead numbers given a c j is (suc i)
-ahead_next numbers given a b c j was is i r v l =
-    let x = steps_on numbers given b c j was is r.ahead r.forest v r.alone l in
+pub ahead_next : (numbers : Tree → Option ℕ) (given : ℕ → Bool) (a b c : Store) (j : Course) (was is : Stage) (i : ℕ) (w v : Forest) → IsAhead numbers given a b j was i w → GoesOnAlone numbers given j b was w c is v → IsAhead numbers given a c j is (suc i) v
+ahead_next numbers given a b c j was is i w v r l =
+    let x = steps_on numbers given b c j was is r.ahead w v r.alone l in
     elim x.2 [
-      | inl z ↦ record { forest = v; ahead = x.0; alone = x.1; few = kept z.0 z.1 r.few; falls = fewer_ahead i (left b) r.ahead (2 * most + 4) (left c) x.0 _ z.0 z.2 r.falls }
-      | inr z ↦ record { forest = v; ahead = x.0; alone = x.1; few = one_more z.0 z.1 r.few; falls = less_left i (left b) r.ahead (2 * most + 4) (left c) x.0 _ z.0 (within x.0 (one_more z.0 z.1 r.few) z.2) r.falls }
+      | inl z ↦ record { ahead = x.0; alone = x.1; few = kept z.0 z.1 r.few; falls = fewer_ahead i (left b) r.ahead (2 * most + 4) (left c) x.0 _ z.0 z.2 r.falls }
+      | inr z ↦ record { ahead = x.0; alone = x.1; few = one_more z.0 z.1 r.few; falls = less_left i (left b) r.ahead (2 * most + 4) (left c) x.0 _ z.0 (within x.0 (one_more z.0 z.1 r.few) z.2) r.falls }
     ]
   where
     left : Store → ℕ
@@ -141,7 +129,7 @@ ahead_next numbers given a b c j was is i r v l =
         sum q p x t l u = omega arith
 
 -- so fewer steps were done than this
-pub ahead_few : {numbers : Tree → Option ℕ} {given : ℕ → Bool} {a b : Store} {j : Course} {stage : Stage} {i : ℕ} → IsAhead numbers given a b j stage i → i < alone_steps (now a) j.tree.name
+pub ahead_few : {numbers : Tree → Option ℕ} {given : ℕ → Bool} {a b : Store} {j : Course} {stage : Stage} {i : ℕ} {w : Forest} → IsAhead numbers given a b j stage i w → i < alone_steps (now a) j.tree.name
 ahead_few {a = a} {b = b} {j = j} {i = i} r = sum (to_do (now a) j.tree.name) (tree_pages (now a) j.tree.name) _ r.ahead r.falls
   where
     sum : (x p y ahead : ℕ) → i + y + ahead ≤ x * (2 * (p + x) + 4) + (2 * p + 2) → i < (x + 1) * (2 * (p + x) + 4)
@@ -153,41 +141,10 @@ ahead_few {a = a} {b = b} {j = j} {i = i} r = sum (to_do (now a) j.tree.name) (t
         all : (a b : ℕ) → b ≡ a + (2 * (p + x) + 4) → i + y + ahead ≤ a + (2 * p + 2) → i < b
         all a b e l = omega arith
 
--- steps of a call in flight that is alone
-moves : (numbers : Tree → Option ℕ) (given : ℕ → Bool) (a : Store) (f : InFlight) → IsAhead numbers given a a (course_of f) f.stage 0 → (i : ℕ) (b : Store) (g : InFlight) → MovesAlone a f i b g → IsAhead numbers given a b (course_of f) g.stage i × (course_of g ≡ course_of f)
-moves numbers given a f k i b g Begins = (k, refl)
-moves numbers given a f k i b g (Moves {b = c} {g = h} {n = l} step_before step) =
-    let r = moves numbers given a f k l c h step_before in
-    let at = subst (λ z. IsAhead numbers given a c z h.stage l) (sym r.1) r.0 in
-    let x = step.advances.is.3.is numbers given at.forest at.alone.formed at.alone.named at.alone.knows in
-    let on : LeadsOn numbers given c b (course_of h) h.stage g.stage at.forest x.0 = record {
-      follows = step.follows.is;
-      formed = x.1.is;
-      stays = λ y p i.
-          let page = at.alone.formed.formed.page y p (at.alone.formed.formed.homed y p i) in
-          let o = x.1.goes.keeps.stood y p page.0 (λ e. none_some e) i page.1.live in
-          elim o.3 [ inl u ↦ inl u | inr u ↦ inr (o.0, o.1, u) ];
-      knows = x.2.0;
-    } in
-    (subst (λ z. IsAhead numbers given a b z g.stage (suc l)) r.1 (ahead_next numbers given a c b (course_of h) h.stage g.stage l at x.0 on), ap (λ z. course z g.aim) step.advances.is.0 ∙ ap (course h.job) step.advances.is.1 ∙ r.1)
-
--- by whatever a step ends a call, it is decided, or refused for memory or for a fault
-ends_by : (by : Option Operator → Type 0) (a b : Store) (g h : InFlight) (out : Went) → flight_step_as by a g out b h → out ≢ went.Moved → Ends out
-ends_by by a b g h went.Moved k off = absurd (off refl)
-ends_by by a b g h (went.Yielded key value) k off = absurd k
-ends_by by a b g h (went.Decided reply) k off = tt
-ends_by by a b g h (went.Refused e) k off = go e k.touches
-  where
-    go : (e : Error) → is_action_refused_as e a b → Ends (went.Refused e)
-    go NoMemory r = tt
-    go (Io fault) r = tt
-    go other r = absurd r
+-- steps of a call that is alone
+moves : (numbers : Tree → Option ℕ) (given : ℕ → Bool) (j : Course) (s : Store) (w : Forest) → IsAhead numbers given s s j stage.Root 0 w → (i : ℕ) (b : Store) (a : Stage) (v : Forest) → MovesAlone numbers given j s w i b a v → IsAhead numbers given s b j a i v
+moves numbers given j s w k i b a v Begins = k
+moves numbers given j s w k i c e v (Moves {n = n} {b = b} {a = a} {u = u} before step) = ahead_next numbers given s b c j a e n u v (moves numbers given j s w k n b a u before) step
 
 pub alone_law : AloneLaw
-alone_law s f k = record {
-  few = λ i new g m. ahead_few (moves k.numbers k.given s f start i new g m).0;
-  ends = λ i a b g h operator out m step off. ends_by (Only operator) a b g h out step.advances.is off;
-}
-  where
-    start : IsAhead k.numbers k.given s s (course_of f) f.stage 0
-    start = subst (λ z. IsAhead k.numbers k.given s s (course_of f) z 0) (sym k.begins) (ahead_first k.numbers k.given s (course_of f) k.forest k.formed k.named k.on_key k.aimed)
+alone_law numbers given j s w formed named on_key aimed i new a v m = ahead_few (moves numbers given j s w (ahead_first numbers given s j w formed named on_key aimed) i new a v m)

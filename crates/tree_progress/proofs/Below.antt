@@ -90,7 +90,10 @@ module _ {nodes : Nodes} {roots : Tree → Option ℕ} {w : Forest} (f : WellFor
       let key : k.0 ≡ d.lo = sym a.key ∙ ap (λ (z : Node). z.lo) (some_is (sym a.live ∙ there)) in
       let same : p ≡ up.0 = one_cover f (place t (suc h)) p up.0 n up.1 d.lo i up.2 live up.3 within
       (subst (λ z. Within up.1.lo up.1.hi z) key (pointer_within h up.1.lo up.1.hi up.1.content (holds_at f (place t (suc h)) up.0 up.1 up.2 up.3) k.0 q (later_in up.1.content k.0 q k.1))) in
-      subst (λ (z : Node). z.merging_child ≡ Some q) (some_is (sym up.3 ∙ ap nodes (sym same) ∙ live)) up.4
+      one up.0 up.1 same up.3 up.4
+    where
+      one : (r : ℕ) (m : Node) → p ≡ r → nodes r ≡ Some m → m.merging_child ≡ Some q → n.merging_child ≡ Some q
+      one r m e is child = subst (λ (z : Node). z.merging_child ≡ Some q) (some_is (sym is ∙ ap nodes (sym e) ∙ live)) child
 
   -- so under an open one none merges
   pub awake_under : (t : Tree) (h p q : ℕ) (n d : Node) → In p (w.chain (place t (suc h))) → nodes p ≡ Some n → n.merging_child ≢ Some q → In q (w.chain (place t h)) → nodes q ≡ Some d → Within n.lo n.hi d.lo → d.merging ≡ false

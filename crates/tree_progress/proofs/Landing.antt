@@ -1,5 +1,5 @@
 -- A step of a call that sees pages as they are now: it reads one and goes on with fewer steps, or repairs one, and sees them so again.
-use Rattle.std.proofs.Common.{◌≡◌, ◌≢◌, ℕ, zero, suc, ◌+◌, ◌*◌, ◌≤◌, ◌<◌, Bool, true, false, not, [], length, Option, Some, None, Result, Ok, Err, MatchOption, option_map, sym, refl, ap, ◌∙◌, subst, inl, inr, ◌⊎◌, arith}
+use Rattle.std.proofs.Common.{◌≡◌, ◌≢◌, ℕ, zero, suc, ◌+◌, ◌*◌, ◌≤◌, ◌<◌, Bool, true, false, not, [], length, Option, Some, None, Result, Ok, Err, MatchOption, option_map, sym, refl, ap, ◌∙◌, subst, inl, inr, ◌⊎◌, arith, le_refl}
 use Rattle.std.specs.declared.ops.Bound.TheVariants.{Included}
 use Rattle.sled_nodes.proofs.Basics.{some_is, true_false, same_or_not}
 use Rattle.sled_nodes.specs.Among.{is_up_to}
@@ -11,7 +11,7 @@ use Rattle.sled_nodes.specs.declared.link.Link.{Link}
 use Rattle.sled_nodes.specs.declared.link.Link.TheVariants.{Set, Del, ParentMergeIntention, ParentMergeConfirm, ChildMergeCap}
 use Rattle.sled_nodes.specs.declared.node.Node.{Node}
 use Rattle.sled_store.specs.In.{In}
-use Rattle.sled_store.specs.State.{State, Nodes, nodes_of, PageBecomes, RootBecomes, after}
+use Rattle.sled_store.specs.State.{State, nodes_of, PageBecomes, RootBecomes, after}
 use Rattle.sled_store.specs.Store.{Store, now, view_of, swaps_as, frees_as}
 use Rattle.sled_store.specs.theory.Facts.{now_acted, now_acts, now_allocates, put_here, put_elsewhere}
 use Rattle.sled_store.specs.declared.page.Page.{Page}
@@ -44,6 +44,7 @@ use Rattle.sled_tree.specs.Passing.{IsUnchanged}
 use Rattle.sled_tree.specs.Stages.{changes_at}
 use Rattle.sled_tree.specs.declared.flight.Sequel.{Sequel}
 use Rattle.sled_tree.specs.declared.flight.Sequel.TheVariants.{Go, Decided, Refused}
+use Rattle.tree_progress.specs.Alone.{StayInTree}
 use Rattle.tree_progress.specs.Laws.{Lowers}
 use Rattle.tree_progress.specs.Steps.{HasHalves}
 use Rattle.tree_progress.specs.ToDo.{to_do}
@@ -63,10 +64,6 @@ use Rattle.tree_progress.proofs.Splitting.{install_lowers}
 use Rattle.tree_progress.proofs.Staying.{stray_stays, stray_counts}
 use Rattle.tree_progress.proofs.Stepping.{fresh_out}
 use Rattle.tree_progress.proofs.Sums.{over}
-
--- a page that stood on a level stands there still, or is merging
-abbrev pub Stays : Nodes → Forest → Forest → Type 0
-Stays nodes w v = (x : Place) (p : ℕ) → In p (w.chain x) → In p (v.chain x) ⊎ ((n : Node) × (nodes p ≡ Some n) × (n.merging ≡ true))
 
 -- the call ends
 abbrev pub is_over : Sequel → Type 0
@@ -99,13 +96,10 @@ read_page {s} {pid} {found} {next} g here k = elim k.is [
 elsewhere : (s new : State) (q : ℕ) (o : Option Page) (look : View) → new ≡ after (PageBecomes q o) s → look.pid ≢ q → IsUnchanged s look → IsUnchanged new look
 elsewhere s new q o look e off k = ap (λ (z : State). z.pages look.pid) e ∙ put_elsewhere s.pages q look.pid o off ∙ k
 
-same : (x : ℕ) → x ≤ x
-same x = omega arith
-
 over_rises : (f : ℕ → ℕ) (h n : ℕ) → h ≤ n → over f h ≤ over f n
-over_rises f h zero l = let e : h ≡ 0 = omega arith in subst (λ z. over f z ≤ 0) (sym e) (same 0)
+over_rises f h zero l = let e : h ≡ 0 = omega arith in subst (λ z. over f z ≤ 0) (sym e) (le_refl 0)
 over_rises f h (suc n) l = elim (same_or_not h (suc n)) [
-  | inl e ↦ subst (λ z. over f z ≤ over f (suc n)) (sym e) (same (over f (suc n)))
+  | inl e ↦ subst (λ z. over f z ≤ over f (suc n)) (sym e) (le_refl (over f (suc n)))
   | inr off ↦ more (over f h) (over f n) (f n) (over_rises f h n (omega arith))
 ]
   where
@@ -128,7 +122,7 @@ below_total {m} {w} is t root e h p i =
     sum : (x y u : ℕ) {v : ℕ} → x ≡ u → y ≡ v → u ≤ v → x ≤ y
     sum x y u a b c = omega arith
 
-module _ (j : Course) (old new : Store) (numbers : Tree → Option ℕ) (given : ℕ → Bool) (w v : Forest) (is : HasForest (snapshot_of old numbers given) w) (is_new : HasForest (snapshot_of new numbers given) v) (stays : Stays (nodes_of (now new)) w v)
+module _ (j : Course) (old new : Store) (numbers : Tree → Option ℕ) (given : ℕ → Bool) (w v : Forest) (is : HasForest (snapshot_of old numbers given) w) (is_new : HasForest (snapshot_of new numbers given) v) (stays : StayInTree (nodes_of (now new)) w v)
     (number : ℕ) (named : numbers j.tree.name ≡ Some number) (on_key : IsOnKey j.call) (aimed : j.aim ≡ Included (key_of j.call)) where
   abbrev t : Tree
   t = j.tree.name
@@ -256,21 +250,21 @@ module _ (j : Course) (old new : Store) (numbers : Tree → Option ℕ) (given :
           on : (given : ℕ) → now new ≡ after (PageBecomes a.page.pid (Some (record { version = given; node = a.left }))) (now old) → (posts : Posting) → fresh_posting (now old) t a.page.pid a.at posts → toward m' v j (2 * tree_pages (now new) t + 4) (after_install_left a posts)
           on given e (posting.Parent parent) p = (1, (under _).2, (elsewhere (now old) (now new) a.page.pid _ parent e p.1 p.0, p.2))
           on given e posting.Root p = (2, (under _).3, (two, ap (λ (s : State). s.roots t) e ∙ p))
-          on given e posting.Nowhere p = (2 * tree_pages (now new) t + 2, (under _).0, same _)
+          on given e posting.Nowhere p = (2 * tree_pages (now new) t + 2, (under _).0, le_refl _)
   lands n (stage.Post a) next k c h f x = or_refused n next go x
     where
       go : follows_post old new a next → goes m m' v j n next
       go (inr y) = absurd (y.0 f.1)
       go (inl y) =
           let d = made a.parent.node f.0 y.1 in
-          repairs n 3 next _ d.1 (omega arith) (post_lowers m w t number a a.parent.node d.0 is named k f.0 y.0) (subst (λ z. toward m' v j (2 * tree_pages (now new) t + 4) z) (sym d.2) (2 * tree_pages (now new) t + 2, (under _).0, same _))
+          repairs n 3 next _ d.1 (omega arith) (post_lowers m w t number a a.parent.node d.0 is named k f.0 y.0) (subst (λ z. toward m' v j (2 * tree_pages (now new) t + 4) z) (sym d.2) (2 * tree_pages (now new) t + 2, (under _).0, le_refl _))
   lands n (stage.Hoist a) next k c h f x = or_refused n next (λ y. passes n y.root _ next (now_allocates y.node y.root y.version old new y.made) (fresh_out is y.root y.made.fresh_pid)
       (subst (λ z. toward m' v j n z) (sym y.is) (1, f.0, ap (λ (s : State). s.roots t) (now_allocates y.node y.root y.version old new y.made) ∙ f.1))) x
   lands n (stage.SwapRoot a) next k c h f x = or_refused n next (λ y. go y.answer y.swaps.is y.is) x
     where
       go : (answer : Result (Unit {0}) (Option ℕ)) → swaps_as t (Some a.old) (Some a.new) old new answer → next ≡ after_swap_root a answer → goes m m' v j n next
       go (Err present) y e = absurd (y.2 (y.1 ∙ f))
-      go (Ok done) y e = repairs n 4 next _ (ap now y.1 ∙ now_acted (RootBecomes t (Some a.new)) old) (omega arith) (swap_lowers m w t number a is named f k) (subst (λ z. toward m' v j (2 * tree_pages (now new) t + 4) z) (sym e) (2 * tree_pages (now new) t + 2, (under _).0, same _))
+      go (Ok done) y e = repairs n 4 next _ (ap now y.1 ∙ now_acted (RootBecomes t (Some a.new)) old) (omega arith) (swap_lowers m w t number a is named f k) (subst (λ z. toward m' v j (2 * tree_pages (now new) t + 4) z) (sym e) (2 * tree_pages (now new) t + 2, (under _).0, le_refl _))
   lands n (stage.Free a) next k c h f x = or_refused n next (λ y. go y.answer y.frees.is y.is) x
     where
       out : (z : Place) → ¬ (In a.pid (w.chain z))
@@ -280,10 +274,10 @@ module _ (j : Course) (old new : Store) (numbers : Tree → Option ℕ) (given :
       less x y e l = omega arith
 
       go : (answer : Result (Unit {0}) (Option ℕ)) → frees_as a.pid a.version old new answer → next ≡ Go stage.Root → goes m m' v j n next
-      go (Err present) y e = read n next y.0 (subst (λ z. toward m w j n z) (sym e) (2 * tree_pages (now old) t + 2, less _ _ refl f, same _))
+      go (Err present) y e = read n next y.0 (subst (λ z. toward m w j n z) (sym e) (2 * tree_pages (now old) t + 2, less _ _ refl f, le_refl _))
       go (Ok done) y e =
           let s = ap now y.1 ∙ now_acted (PageBecomes a.pid None) old in
-          passes n a.pid None next s out (subst (λ z. toward m' v j n z) (sym e) (2 * tree_pages (now new) t + 2, less _ _ (ap (λ z. tree_pages z t) s ∙ stray_counts (now old) w is.formed is.below a.pid None out t root.0 root.1) f, same _))
+          passes n a.pid None next s out (subst (λ z. toward m' v j n z) (sym e) (2 * tree_pages (now new) t + 2, less _ _ (ap (λ z. tree_pages z t) s ∙ stray_counts (now old) w is.formed is.below a.pid None out t root.0 root.1) f, le_refl _))
   lands n (stage.Intend a) next k c h f x = or_refused n next go x
     where
       go : TakesWay (after_link (ParentMergeIntention a.child)) a.parent.pid a.parent.version old new next
@@ -299,7 +293,7 @@ module _ (j : Course) (old new : Store) (numbers : Tree → Option ℕ) (given :
           let chained = stays_chained (suc f.height) a.parent.pid parent.node f.above.chained (node_of (now new) parent here) k.above.seen.is_open.not_merging in
           repairs n 1 next _ d.1 (omega arith) (record { here = l.small (f.small u.node u.live); pages = l.pages; others = l.others })
           (subst (λ z. toward m' v j (2 * tree_pages (now new) t + 4) z) (sym d.2)
-          (2 * pages_below v t (suc f.height) + 3, fits _ _ _ (below_total is_new t root_new.0 root_new.1 (suc f.height) a.parent.pid chained), record { height = f.height; merging = record { above = record { now = here; chained = chained }; child = refl; before = f.before }; few = same _ }))
+          (2 * pages_below v t (suc f.height) + 3, fits _ _ _ (below_total is_new t root_new.0 root_new.1 (suc f.height) a.parent.pid chained), record { height = f.height; merging = record { above = record { now = here; chained = chained }; child = refl; before = f.before }; few = le_refl _ }))
         where
           fits : (x l y : ℕ) → l + x ≤ y → 2 * x + 3 < 2 * y + 4
           fits x l y u = omega arith
@@ -347,4 +341,4 @@ module _ (j : Course) (old new : Store) (numbers : Tree → Option ℕ) (given :
       go y =
           let d = made a.parent.node f y in
           repairs n 1 next _ d.1 (omega arith) (confirm_lowers m w t number a a.parent.node d.0 is named k f)
-          (subst (λ z. toward m' v j (2 * tree_pages (now new) t + 4) z) (sym d.2) (2 * tree_pages (now new) t + 3, (under _).1, same _))
+          (subst (λ z. toward m' v j (2 * tree_pages (now new) t + 4) z) (sym d.2) (2 * tree_pages (now new) t + 3, (under _).1, le_refl _))

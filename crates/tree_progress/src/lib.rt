@@ -127,9 +127,9 @@ pub fn law_halves()
     ensures { HalvesLaw }
 {}
 
-/// Does nothing. A call on a key that is made alone, on any well-formed pages, half-done splits and merges included, is decided, or refused
-/// for want of memory or for a fault, within a number of steps (`alone_steps`) that is computed from the pages: what is left to repair in its
-/// tree and one more, times four more than twice the pages of the tree and what is left to repair.
+/// Does nothing. Of a call on a key that begins on well-formed pages, half-done splits and merges included, and of no other, fewer steps in a
+/// row go on than the pages tell (`alone_steps`): what is left to repair in its tree and one more, times four more than twice the pages of the
+/// tree and what is left to repair. So, alone, it is decided or refused within that many steps.
 ///
 /// ```
 /// law_alone(); // From here on a proof knows it.
