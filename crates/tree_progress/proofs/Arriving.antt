@@ -70,96 +70,12 @@ module _ {m : Snapshot} {w : Forest} (is : HasForest m w) (j : Course) where
           same : (x : ℕ) → x ≤ x
           same x = omega arith
 
-  module _ (on_key : IsOnKey j.call) (n : ℕ) (look : View) (by : Reached) (now : IsUnchanged m.state look) (p : IsComing m w t j.aim n look.pid look.node by) where
+  module _ (on_key : IsOnKey j.call) (n : ℕ) (look : View) (now : IsUnchanged m.state look) where
     abbrev node : Node
     node = look.node
 
     live : nodes_at m look.pid ≡ Some node
     live = node_of m.state look now
-
-    enough : 4 ≤ n
-    enough = sum _ _ (fewer p.height look.pid p.ahead p.is_ahead) p.few
-      where
-        sum : (b a : ℕ) → suc b ≤ a → 2 * a + 2 ≤ n → 4 ≤ n
-        sum b a u v = omega arith
-
-    two : 2 < n
-    two = omega (arith, enough)
-
-    one : 1 < n
-    one = omega (arith, enough)
-
-    none : 0 < n
-    none = omega (arith, enough)
-
-    -- the next page
-    along : (parent : View) → IsOverNow m w t p.height j.aim parent node.lo → (q : ℕ) → node.next ≡ Some q → is_up_to j.aim node.hi ≡ true → toward m w j n (onward look (Some q) (Some parent))
-    along parent u q next up =
-        let d = next_in is.formed (place t p.height) look.pid q node p.here.chained live next in
-        let rise : Below node.lo node.hi = rises_at is.formed (place t p.height) look.pid q node p.here.chained live next in
-        let rises : Below node.lo d.0.lo = subst (λ z. Below node.lo z) (sym d.3) rise in
-        let up_next : is_up_to j.aim d.0.lo ≡ true = ap (is_up_to j.aim) d.3 ∙ up in
-        let low : UpTo parent.node.lo d.0.lo = upto-trans parent.node.lo node.lo d.0.lo u.low (upto-below node.lo d.0.lo rises) in
-        let within : Within parent.node.lo parent.node.hi d.0.lo = (low, elim u.under.1 [ inl e ↦ inl e | inr off ↦ inr (within_below j.aim d.0.lo parent.node.hi up_next off) ]) in
-        let a = ahead_next is.formed t p.height look.pid q p.ahead node p.is_ahead live next in (
-          2 * a.0 + 2,
-          less a.0 a.1,
-          (
-            d.0,
-            record {
-              height = p.height;
-              here = record { chained = d.1; live = d.2; awake = awake_under is.formed t p.height parent.pid q parent.node d.0 u.above.chained (node_of m.state parent u.above.now) (λ e. none_some (sym u.is_open.free ∙ e)) d.1 d.2 within };
-              begins = up_next;
-              is_reached = (record { above = u.above; is_open = u.is_open; under = u.under; low = low; last = λ k c i e. upto-below k d.0.lo (upto_below-trans k node.lo d.0.lo (u.last k c i e) rises) }, λ k c i e. upto_below-trans k node.lo d.0.lo (u.last k c i e) rises);
-              ahead = a.0;
-              is_ahead = a.2;
-              few = same _;
-            },
-          ),
-        )
-      where
-        less : (k : ℕ) → k < p.ahead → 2 * k + 2 < n
-        less k l = sum k p.ahead l p.few
-          where
-            sum : (k a : ℕ) → k < a → 2 * a + 2 ≤ n → 2 * k + 2 < n
-            sum k a l u = omega arith
-
-        same : (x : ℕ) → x ≤ x
-        same x = omega arith
-
-    goes_on : (by : Reached) → fresh_reached m w t p.height j.aim by node.lo look.pid → (q : ℕ) → node.next ≡ Some q → is_up_to j.aim node.hi ≡ true → toward m w j n (onward look (Some q) (parent_of by))
-    goes_on reached.Root r q e up = (2, two, (twos, r))
-      where
-        twos : 2 ≤ 2
-        twos = omega arith
-    goes_on (reached.FirstPointer parent) r q e up = along parent r q e up
-    goes_on (reached.LaterPointer parent) r q e up = along parent r.0 q e up
-    goes_on (reached.Next parent) r q e up = along parent r.0 q e up
-
-    -- a long page
-    at_half : 16 < count node.content → IsOpen node → Below node.lo (right_half node).lo × Within node.lo node.hi (right_half node).lo
-    at_half long calm =
-        let s = (halved_law node 0 (more _ long)).split p.height (sound_at is.formed (place t p.height) look.pid node p.here.chained live) calm in
-        (s.apart, s.within)
-      where
-        more : (x : ℕ) → 16 < x → 2 ≤ x
-        more x l = omega arith
-
-    room : (parent : View) → IsOverNow m w t p.height j.aim parent node.lo → 16 < count node.content → IsOpen node → fresh_posting m.state t look.pid (right_half node).lo (posting.Parent parent)
-    room parent u long calm = (
-      u.above.now,
-      λ e. next_up p.height (ap (λ (z : Place). z.height) (some_is (sym (is.formed.homed (place t (suc p.height)) parent.pid u.above.chained) ∙ ap w.home e ∙ is.formed.homed (place t p.height) look.pid p.here.chained))),
-      takes_within is.formed t p.height parent.pid look.pid parent.node node (right_half node).lo u.above.chained (node_of m.state parent u.above.now) u.is_open.free p.here.chained live (at_half long calm).0 (at_half long calm).1,
-    )
-      where
-        next_up : (h : ℕ) → suc h ≡ h → ⊥
-        next_up h e = omega arith
-
-    posted : (by : Reached) → fresh_reached m w t p.height j.aim by node.lo look.pid → 16 < count node.content → IsOpen node → fresh_posting m.state t look.pid (right_half node).lo (posting_of (parent_of by))
-    posted reached.Root r long calm = r
-    posted (reached.FirstPointer parent) r long calm = room parent r long calm
-    posted (reached.LaterPointer parent) r long calm = room parent r.0 long calm
-    posted (reached.Next parent) r long calm = room parent r.0 long calm
 
     -- down from an index
     lower : (h ahead : ℕ) → In look.pid (chain h) → IsAhead w t h look.pid ahead → 2 * ahead + 2 ≤ n → IsOpen node → LiesUnder j.aim node → (es : List (Key × ℕ)) → node.content ≡ Index es → (o : Option (ℕ × Bool)) → IsPointerFor j.aim es o → toward m w j n (down look o)
@@ -213,39 +129,133 @@ module _ {m : Snapshot} {w : Forest} (is : HasForest m w) (j : Course) where
             same : (x : ℕ) → x ≤ x
             same x = omega arith
 
-    content : IsOpen node → LiesUnder j.aim node → (next : Sequel) → (d : Data) → node.content ≡ d → follows_content d j look next → toward m w j n next
-    content calm under next (Index es) e k = subst (λ z. toward m w j n z) (sym k.is) (lower p.height p.ahead p.here.chained p.is_ahead p.few calm under es e k.found (subst (λ d. IsPointerFor j.aim (pointers d) k.found) e k.is_last))
-    content calm under next (Leaf es) e k = elim (subst (λ o. follows_leaf_as o j look next) on_key k) [
+    -- what is to be done at a page that nothing is to be repaired at
+    pub content : (h ahead : ℕ) → In look.pid (chain h) → IsAhead w t h look.pid ahead → 2 * ahead + 2 ≤ n → IsOpen node → LiesUnder j.aim node → (next : Sequel) → (d : Data) → node.content ≡ d → follows_content d j look next → toward m w j n next
+    content h ahead i a few calm under next (Index es) e k = subst (λ z. toward m w j n z) (sym k.is) (lower h ahead i a few calm under es e k.found (subst (λ d. IsPointerFor j.aim (pointers d) k.found) e k.is_last))
+    content h ahead i a few calm under next (Leaf es) e k = elim (subst (λ o. follows_leaf_as o j look next) on_key k) [
       | inl g ↦ subst (λ z. toward m w j n z) (sym g) (done (reply_at j.call node.content))
       | inr g ↦ subst (λ z. toward m w j n z) (sym g) tt
     ]
       where
+        some : 0 < n
+        some = omega (arith, few)
+
         done : (o : Option Reply) → toward m w j n (done_at look o)
-        done None = (0, none, now)
+        done None = (0, some, now)
         done (Some reply) = tt
+  module _ (on_key : IsOnKey j.call) (n : ℕ) (look : View) (by : Reached) (now : IsUnchanged m.state look) (p : IsComing m w t j.aim n look.pid look.node by) where
+    abbrev page : Node
+    page = look.node
+
+    there : nodes_at m look.pid ≡ Some page
+    there = node_of m.state look now
+
+    enough : 4 ≤ n
+    enough = sum _ _ (fewer p.height look.pid p.ahead p.is_ahead) p.few
+      where
+        sum : (b a : ℕ) → suc b ≤ a → 2 * a + 2 ≤ n → 4 ≤ n
+        sum b a u v = omega arith
+
+    two : 2 < n
+    two = omega (arith, enough)
+
+    one : 1 < n
+    one = omega (arith, enough)
+
+    -- the next page
+    along : (parent : View) → IsOverNow m w t p.height j.aim parent page.lo → (q : ℕ) → page.next ≡ Some q → is_up_to j.aim page.hi ≡ true → toward m w j n (onward look (Some q) (Some parent))
+    along parent u q next up =
+        let d = next_in is.formed (place t p.height) look.pid q page p.here.chained there next in
+        let rise : Below page.lo page.hi = rises_at is.formed (place t p.height) look.pid q page p.here.chained there next in
+        let rises : Below page.lo d.0.lo = subst (λ z. Below page.lo z) (sym d.3) rise in
+        let up_next : is_up_to j.aim d.0.lo ≡ true = ap (is_up_to j.aim) d.3 ∙ up in
+        let low : UpTo parent.node.lo d.0.lo = upto-trans parent.node.lo page.lo d.0.lo u.low (upto-below page.lo d.0.lo rises) in
+        let within : Within parent.node.lo parent.node.hi d.0.lo = (low, elim u.under.1 [ inl e ↦ inl e | inr off ↦ inr (within_below j.aim d.0.lo parent.node.hi up_next off) ]) in
+        let a = ahead_next is.formed t p.height look.pid q p.ahead page p.is_ahead there next in (
+          2 * a.0 + 2,
+          less a.0 a.1,
+          (
+            d.0,
+            record {
+              height = p.height;
+              here = record { chained = d.1; live = d.2; awake = awake_under is.formed t p.height parent.pid q parent.node d.0 u.above.chained (node_of m.state parent u.above.now) (λ e. none_some (sym u.is_open.free ∙ e)) d.1 d.2 within };
+              begins = up_next;
+              is_reached = (record { above = u.above; is_open = u.is_open; under = u.under; low = low; last = λ k c i e. upto-below k d.0.lo (upto_below-trans k page.lo d.0.lo (u.last k c i e) rises) }, λ k c i e. upto_below-trans k page.lo d.0.lo (u.last k c i e) rises);
+              ahead = a.0;
+              is_ahead = a.2;
+              few = same _;
+            },
+          ),
+        )
+      where
+        less : (k : ℕ) → k < p.ahead → 2 * k + 2 < n
+        less k l = sum k p.ahead l p.few
+          where
+            sum : (k a : ℕ) → k < a → 2 * a + 2 ≤ n → 2 * k + 2 < n
+            sum k a l u = omega arith
+
+        same : (x : ℕ) → x ≤ x
+        same x = omega arith
+
+    goes_on : (by : Reached) → fresh_reached m w t p.height j.aim by page.lo look.pid → (q : ℕ) → page.next ≡ Some q → is_up_to j.aim page.hi ≡ true → toward m w j n (onward look (Some q) (parent_of by))
+    goes_on reached.Root r q e up = (2, two, (twos, r))
+      where
+        twos : 2 ≤ 2
+        twos = omega arith
+    goes_on (reached.FirstPointer parent) r q e up = along parent r q e up
+    goes_on (reached.LaterPointer parent) r q e up = along parent r.0 q e up
+    goes_on (reached.Next parent) r q e up = along parent r.0 q e up
+
+    -- a long page
+    at_half : 16 < count page.content → IsOpen page → Below page.lo (right_half page).lo × Within page.lo page.hi (right_half page).lo
+    at_half long calm =
+        let s = (halved_law page 0 (more _ long)).split p.height (sound_at is.formed (place t p.height) look.pid page p.here.chained there) calm in
+        (s.apart, s.within)
+      where
+        more : (x : ℕ) → 16 < x → 2 ≤ x
+        more x l = omega arith
+
+    room : (parent : View) → IsOverNow m w t p.height j.aim parent page.lo → 16 < count page.content → IsOpen page → fresh_posting m.state t look.pid (right_half page).lo (posting.Parent parent)
+    room parent u long calm = (
+      u.above.now,
+      λ e. next_up p.height (ap (λ (z : Place). z.height) (some_is (sym (is.formed.homed (place t (suc p.height)) parent.pid u.above.chained) ∙ ap w.home e ∙ is.formed.homed (place t p.height) look.pid p.here.chained))),
+      takes_within is.formed t p.height parent.pid look.pid parent.node page (right_half page).lo u.above.chained (node_of m.state parent u.above.now) u.is_open.free p.here.chained there (at_half long calm).0 (at_half long calm).1,
+    )
+      where
+        next_up : (h : ℕ) → suc h ≡ h → ⊥
+        next_up h e = omega arith
+
+    posted : (by : Reached) → fresh_reached m w t p.height j.aim by page.lo look.pid → 16 < count page.content → IsOpen page → fresh_posting m.state t look.pid (right_half page).lo (posting_of (parent_of by))
+    posted reached.Root r long calm = r
+    posted (reached.FirstPointer parent) r long calm = room parent r long calm
+    posted (reached.LaterPointer parent) r long calm = room parent r.0 long calm
+    posted (reached.Next parent) r long calm = room parent r.0 long calm
+
+    at_content : IsOpen page → LiesUnder j.aim page → (next : Sequel) → follows_content page.content j look next → toward m w j n next
+    at_content calm under next k = content on_key n look now p.height p.ahead p.here.chained p.is_ahead p.few calm under next page.content refl k
 
     -- a small page merges
-    merges : (parent : View) → IsOverNow m w t p.height j.aim parent node.lo → In (node.lo, look.pid) (later (pointers parent.node.content)) → count node.content ≤ 3 → (o : Option ℕ) → IsPointerBefore look.pid (pointers parent.node.content) o → toward m w j n (begun parent look.pid o)
-    merges parent u at few None off = let b = has_before is.formed t p.height parent.pid parent.node node.lo look.pid u.above.chained (node_of m.state parent u.above.now) u.is_open at in absurd (off b.0 b.1)
-    merges parent u at few (Some b) k = (1, one, record { height = p.height; above = u.above; small = λ d there. subst (λ (z : Node). count z.content ≤ 3) (some_is (sym live ∙ there)) few; before = k })
+    merges : (parent : View) → IsOverNow m w t p.height j.aim parent page.lo → In (page.lo, look.pid) (later (pointers parent.node.content)) → count page.content ≤ 3 → (o : Option ℕ) → IsPointerBefore look.pid (pointers parent.node.content) o → toward m w j n (begun parent look.pid o)
+    merges parent u at few None off = let b = has_before is.formed t p.height parent.pid parent.node page.lo look.pid u.above.chained (node_of m.state parent u.above.now) u.is_open at in absurd (off b.0 b.1)
+    merges parent u at few (Some b) k = (1, one, record { height = p.height; above = u.above; small = λ d is. subst (λ (z : Node). count z.content ≤ 3) (some_is (sym there ∙ is)) few; before = k })
 
-    here : IsOpen node → LiesUnder j.aim node → (next : Sequel) → (by : Reached) → fresh_reached m w t p.height j.aim by node.lo look.pid → follows_here j look by next → toward m w j n next
-    here calm under next reached.Root r k = content calm under next node.content refl k
-    here calm under next (reached.FirstPointer parent) r k = content calm under next node.content refl k
+    here : IsOpen page → LiesUnder j.aim page → (next : Sequel) → (by : Reached) → fresh_reached m w t p.height j.aim by page.lo look.pid → follows_here j look by next → toward m w j n next
+    here calm under next reached.Root r k = at_content calm under next k
+    here calm under next (reached.FirstPointer parent) r k = at_content calm under next k
     here calm under next (reached.LaterPointer parent) r k = elim k [
       | inl a ↦ subst (λ z. toward m w j n z) (sym a.1.is) (merges parent r.0 r.1 a.0.1 a.1.before a.1.is_before)
-      | inr b ↦ content calm under next node.content refl b.1
+      | inr b ↦ at_content calm under next b.1
     ]
     here calm under next (reached.Next parent) r k = elim k [
-      | inl g ↦ subst (λ z. toward m w j n z) (sym g) (1, one, (r.0.above.now, takes_at is.formed t p.height parent.pid parent.node node.lo r.0.above.chained (node_of m.state parent r.0.above.now) (λ c i. below_irrefl node.lo (r.1 node.lo c i p.begins))))
+      | inl g ↦ subst (λ z. toward m w j n z) (sym g) (1, one, (r.0.above.now, takes_at is.formed t p.height parent.pid parent.node page.lo r.0.above.chained (node_of m.state parent r.0.above.now) (λ c i. below_irrefl page.lo (r.1 page.lo c i p.begins))))
       | inr g ↦ subst (λ z. toward m w j n z) (sym g) tt
     ]
 
     -- a page that begins within the aim and does not end within it lies under it
-    lies : (EndsWithin node j.aim → ⊥) → LiesUnder j.aim node
-    lies off = (p.begins, go node.hi refl (is_up_to j.aim node.hi) refl)
+    lies : (EndsWithin page j.aim → ⊥) → LiesUnder j.aim page
+    lies off = (p.begins, go page.hi refl (is_up_to j.aim page.hi) refl)
       where
-        go : (hi : Key) → node.hi ≡ hi → (b : Bool) → is_up_to j.aim node.hi ≡ b → (node.hi ≡ []) ⊎ (is_up_to j.aim node.hi ≡ false)
+        go : (hi : Key) → page.hi ≡ hi → (b : Bool) → is_up_to j.aim page.hi ≡ b → (page.hi ≡ []) ⊎ (is_up_to j.aim page.hi ≡ false)
         go [] e b g = inl e
         go (x ∷ xs) e false g = inr g
         go (x ∷ xs) e true g = absurd (off ((λ z. some_byte (sym e ∙ z)), g))
@@ -253,12 +263,12 @@ module _ {m : Snapshot} {w : Forest} (is : HasForest m w) (j : Course) where
             some_byte : x ∷ xs ≡ [] → ⊥
             some_byte z = cc
 
-    opened : IsOpen node → (next : Sequel) → follows_open j look by next → toward m w j n next
+    opened : IsOpen page → (next : Sequel) → follows_open j look by next → toward m w j n next
     opened calm next k = elim k [
       | inl a ↦ subst (λ z. toward m w j n z) (sym a.1) (2, two, (twos, now, a.0, calm, posted by p.is_reached a.0 calm))
       | inr b ↦ elim b.1 [
         | inl c ↦
-            let q = next_some is.formed (place t p.height) look.pid node p.here.chained live c.0.0 in
+            let q = next_some is.formed (place t p.height) look.pid page p.here.chained there c.0.0 in
             elim c.1 [
               | inl g ↦ subst (λ z. toward m w j n z) (sym (g ∙ ap (λ o. onward look o (parent_of by)) q.1)) (goes_on by p.is_reached q.0 q.1 c.0.1)
               | inr g ↦ subst (λ z. toward m w j n z) (sym g) tt
@@ -276,10 +286,10 @@ module _ {m : Snapshot} {w : Forest} (is : HasForest m w) (j : Course) where
     pub arrives : (next : Sequel) → follows_read j look by next → toward m w j n next
     arrives next k = elim k [
       | inl a ↦ true_false (sym a.0 ∙ awake)
-      | inr b ↦ go node.merging_child refl b.1
+      | inr b ↦ go page.merging_child refl b.1
     ]
       where
-        awake : node.merging ≡ false
+        awake : page.merging ≡ false
         awake = p.here.awake
 
         room_below : 2 * pages_below w t p.height + 3 < n
@@ -288,6 +298,6 @@ module _ {m : Snapshot} {w : Forest} (is : HasForest m w) (j : Course) where
             sum : (b a : ℕ) → suc b ≤ a → 2 * a + 2 ≤ n → 2 * b + 3 < n
             sum b a u v = omega arith
 
-        go : (o : Option ℕ) → node.merging_child ≡ o → follows_not_merging o j look by next → toward m w j n next
+        go : (o : Option ℕ) → page.merging_child ≡ o → follows_not_merging o j look by next → toward m w j n next
         go (Some c) e r = resumes p.height n look c next now p.here.chained e room_below r
         go None e r = opened (record { not_merging = awake; free = e }) next r

@@ -26,3 +26,4 @@ pub mod Staying
 pub mod Stepping
 pub mod Halves
 pub mod Alone
+pub mod Drifting
