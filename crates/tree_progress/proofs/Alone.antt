@@ -58,13 +58,13 @@ steps_on numbers given old new j a b n w v k l =
     next ahead fresh = record { formed = l.formed; named = k.named; knows = l.knows; halves = halves_law.steps j old new a (Go b) l.follows; fresh = fresh; on_key = k.on_key }
 
 -- the numbers: x is left to repair, the tree has p pages, and n steps are ahead; no attempt has more than k
-fewer_ahead : (i x n k : ℕ) (x' n' total : ℕ) → x' ≡ x → n' < n → i + x * k + n ≤ total → suc i + x' * k + n' ≤ total
+pub fewer_ahead : (i x n k : ℕ) (x' n' total : ℕ) → x' ≡ x → n' < n → i + x * k + n ≤ total → suc i + x' * k + n' ≤ total
 fewer_ahead i x n k x' n' total e l u = let same : x' * k ≡ x * k = ap (λ z. z * k) e in sum (x * k) (x' * k) same u
   where
     sum : (a b : ℕ) → b ≡ a → i + a + n ≤ total → suc i + b + n' ≤ total
     sum a b g u = omega (arith, l)
 
-less_left : (i x n k : ℕ) (x' n' total : ℕ) → x' + 1 ≤ x → n' < k → i + x * k + n ≤ total → suc i + x' * k + n' ≤ total
+pub less_left : (i x n k : ℕ) (x' n' total : ℕ) → x' + 1 ≤ x → n' < k → i + x * k + n ≤ total → suc i + x' * k + n' ≤ total
 less_left i x n k x' n' total l l' u =
     let more : suc x' * k ≤ x * k = subst (λ z. z ≤ x * k) (mul_comm k (suc x')) (subst (λ z. k * suc x' ≤ z) (mul_comm k x) (mul-le-mul_left k (omega arith))) in
     sum (x * k) (x' * k) (subst (λ z. z ≤ x * k) (suc-mul x' k) more) u
@@ -142,7 +142,7 @@ ahead_few {a = a} {b = b} {j = j} {i = i} r = sum (to_do (now a) j.tree.name) (t
         all a b e l = omega arith
 
 -- steps of a call that is alone
-moves : (numbers : Tree → Option ℕ) (given : ℕ → Bool) (j : Course) (s : Store) (w : Forest) → IsAhead numbers given s s j stage.Root 0 w → (i : ℕ) (b : Store) (a : Stage) (v : Forest) → MovesAlone numbers given j s w i b a v → IsAhead numbers given s b j a i v
+moves : (numbers : Tree → Option ℕ) (given : ℕ → Bool) (j : Course) (s : Store) (w : Forest) → IsAhead numbers given s s j stage.Root 0 w → (i : ℕ) (b : Store) (a : Stage) (v : Forest) → MovesAlone numbers given j s stage.Root w i b a v → IsAhead numbers given s b j a i v
 moves numbers given j s w k i b a v Begins = k
 moves numbers given j s w k i c e v (Moves {n = n} {b = b} {a = a} {u = u} before step) = ahead_next numbers given s b c j a e n u v (moves numbers given j s w k n b a u before) step
 

@@ -143,6 +143,7 @@ module _ {m : Snapshot} {w : Forest} (is : HasForest m w) (j : Course) where
         done : (o : Option Reply) → toward m w j n (done_at look o)
         done None = (0, some, now)
         done (Some reply) = tt
+
   module _ (on_key : IsOnKey j.call) (n : ℕ) (look : View) (by : Reached) (now : IsUnchanged m.state look) (p : IsComing m w t j.aim n look.pid look.node by) where
     abbrev page : Node
     page = look.node

@@ -27,3 +27,4 @@ pub mod Stepping
 pub mod Halves
 pub mod Alone
 pub mod Drifting
+pub mod Resuming

@@ -1,5 +1,5 @@
 -- A call made alone: no other call does a step between its steps.
-use Rattle.std.specs.Prelude.{◌≡◌, ◌⊎◌, ℕ, suc, ◌+◌, ◌*◌, ◌<◌, Bool, true, Option, Some}
+use Rattle.std.specs.Prelude.{◌≡◌, ◌⊎◌, ℕ, suc, ◌+◌, ◌*◌, ◌<◌, ◌≤◌, Bool, true, Option, Some}
 use Rattle.sled_nodes.specs.declared.node.Node.{Node}
 use Rattle.sled_store.specs.In.{In}
 use Rattle.sled_store.specs.State.{State, Nodes, nodes_of}
@@ -14,6 +14,7 @@ use Rattle.sled_tree.specs.Course.{Course, IsAimed}
 use Rattle.sled_tree.specs.Follows.{Follows}
 use Rattle.sled_tree.specs.Stages.{Knows}
 use Rattle.sled_tree.specs.declared.flight.Sequel.TheVariants.{Go}
+use Rattle.tree_progress.specs.Steps.{HasHalves}
 use Rattle.tree_progress.specs.ToDo.{to_do}
 
 -- Each repair lowers what is left to repair. Between two of them a call reads each page of its tree twice at most, and every repair may
@@ -33,13 +34,24 @@ pub record GoesOnAlone (numbers : Tree → Option ℕ) (given : ℕ → Bool) (j
   pub stays : StayInTree (nodes_of (now new)) w v
   pub knows : Knows (snapshot_of new numbers given) v j b
 
--- so many of them in a row from its begin on, and nothing between them
-pub data MovesAlone (numbers : Tree → Option ℕ) (given : ℕ → Bool) (j : Course) (s : Store) (w : Forest) : ℕ → Store → Stage → Forest → Type 0 where
-  Begins : MovesAlone numbers given j s w 0 s Root w
-  Moves : {n : ℕ} {b c : Store} {a e : Stage} {u v : Forest} → MovesAlone numbers given j s w n b a u → GoesOnAlone numbers given j b a u c e v → MovesAlone numbers given j s w (suc n) c e v
+-- so many of them in a row from the stage `first` on, and nothing between them
+pub data MovesAlone (numbers : Tree → Option ℕ) (given : ℕ → Bool) (j : Course) (s : Store) (first : Stage) (w : Forest) : ℕ → Store → Stage → Forest → Type 0 where
+  Begins : MovesAlone numbers given j s first w 0 s first w
+  Moves : {n : ℕ} {b c : Store} {a e : Stage} {u v : Forest} → MovesAlone numbers given j s first w n b a u → GoesOnAlone numbers given j b a u c e v → MovesAlone numbers given j s first w (suc n) c e v
 
 -- Of a call on a key that begins on well-formed pages, half-done splits and merges included, and of no other, fewer steps go on in a row than
 -- the pages tell
 abbrev pub AloneLaw : Type 0
 AloneLaw = (numbers : Tree → Option ℕ) (given : ℕ → Bool) (j : Course) (s : Store) (w : Forest) → HasForest (snapshot_of s numbers given) w → numbers j.tree.name ≡ Some j.tree.number → IsOnKey j.call → IsAimed j
-    → (n : ℕ) (new : Store) (a : Stage) (v : Forest) → MovesAlone numbers given j s w n new a v → n < alone_steps (now s) j.tree.name
+    → (n : ℕ) (new : Store) (a : Stage) (v : Forest) → MovesAlone numbers given j s Root w n new a v → n < alone_steps (now s) j.tree.name
+
+-- A call that others went between has pages in mind as they were. It is at the root soon, or changes a page; and the one merge that it may
+-- have chosen while its child was smaller leaves 15 more to repair at most
+abbrev pub resumed_steps : State → Tree → ℕ
+resumed_steps s t = (to_do s t + 16) * (4 * (tree_pages s t + to_do s t + 16) + 9)
+
+-- Of a call on a key in flight, whatever its stage is and whatever others left half done, and of no other from then on, no more steps go on in
+-- a row than the pages tell
+abbrev pub ResumedLaw : Type 0
+ResumedLaw = (numbers : Tree → Option ℕ) (given : ℕ → Bool) (j : Course) (s : Store) (first : Stage) (w : Forest) → HasForest (snapshot_of s numbers given) w → numbers j.tree.name ≡ Some j.tree.number → IsOnKey j.call → Knows (snapshot_of s numbers given) w j first → HasHalves (nodes_of (now s)) first
+    → (n : ℕ) (new : Store) (a : Stage) (v : Forest) → MovesAlone numbers given j s first w n new a v → n ≤ resumed_steps (now s) j.tree.name

@@ -20,7 +20,7 @@
 //! than 3. With sizes for which this does not hold, a split and a merge may undo each other for ever.
 #![tactic(auto)]
 
-ghost use Rattle.tree_progress.specs.Alone.{AloneLaw};
+ghost use Rattle.tree_progress.specs.Alone.{AloneLaw, ResumedLaw};
 ghost use Rattle.tree_progress.specs.Steps.{HalvesLaw, StepLaw};
 ghost use Rattle.tree_progress.specs.Laws.{LinkRaises, InstallLowers, PostLowers, SwapLowers, IntendLowers, CapLowers, ReceiveLowers, ConfirmLowers};
 
@@ -136,4 +136,15 @@ pub fn law_halves()
 /// ```
 pub fn law_alone()
     ensures { AloneLaw }
+{}
+
+/// Does nothing. Of a call on a key in flight, whatever its stage is and whatever other calls left half done, and of no other from then on,
+/// no more steps in a row go on than the pages tell (`resumed_steps`). So a call that is stepped alone from some moment on is decided or
+/// refused, though others changed pages that it had read.
+///
+/// ```
+/// law_resumed(); // From here on a proof knows it.
+/// ```
+pub fn law_resumed()
+    ensures { ResumedLaw }
 {}

@@ -1,4 +1,3 @@
-use Rattle.tree_progress.proofs.Drifting.{drift}
 use Rattle.tree_progress.proofs.Alone.{alone_law}
 use Rattle.tree_progress.proofs.law_alone.Goals as goal
 
