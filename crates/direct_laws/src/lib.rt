@@ -1,4 +1,4 @@
-//! A law: a call on a key that a database makes at once is decided within a number of steps that its pages tell.
+//! Laws: a call on a key from which nobody else does a step is decided within a number of steps that its pages tell.
 //!
 //! Such a call makes the steps of a call in flight, one after the other, repairs included, and nobody else does a step meanwhile. After
 //! 1,000,000 steps that go on it is refused for its turns. Here it is said of which pages it never is: the steps that go on are fewer than
@@ -6,10 +6,10 @@
 //! long chain of empty leaves without an index, may come to it, and then the repairs that the refused call made stay: a second try has less
 //! to repair.
 //!
-//! Nothing is done here. The law is concluded from the public contract of the call alone (`DbRunsToEnd` of `sled`).
+//! Nothing is done here. The laws are concluded from the public contract of such steps alone (`DbRunsToEnd` of `sled`).
 #![tactic(auto)]
 
-ghost use Rattle.direct_laws.specs.Turns.{DirectLaw};
+ghost use Rattle.direct_laws.specs.Turns.{DirectLaw, FinishLaw};
 
 use sled_model::MergeOperator;
 use sled_store::Pages;
@@ -23,4 +23,16 @@ use sled_store::Pages;
 /// ```
 pub fn law_direct<P: Pages, M: MergeOperator>()
     ensures { DirectLaw P.store M.meant }
+{}
+
+/// Does nothing. A call in flight on a key that is finished, whatever its stage is and whatever other calls left half done, goes on for no
+/// more steps than `resumed_steps` tells of the pages at that moment, if nobody else does a step meanwhile. So where it has more turns left
+/// than that it is not refused for its turns. Asked is that what it knows of pages is true, as of every call in flight, and that a split that
+/// it has begun has the halves that a split makes (`law_halves` of `tree_progress`).
+///
+/// ```
+/// law_finish::<MemPages, Adds>(); // From here on a proof knows it.
+/// ```
+pub fn law_finish<P: Pages, M: MergeOperator>()
+    ensures { FinishLaw P.store M.meant }
 {}

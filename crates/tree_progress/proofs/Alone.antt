@@ -1,26 +1,17 @@
 -- A call that is made alone: each step reads on or repairs, and a number falls with each of them.
-use Rattle.std.proofs.Common.{◌≡◌, ◌≢◌, ℕ, suc, ◌+◌, ◌*◌, ◌≤◌, ◌<◌, Bool, Option, Some, sym, refl, ap, ◌∙◌, subst, inl, inr, ◌⊎◌, arith, le_refl}
+use Rattle.std.proofs.Common.{◌≡◌, ℕ, suc, ◌+◌, ◌*◌, ◌≤◌, ◌<◌, Bool, Option, Some, ap, ◌∙◌, subst, inl, inr, ◌⊎◌, arith, le_refl}
 use Rattle.std.proofs.Math.Nat.{suc-mul, mul_comm, mul-le-mul_left}
-use Rattle.sled_nodes.proofs.Basics.{none_some}
-use Rattle.sled_nodes.specs.declared.error.Error.{Error}
-use Rattle.sled_nodes.specs.declared.error.Error.TheVariants.{NoMemory, Io}
 use Rattle.sled_store.specs.State.{nodes_of}
 use Rattle.sled_store.specs.Store.{Store, now}
-use Rattle.sled_model.specs.Maps.{Merge as Operator}
 use Rattle.sled_model.specs.State.{IsOnKey}
 use Rattle.tree_laws.specs.Forest.{Tree, Forest}
 use Rattle.tree_laws.specs.Paths.{tree_pages}
 use Rattle.tree_laws.specs.Snapshot.{HasForest, snapshot_of}
 use Rattle.tree_laws.specs.declared.flight.Stage.{Stage}
 use Rattle.tree_laws.specs.declared.flight.Stage.TheVariants as stage
-use Rattle.sled_tree.specs.Course.{Course, course, course_of, IsAimed}
-use Rattle.sled_tree.specs.Follows.{Follows}
+use Rattle.sled_tree.specs.Course.{Course, IsAimed}
 use Rattle.sled_tree.specs.Stages.{Knows}
-use Rattle.sled_tree.specs.theory.StageAction.{Only, flight_step_as, is_action_refused_as}
-use Rattle.sled_tree.specs.declared.flight.InFlight.{InFlight}
 use Rattle.sled_tree.specs.declared.flight.Sequel.TheVariants.{Go}
-use Rattle.sled_tree.specs.declared.flight.Went.{Went}
-use Rattle.sled_tree.specs.declared.flight.Went.TheVariants as went
 use Rattle.tree_progress.specs.Alone.{GoesOnAlone, MovesAlone, Begins, Moves, alone_steps, AloneLaw}
 use Rattle.tree_progress.specs.Steps.{HasHalves}
 use Rattle.tree_progress.specs.ToDo.{to_do}

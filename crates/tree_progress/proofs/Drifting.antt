@@ -1,13 +1,11 @@
 -- A call whose views may be of pages as they were: with nobody beside it, it soon sees them as they are, or changes one.
-use Rattle.std.proofs.Common.{◌≡◌, ◌≢◌, ℕ, zero, suc, ◌+◌, ◌*◌, ◌≤◌, ◌<◌, ◌^◌, Bool, true, false, List, Option, Some, None, Result, Ok, Err, MatchOption, option_map, sym, refl, ap, ◌∙◌, subst, inl, inr, ◌⊎◌, arith, le_refl}
-use Rattle.sled_nodes.proofs.Basics.{none_some, some_is, true_false}
-use Rattle.sled_nodes.specs.Among.{IsBefore, IsPointerBefore}
-use Rattle.sled_nodes.specs.Halves.{after_receiving}
-use Rattle.sled_nodes.specs.Node.{count, pointers, after_link}
+use Rattle.std.proofs.Common.{◌≡◌, ℕ, suc, ◌+◌, ◌*◌, ◌≤◌, ◌<◌, Bool, true, false, List, Option, Some, None, Result, Ok, Err, MatchOption, option_map, sym, refl, ap, ◌∙◌, subst, inl, inr, ◌⊎◌, arith, le_refl}
+use Rattle.sled_nodes.proofs.Basics.{some_is}
+use Rattle.sled_nodes.specs.Node.{count, after_link}
 use Rattle.sled_nodes.specs.Order.{Key}
 use Rattle.sled_nodes.specs.declared.error.Error.{Error}
 use Rattle.sled_nodes.specs.declared.link.Link.{Link}
-use Rattle.sled_nodes.specs.declared.link.Link.TheVariants.{Set, Del, ParentMergeIntention, ParentMergeConfirm, ChildMergeCap}
+use Rattle.sled_nodes.specs.declared.link.Link.TheVariants.{Set, Del, ParentMergeIntention}
 use Rattle.sled_nodes.specs.declared.node.Node.{Node}
 use Rattle.sled_store.specs.In.{In}
 use Rattle.sled_store.specs.State.{State, nodes_of, PageBecomes, RootBecomes, after}
@@ -24,7 +22,6 @@ use Rattle.tree_laws.specs.Forest.{Tree, Forest, Place, place}
 use Rattle.tree_laws.specs.Paths.{tree_pages, pages_below, IsAhead}
 use Rattle.tree_laws.specs.Snapshot.{Snapshot, snapshot_of, nodes_at, HasForest, IsOpen, LiesUnder}
 use Rattle.tree_laws.specs.Stages.{IsStage, IsWalking, IsReadingChild, IsSeeking, parent_of, child_of}
-use Rattle.tree_laws.specs.declared.flight.InstallLeft.{InstallLeft}
 use Rattle.tree_laws.specs.declared.flight.Merge.{Merge}
 use Rattle.tree_laws.specs.declared.flight.Posting.{Posting}
 use Rattle.tree_laws.specs.declared.flight.Posting.TheVariants as posting
@@ -39,9 +36,8 @@ use Rattle.tree_laws.proofs.Reading.{one_law}
 use Rattle.tree_laws.proofs.Stable.{now_law}
 use Rattle.sled_tree.specs.Change.{link_of, decision_at}
 use Rattle.sled_tree.specs.Course.{Course}
-use Rattle.sled_tree.specs.Follows.{FollowsPage, TakesWay, OrRefused, OrNoMemory, ReachesTo, BeginsMerge, begun, onward, searched, links_by, after_install_left, after_swap_root, read_again, sought_again, follows_as, follows_read, follows_not_merging, follows_open, follows_here, follows_content, follows_post, follows_split, follows_child, follows_child_not_merging, follows_cursor, follows_cursor_not_merging, follows_search, follows_met}
+use Rattle.sled_tree.specs.Follows.{FollowsPage, TakesWay, OrRefused, begun, onward, searched, links_by, after_install_left, after_swap_root, read_again, sought_again, follows_as, follows_read, follows_not_merging, follows_open, follows_here, follows_content, follows_post, follows_split, follows_child, follows_child_not_merging, follows_cursor, follows_cursor_not_merging, follows_met}
 use Rattle.sled_tree.specs.Passing.{IsUnchanged}
-use Rattle.sled_tree.specs.Stages.{changes_at}
 use Rattle.sled_tree.specs.declared.flight.Sequel.{Sequel}
 use Rattle.sled_tree.specs.declared.flight.Sequel.TheVariants.{Go, Decided, Refused}
 use Rattle.tree_progress.specs.Laws.{Lowers}

@@ -1,9 +1,9 @@
 -- A call in flight that is alone from some moment on: each step reads on or repairs, and a number falls with each of them.
-use Rattle.std.proofs.Common.{◌≡◌, ◌≢◌, ℕ, zero, suc, ◌+◌, ◌-◌, ◌*◌, ◌≤◌, ◌<◌, Bool, false, Option, Some, None, sym, refl, ap, ◌∙◌, subst, inl, inr, ◌⊎◌, arith, le_refl}
+use Rattle.std.proofs.Common.{◌≡◌, ℕ, suc, ◌+◌, ◌*◌, ◌≤◌, ◌<◌, Bool, Option, Some, sym, refl, ap, ◌∙◌, subst, inl, inr, ◌⊎◌, arith, le_refl}
 use Rattle.std.proofs.Math.Nat.{suc-mul, mul_comm, mul-le-mul_left}
 use Rattle.sled_nodes.specs.Node.{count, after_link}
 use Rattle.sled_nodes.specs.declared.link.Link.TheVariants.{ParentMergeIntention}
-use Rattle.sled_store.specs.State.{State, nodes_of, PageBecomes, after}
+use Rattle.sled_store.specs.State.{State, nodes_of, PageBecomes}
 use Rattle.sled_store.specs.Store.{Store, now}
 use Rattle.sled_store.specs.theory.Facts.{now_acts}
 use Rattle.sled_model.specs.State.{IsOnKey}
@@ -24,7 +24,7 @@ use Rattle.tree_progress.specs.Steps.{HasHalves}
 use Rattle.tree_progress.specs.ToDo.{to_do}
 use Rattle.tree_progress.specs.Weights.{weight}
 use Rattle.tree_progress.proofs.Alone.{fewer_ahead, less_left}
-use Rattle.tree_progress.proofs.Drifting.{IsOnWay, is_calm, next_is_calm, most_steps, root_steps, adrift_any, drift}
+use Rattle.tree_progress.proofs.Drifting.{IsOnWay, is_calm, next_is_calm, adrift_any, drift}
 use Rattle.tree_progress.proofs.Halves.{halves_law}
 use Rattle.tree_progress.proofs.Intending.{intend_lowers}
 use Rattle.tree_progress.proofs.Landing.{lands}
