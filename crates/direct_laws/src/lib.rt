@@ -1,10 +1,10 @@
 //! Laws: a call on a key from which nobody else does a step is decided within a number of steps that its pages tell.
 //!
-//! Such a call makes the steps of a call in flight, one after the other, repairs included, and nobody else does a step meanwhile. After
-//! 1,000,000 steps that go on it is refused for its turns. Here it is said of which pages it never is: the steps that go on are fewer than
-//! `alone_steps` of `tree_progress`, a number of the pages alone. Most trees are far from it. Pages that only another program makes, as a
-//! long chain of empty leaves without an index, may come to it, and then the repairs that the refused call made stay: a second try has less
-//! to repair.
+//! A call that a database makes at once makes the steps of a call in flight, one after the other, repairs included, and nobody else does a
+//! step meanwhile. After 1,000,000 steps that go on it is refused for its turns. Here it is said of which pages it never is: the steps that
+//! go on are fewer than `alone_steps` of `tree_progress`, a number of the pages alone. With nothing left to repair a tree of 400,000 pages
+//! stays below the limit. Pages that only another program makes, as a long chain of empty leaves without an index, may come to it; the
+//! repairs that the refused call made stay then.
 //!
 //! Nothing is done here. The laws are concluded from the public contract of such steps alone (`DbRunsToEnd` of `sled`).
 #![tactic(auto)]
