@@ -18,7 +18,7 @@ use Rattle.tree_progress.specs.Laws.{Lowers, CapLowers}
 use Rattle.tree_progress.proofs.Among.{of_in, child_in}
 use Rattle.tree_progress.proofs.Sums.{no_more}
 use Rattle.tree_progress.proofs.Levels.{received}
-use Rattle.tree_progress.proofs.Changing.{levels_at, others_stay, page_changes}
+use Rattle.tree_progress.proofs.Changing.{levels_at, others_stay, page_changes, page_counts}
 use Rattle.tree_progress.proofs.Replacing.{LeadsAlike, own_level, lower_level}
 use Rattle.tree_progress.proofs.Children.{later_not_first}
 
@@ -61,6 +61,7 @@ cap_lowers m w t number a node version is named k page =
           (same_below m.state w is.formed is.below t h c chained g n 1 0 live (λ q. record { led_was = λ x. x; led_now = λ x. x; child_was = λ x. x; child_now = λ x. x }) refl
           (λ first. absurd (later_not_first is.formed t h up.parent c up.node b.0 up.chained up.live b.1 first))
           (λ v at. capped v (sym at ∙ found))));
+      pages = page_counts m.state w is.formed is.below t h c chained g root.0 n root.1 live refl refl;
       others = others_stay m.state w is.formed is.below t h c chained g;
     })
   where

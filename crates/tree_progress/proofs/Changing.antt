@@ -1,5 +1,5 @@
 -- One page of a tree changes: what is left to repair changes by two levels at most, that of the page and the one below it.
-use Rattle.std.proofs.Common.{◌≡◌, ◌≢◌, ℕ, zero, suc, ◌+◌, ◌-◌, ◌≤◌, ◌<◌, ◌^◌, List, [], ◌∷◌, Option, Some, None, option_map, sym, refl, ap, ◌∙◌, subst, inl, inr, ◌⊎◌, arith}
+use Rattle.std.proofs.Common.{◌≡◌, ◌≢◌, ℕ, zero, suc, ◌+◌, ◌-◌, ◌≤◌, ◌<◌, ◌^◌, List, [], ◌∷◌, Option, Some, None, option_map, length, sym, refl, ap, ◌∙◌, subst, inl, inr, ◌⊎◌, arith}
 use Rattle.sled_nodes.proofs.Basics.{none_some, some_is, same_or_not}
 use Rattle.sled_store.specs.In.{In}
 use Rattle.sled_store.specs.State.{State, Nodes, nodes_of, PageBecomes, after}
@@ -8,9 +8,11 @@ use Rattle.sled_nodes.specs.declared.node.Node.{Node}
 use Rattle.sled_store.specs.declared.page.Page.{Page}
 use Rattle.tree_laws.specs.Forest.{Tree, Forest, Place, place, head, WellFormed}
 use Rattle.tree_laws.specs.Contents.{next_of, first_of}
+use Rattle.tree_laws.specs.Paths.{tree_pages}
 use Rattle.tree_laws.proofs.Reading.{child_of}
 use Rattle.tree_laws.proofs.Replace.{head_in}
 use Rattle.tree_progress.specs.ToDo.{to_do, level_weight}
+use Rattle.tree_progress.proofs.Counting.{pages_more}
 use Rattle.tree_progress.proofs.Sums.{over, over_same, over_one, over_two}
 use Rattle.tree_progress.proofs.Levels.{level_frame}
 use Rattle.tree_progress.proofs.Shapes.{Leads, IsShape, level_at, shape_of, to_do_levels, to_do_none}
@@ -123,15 +125,28 @@ module _ (s : State) (w : Forest) (f : WellFormed (nodes_of s) s.roots w) (below
       joined : (x y u v : ℕ) → x ≡ u → y ≡ v → u + d ≤ v + e → x + d ≤ y + e
       joined x y u v a b c = omega arith
 
-  -- .. where the page leads on and down as before
+  -- .. and it has one page more at most, where that level has
+  pub here_counts : (root height : ℕ) (chains : ℕ → List ℕ) → s.roots t ≡ Some root → IsShape (nodes_of s) (λ h. w.chain (place t h)) root height → IsShape (nodes_of new) chains root height
+      → ((h : ℕ) → h ≢ k → chains h ≡ w.chain (place t h)) → length (chains k) ≤ length (w.chain (place t k)) + 1 → tree_pages new t ≤ tree_pages s t + 1
+  here_counts root height chains is a b stays one = pages_more s new t (λ h. w.chain (place t h)) chains root height k is is a b (level_low f t root height a k p i) stays one
+
+  -- a page that leads on and down as before
+  leads_same : (n : Node) → nodes_of s p ≡ Some n → next_of (Some g.node) ≡ next_of (Some n) → first_of (Some g.node) ≡ first_of (Some n) → (h q : ℕ) → In q (w.chain (place t h)) → (next_of (nodes_of new q) ≡ next_of (nodes_of s q)) × (first_of (nodes_of new q) ≡ first_of (nodes_of s q))
+  leads_same n live next first h q j = elim (same_or_not q p) [
+    | inl e ↦ let a : nodes_of new q ≡ Some g.node = ap (nodes_of new) e ∙ now_is in let b : nodes_of s q ≡ Some n = ap (nodes_of s) e ∙ live in (ap next_of a ∙ next ∙ sym (ap next_of b), ap first_of a ∙ first ∙ sym (ap first_of b))
+    | inr off ↦ (ap next_of (others_are q off), ap first_of (others_are q off))
+  ]
+
   pub page_changes : (root d e : ℕ) (n : Node) → s.roots t ≡ Some root → nodes_of s p ≡ Some n → next_of (Some g.node) ≡ next_of (Some n) → first_of (Some g.node) ≡ first_of (Some n)
       → levels_at (nodes_of new) (λ h. w.chain (place t h)) k + d ≤ levels_at (nodes_of s) (λ h. w.chain (place t h)) k + e → to_do new t + d ≤ to_do s t + e
   page_changes root d e n is live next first at =
       let a = shape_of s w f below t root is in
-      here_changes root a.0 d e (λ h. w.chain (place t h)) is a.1 (shape_frame (nodes_of s) (nodes_of new) (λ h. w.chain (place t h)) root a.0 a.1 same) (λ h off. refl) at
+      here_changes root a.0 d e (λ h. w.chain (place t h)) is a.1 (shape_frame (nodes_of s) (nodes_of new) (λ h. w.chain (place t h)) root a.0 a.1 (leads_same n live next first)) (λ h off. refl) at
+
+  pub page_counts : (root : ℕ) (n : Node) → s.roots t ≡ Some root → nodes_of s p ≡ Some n → next_of (Some g.node) ≡ next_of (Some n) → first_of (Some g.node) ≡ first_of (Some n) → tree_pages new t ≤ tree_pages s t + 1
+  page_counts root n is live next first =
+      let a = shape_of s w f below t root is in
+      here_counts root a.0 (λ h. w.chain (place t h)) is a.1 (shape_frame (nodes_of s) (nodes_of new) (λ h. w.chain (place t h)) root a.0 a.1 (leads_same n live next first)) (λ h off. refl) (more _)
     where
-      same : (h q : ℕ) → In q (w.chain (place t h)) → (next_of (nodes_of new q) ≡ next_of (nodes_of s q)) × (first_of (nodes_of new q) ≡ first_of (nodes_of s q))
-      same h q j = elim (same_or_not q p) [
-        | inl e ↦ let a : nodes_of new q ≡ Some g.node = ap (nodes_of new) e ∙ now_is in let b : nodes_of s q ≡ Some n = ap (nodes_of s) e ∙ live in (ap next_of a ∙ next ∙ sym (ap next_of b), ap first_of a ∙ first ∙ sym (ap first_of b))
-        | inr off ↦ (ap next_of (others_are q off), ap first_of (others_are q off))
-      ]
+      more : (x : ℕ) → x ≤ x + 1
+      more x = omega arith

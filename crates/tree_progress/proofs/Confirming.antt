@@ -24,7 +24,7 @@ use Rattle.tree_progress.proofs.Arithmetic.{less_weight, less_first_weight}
 use Rattle.tree_progress.proofs.Sums.{no_more}
 use Rattle.tree_progress.proofs.Among.{not_in}
 use Rattle.tree_progress.proofs.Levels.{received}
-use Rattle.tree_progress.proofs.Changing.{levels_at, others_stay, page_changes}
+use Rattle.tree_progress.proofs.Changing.{levels_at, others_stay, page_changes, page_counts}
 use Rattle.tree_progress.proofs.Pointing.{unpointed_ends, unpointed_first, one_less}
 use Rattle.tree_progress.proofs.Replacing.{LeadsAlike, own_level, lower_level}
 
@@ -92,6 +92,7 @@ module _ (s : State) (w : Forest) (f : WellFormed (nodes_of s) s.roots w) (below
   pub confirmed : Lowers s (after (PageBecomes p (Some g)) s) t 1
   confirmed = record {
     here = no_more _ _ (page_changes s w f below t (suc h) p i g root 1 0 n rooted live refl first both);
+    pages = page_counts s w f below t (suc h) p i g root n rooted live refl first;
     others = others_stay s w f below t (suc h) p i g;
   }
     where

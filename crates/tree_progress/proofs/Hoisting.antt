@@ -28,6 +28,7 @@ use Rattle.tree_progress.specs.Laws.{Lowers, SwapLowers}
 use Rattle.tree_progress.proofs.Among.{of_in, not_in}
 use Rattle.tree_progress.proofs.Sums.{chained, chained_change, over_same}
 use Rattle.tree_progress.proofs.Levels.{received, page_same}
+use Rattle.tree_progress.proofs.Counting.{pages_levels}
 use Rattle.tree_progress.proofs.Shapes.{Leads, IsShape, level_at, shape_of, to_do_levels}
 use Rattle.tree_progress.proofs.Changing.{level_low}
 use Rattle.tree_progress.proofs.Pointing.{apart, ends}
@@ -197,9 +198,13 @@ module _ (s : State) (w : Forest) (f : WellFormed (nodes_of s) s.roots w) (below
         (over_same (level_at (nodes_of s) chain) (level_at (nodes_of s) raised) height
         (λ h l. ap (λ c. level_weight (nodes_of s) c (raised h)) (raised_else (suc h) (up h l)) ∙ ap (level_weight (nodes_of s) (chain (suc h))) (raised_else h (under h l))))
         level_lowers;
+    pages = one_page _ _ _ _ _ (pages_levels (after (RootBecomes t (Some r)) s) t raised r (suc height) (put_name_here s.roots t (Some r)) shape) (pages_levels s t chain left height rooted k) (ap length raised_top) (ap length (raised_else height off)) (over_same (λ h. length (chain h)) (λ h. length (raised h)) height (λ h l. ap length (raised_else h (under h l))));
     others = λ u e. ap (to_do_under page_numbers (nodes_of s) []) (put_name_elsewhere s.roots t u (Some r) e);
   }
     where
+      one_page : (x y a b c : ℕ) {d g : ℕ} → x ≡ a + (b + c) → y ≡ d + g → a ≡ 1 → b ≡ d → c ≡ g → x ≤ y + 1
+      one_page x y a b c e e' e1 e2 e3 = omega arith
+
       beyond : suc (suc height) ≢ suc height
       beyond e = omega arith
 

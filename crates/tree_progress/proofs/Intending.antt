@@ -17,7 +17,7 @@ use Rattle.tree_progress.specs.ToDo.{is_in, children, merges, weight_of, page_we
 use Rattle.tree_progress.specs.Laws.{Intends, IntendLowers}
 use Rattle.tree_progress.proofs.Among.{of_in, not_in, child_in, child_by}
 use Rattle.tree_progress.proofs.Levels.{received}
-use Rattle.tree_progress.proofs.Changing.{others_stay, page_changes}
+use Rattle.tree_progress.proofs.Changing.{others_stay, page_changes, page_counts}
 use Rattle.tree_progress.proofs.Replacing.{own_level, lower_one, lower_off, leads_alike, up_now}
 use Rattle.tree_progress.proofs.Children.{later_not_first, one_child}
 
@@ -79,6 +79,7 @@ module _ (s : State) (w : Forest) (f : WellFormed (nodes_of s) s.roots w) (below
   intended = record {
     here = heavier;
     small = λ l. less (count d.content) _ _ l heavier;
+    pages = page_counts s w f below t (suc h) p i g root n rooted live refl refl;
     others = others_stay s w f below t (suc h) p i g;
   }
     where

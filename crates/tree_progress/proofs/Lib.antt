@@ -1,6 +1,7 @@
 pub mod Arithmetic
 pub mod Sums
 pub mod Shapes
+pub mod Counting
 pub mod Among
 pub mod Levels
 pub mod Changing
@@ -16,6 +17,14 @@ pub mod Hoisting
 pub mod Relinking
 pub mod Receiving
 pub mod Splitting
+pub mod Below
+pub mod Fresh
+pub mod Arriving
+pub mod Seeking
+pub mod Landing
 pub mod Staying
 pub mod Stepping
 pub mod Halves
+pub mod Alone
+pub mod Drifting
+pub mod Resuming

@@ -24,7 +24,7 @@ use Rattle.tree_progress.proofs.Arithmetic.{more_weight, more_first_weight}
 use Rattle.tree_progress.proofs.Among.{IsPointed, of_in, not_in, gathers, pointed_by}
 use Rattle.tree_progress.proofs.Sums.{no_more}
 use Rattle.tree_progress.proofs.Pointing.{ends}
-use Rattle.tree_progress.proofs.Changing.{others_stay, page_changes}
+use Rattle.tree_progress.proofs.Changing.{others_stay, page_changes, page_counts}
 use Rattle.tree_progress.proofs.Replacing.{LeadsAlike, own_level, lower_one, lower_off, kids_alike, up_now}
 use Rattle.tree_progress.proofs.Children.{above_not_first}
 
@@ -136,6 +136,7 @@ module _ (s : State) (w : Forest) (f : WellFormed (nodes_of s) s.roots w) (below
     here = no_more _ _ (page_changes s w f below t (suc h) p i g root 3 0 n rooted live refl first
         (sum _ _ _ _ (own_level s w f below t (suc h) p i g n 0 1 live (λ e. first_page) (λ b e. of_child b))
         (lower_one s w f below t h p i g n live q 4 0 0 0 here (above_not_first f (place t h) q d n.lo there low) alike page_weighs (same _))));
+    pages = page_counts s w f below t (suc h) p i g root n rooted live refl first;
     others = others_stay s w f below t (suc h) p i g;
   }
     where

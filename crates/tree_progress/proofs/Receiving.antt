@@ -36,7 +36,7 @@ use Rattle.tree_progress.proofs.Among.{IsChildOf, of_in, in_alike, child_in, poi
 use Rattle.tree_progress.proofs.Sums.{no_more}
 use Rattle.tree_progress.proofs.Levels.{IsAlike, received, level_change, level_same, children_same, pointed_same, children_change, page_same, page_below}
 use Rattle.tree_progress.proofs.Shapes.{Leads, IsShape, level_at, shape_of}
-use Rattle.tree_progress.proofs.Changing.{levels_at, now_is, others_are, off_level, others_stay, here_changes, leads_frame}
+use Rattle.tree_progress.proofs.Changing.{levels_at, now_is, others_are, off_level, others_stay, here_changes, here_counts, leads_frame}
 use Rattle.tree_progress.proofs.Pointing.{apart, ends}
 use Rattle.tree_progress.proofs.Replacing.{IsMiddle, in_middle}
 use Rattle.tree_progress.proofs.Relinking.{shape_relinked, head_front, leads_behind, pointed_middle, children_middle, child_change}
@@ -263,8 +263,12 @@ module _ (s : State) (w : Forest) (f : WellFormed (nodes_of s) s.roots w) (below
       let a = shape_of s w f below t root rooted in
       record {
         here = no_more _ _ (here_changes s w f below t k p i g root a.0 1 0 shorter rooted a.1 (shape a.0 a.1) shorter_else (both_levels k refl));
+        pages = here_counts s w f below t k p i g root a.0 shorter rooted a.1 (shape a.0 a.1) shorter_else (one_page _ _ (ap length shorter_here ∙ length-append xs (p ∷ ys)) (ap length around ∙ length-append xs (p ∷ (c ∷ ys))));
         others = others_stay s w f below t k p i g;
       }
+    where
+      one_page : (x y : ℕ) → x ≡ length xs + suc (length ys) → y ≡ length xs + suc (suc (length ys)) → x ≤ y + 1
+      one_page x y e e' = omega arith
 
 pub receiving_lowers : ReceiveLowers
 receiving_lowers m w t number a node version is named k page =

@@ -31,7 +31,7 @@ use Rattle.tree_progress.proofs.Among.{not_in, in_alike, child_by, pointed_by}
 use Rattle.tree_progress.proofs.Sums.{no_more, sum_same}
 use Rattle.tree_progress.proofs.Levels.{IsAlike, received, level_change, level_same, children_same, pointed_same, children_change, page_same, page_below}
 use Rattle.tree_progress.proofs.Shapes.{Leads, IsShape, level_at, shape_of}
-use Rattle.tree_progress.proofs.Changing.{levels_at, now_is, others_are, off_level, others_stay, here_changes, leads_frame}
+use Rattle.tree_progress.proofs.Changing.{levels_at, now_is, others_are, off_level, others_stay, here_changes, here_counts, leads_frame}
 use Rattle.tree_progress.proofs.Pointing.{ends}
 use Rattle.tree_progress.proofs.Replacing.{IsMiddle, in_middle}
 use Rattle.tree_progress.proofs.Relinking.{shape_relinked, head_front, leads_behind, pointed_middle, children_middle}
@@ -249,8 +249,12 @@ module _ (s : State) (w : Forest) (f : WellFormed (nodes_of s) s.roots w) (below
       let a = shape_of s w f below t root rooted in
       record {
         here = no_more _ _ (here_changes s w f below t k p i g root a.0 3 0 longer rooted a.1 (shape a.0 a.1) longer_else (both_levels k refl));
+        pages = here_counts s w f below t k p i g root a.0 longer rooted a.1 (shape a.0 a.1) longer_else (one_page _ _ (ap length longer_here ∙ length-append xs (p ∷ (q ∷ ys))) (ap length middle.is ∙ length-append xs (p ∷ ys)));
         others = others_stay s w f below t k p i g;
       }
+    where
+      one_page : (x y : ℕ) → x ≡ length xs + suc (suc (length ys)) → y ≡ length xs + suc (length ys) → x ≤ y + 1
+      one_page x y e e' = omega arith
 
 halved : (n l r : ℕ) → l ≡ min (n / 2) n → r ≡ n - n / 2 → 16 < n → (l ≤ r) × (r ≤ suc l) × (17 ≤ l + r)
 halved n l r e e' long = (omega arith, omega arith, omega arith)

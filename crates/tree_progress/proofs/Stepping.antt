@@ -46,7 +46,7 @@ use Rattle.tree_progress.proofs.Staying.{stray_stays}
 stays : (a b : State) → b ≡ a → Leaves a b
 stays a b e u = ap (λ s. to_do s u) e
 
-refused_now : (e : Error) (old new : Store) → IsRefused e old new → now new ≡ now old
+pub refused_now : (e : Error) (old new : Store) → IsRefused e old new → now new ≡ now old
 refused_now e old new k = go e k.is
   where
     go : (e : Error) → is_refused_as e old new → now new ≡ now old
@@ -56,7 +56,7 @@ refused_now e old new k = go e k.is
 
 -- less is left by as much, and so by 1
 one_at_least : (a b : State) (t : Tree) (by : ℕ) → 1 ≤ by → Lowers a b t by → Lowers a b t 1
-one_at_least a b t by l k = record { here = less _ _ k.here; others = k.others }
+one_at_least a b t by l k = record { here = less _ _ k.here; pages = k.pages; others = k.others }
   where
     less : (x y : ℕ) → x + by ≤ y → x + 1 ≤ y
     less x y u = omega arith
@@ -85,7 +85,7 @@ one : (1 ≤ 1) × (1 ≤ 3) × (1 ≤ 4)
 one = (omega arith, omega arith, omega arith)
 
 -- a page number that was never given is in no chain
-fresh_out : {m : Snapshot} {w : Forest} → HasForest m w → (q : ℕ) → m.pids q ≡ false → (x : Place) → ¬ (In q (w.chain x))
+pub fresh_out : {m : Snapshot} {w : Forest} → HasForest m w → (q : ℕ) → m.pids q ≡ false → (x : Place) → ¬ (In q (w.chain x))
 fresh_out {m} {w} is q fresh x i =
     let b = is.formed.page x q (is.formed.homed x q i) in
     let g = as_page m q b.0 b.1.live in

@@ -10,6 +10,7 @@ use Rattle.sled_nodes.specs.declared.link.Link.TheVariants.{Set, Del, ParentMerg
 use Rattle.sled_nodes.specs.declared.node.Node.{Node}
 use Rattle.sled_store.specs.declared.page.View.{View}
 use Rattle.tree_laws.specs.Forest.{Tree, Forest}
+use Rattle.tree_laws.specs.Paths.{tree_pages}
 use Rattle.tree_laws.specs.Snapshot.{Snapshot, HasForest, nodes_at, IsActing}
 use Rattle.tree_laws.specs.Stages.{IsReplacing, IsPosting, IsSwapping, IsIntending, IsCapping, IsReceiving, IsConfirming}
 use Rattle.tree_laws.specs.declared.flight.InstallLeft.{InstallLeft}
@@ -22,9 +23,10 @@ use Rattle.tree_laws.specs.declared.flight.Confirm.{Confirm}
 use Rattle.tree_progress.specs.Weights.{weight, child_weight}
 use Rattle.tree_progress.specs.ToDo.{to_do}
 
--- less is left to repair in the tree t, by so much at least, and in every other tree as much as before
+-- less is left to repair in the tree t, by so much at least, and in every other tree as much as before; and t has one page more at most
 pub record Lowers (old new : State) (t : Tree) (by : ℕ) : Type 0 where
   pub here : to_do new t + by ≤ to_do old t
+  pub pages : tree_pages new t ≤ tree_pages old t + 1
   pub others : (u : Tree) → u ≢ t → to_do new u ≡ to_do old u
 
 -- more is left to repair in the tree t by so much at most, and in every other tree as much as before
@@ -63,6 +65,7 @@ SwapLowers = (m : Snapshot) (w : Forest) (t : Tree) (number : ℕ) (a : SwapRoot
 pub record Intends (old new : State) (t : Tree) (n : ℕ) : Type 0 where
   pub here : to_do new t + weight n ≤ to_do old t + child_weight false n
   pub small : n ≤ 3 → to_do new t + 1 ≤ to_do old t
+  pub pages : tree_pages new t ≤ tree_pages old t + 1
   pub others : (u : Tree) → u ≢ t → to_do new u ≡ to_do old u
 
 -- An index takes a child for its merging child

@@ -2,6 +2,7 @@ pub mod Weights
 pub mod ToDo
 pub mod Laws
 pub mod Steps
+pub mod Alone
 pub use Rattle.sled_nodes.specs as sled_nodes
 pub use Rattle.sled_store.specs as sled_store
 pub use Rattle.sled_model.specs as sled_model

@@ -2,9 +2,11 @@
 //!
 //! A call that comes to a page that is too long, to a small one, to one without a pointer or to a half-done merge repairs it first. What is
 //! left to repair is a number that each repair lowers: what each page weighs by how many entries it has, and a weight more for each page
-//! without a pointer and for each merge that is half done. It is to show that calls in flight do not undo each other's repairs for ever;
-//! of runs nothing is proved here yet. It is a function of the pages and the root alone: down from the root by first pointers, and on each
-//! level along `next`, as the contents of a tree are. On well-formed pages it is the sum over the chains of the forest.
+//! without a pointer and for each merge that is half done. It is a function of the pages and the root alone: down from the root by first
+//! pointers, and on each level along `next`, as the contents of a tree are. On well-formed pages it is the sum over the chains of the forest.
+//!
+//! So a call that is stepped alone does not repair for ever: it is decided or refused within a number of steps that the pages tell, from its
+//! begin on (`law_alone`) and from whatever stage it is at (`law_resumed`). Of steps of several calls in turn no such thing is proved here.
 //!
 //! - *A page of n entries*: nothing from 8 to 10, 2 for each entry below 8 and 1 for each above 10 (`weight`).
 //! - *The first page of a level*, which never merges: 1 for each entry above 10 (`first_weight`).
@@ -14,12 +16,14 @@
 //!
 //! Nothing is done here. A law is a function whose contract says what one change of a repair does to this number (`Lowers`): of every state
 //! whose pages are well formed, where the call knows at its stage what every call in flight knows there (`IsStage` of `tree_laws`). What
-//! is left to repair in other trees stays as it is. `law_step` puts them together: a step of a call in flight, from whichever stage.
+//! is left to repair in other trees stays as it is, and the tree has one page more at most. `law_step` puts them together: a step of a call
+//! in flight, from whichever stage.
 //!
 //! That the sums fall rests on the sizes: a page of more than 16 entries is split, one of 3 or fewer merges, and a half of 17 has more
 //! than 3. With sizes for which this does not hold, a split and a merge may undo each other for ever.
 #![tactic(auto)]
 
+ghost use Rattle.tree_progress.specs.Alone.{AloneLaw, ResumedLaw};
 ghost use Rattle.tree_progress.specs.Steps.{HalvesLaw, StepLaw};
 ghost use Rattle.tree_progress.specs.Laws.{LinkRaises, InstallLowers, PostLowers, SwapLowers, IntendLowers, CapLowers, ReceiveLowers, ConfirmLowers};
 
@@ -124,4 +128,26 @@ pub fn law_step()
 /// ```
 pub fn law_halves()
     ensures { HalvesLaw }
+{}
+
+/// Does nothing. Of a call on a key that begins on well-formed pages, half-done splits and merges included, and of no other, fewer steps in a
+/// row go on than the pages tell (`alone_steps`): what is left to repair in its tree and one more, times four more than twice the pages of the
+/// tree and what is left to repair. So, alone, it is decided or refused within that many steps.
+///
+/// ```
+/// law_alone(); // From here on a proof knows it.
+/// ```
+pub fn law_alone()
+    ensures { AloneLaw }
+{}
+
+/// Does nothing. Of a call on a key in flight, whatever its stage is and whatever other calls left half done, and of no other from then on,
+/// no more steps in a row go on than the pages tell (`resumed_steps`). So a call that is stepped alone from some moment on is decided or
+/// refused, though others changed pages that it had read.
+///
+/// ```
+/// law_resumed(); // From here on a proof knows it.
+/// ```
+pub fn law_resumed()
+    ensures { ResumedLaw }
 {}
