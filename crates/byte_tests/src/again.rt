@@ -46,23 +46,25 @@ pub fn is_node_again(alloc: Global, bytes: &[u8], behind: usize) -> bool {
     }
 }
 
+// Writes changes one behind the other: whether all were.
+fn are_written(changes: &[Change], bytes: &mut Vec<u8>) -> bool {
+    for change in changes {
+        if encode_change(change, bytes).is_err() {
+            return false;
+        }
+    }
+    true
+}
+
 /// How many changes bytes are, where all of these have the bytes again.
 pub fn many_again(alloc: Global, bytes: &[u8]) -> Option<usize> {
     let changes = decode_changes(alloc, bytes).ok()?;
     let mut again = Vec::new(alloc);
-    let mut is_written = true;
-    for change in &changes {
-        let encoded = encode_change(change, &mut again);
-        is_written = is_written && encoded.is_ok();
-        drop(encoded);
-    }
+    let is_same = are_written(changes.as_slice(), &mut again) && again.as_slice() == bytes;
+    drop(again);
     let count = changes.len();
     drop(changes);
-    if is_written && again.as_slice() == bytes {
-        Some(count)
-    } else {
-        None
-    }
+    is_same.then_some(count)
 }
 
 /// Why bytes are no changes.

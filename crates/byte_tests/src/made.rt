@@ -1,19 +1,17 @@
-//! Byte strings and nodes.
-use sled_nodes::{Data, IVec, Index, Leaf, Node, Pid, Result};
-use std::alloc::Global;
-
-pub fn string(alloc: Global, bytes: &[u8]) -> Result<IVec> {
-    IVec::from_slice(alloc, bytes)
-}
+//! Nodes.
+use sled_nodes::{Data, Index, Leaf, Node, Pid};
+use test_report::Report;
 
 /// A merging leaf from `a` on that has a pair at `a` and one at `b`.
-pub fn leaf(alloc: Global) -> Result<Node> {
-    let first = (string(alloc, b"a")?, string(alloc, b"1")?);
-    let second = (string(alloc, b"b")?, string(alloc, b"")?);
-    let leaf = Leaf::from_pairs(alloc, &[first, second])?;
-    Ok(Node {
-        lo: string(alloc, b"a")?,
-        hi: string(alloc, b"")?,
+pub fn leaf(report: &Report) -> Option<Node> {
+    let pairs = report.pair(b"a", b"1").zip(report.pair(b"b", b""))?;
+    let pairs = [pairs.0, pairs.1];
+    let leaf = report.keep(Leaf::from_pairs(report.alloc(), &pairs));
+    drop(pairs);
+    let ((lo, hi), leaf) = report.pair(b"a", b"").zip(leaf)?;
+    Some(Node {
+        lo,
+        hi,
         next: None,
         merging: true,
         merging_child: None,
@@ -22,13 +20,15 @@ pub fn leaf(alloc: Global) -> Result<Node> {
 }
 
 /// An index up to `m` that points to the pages 3 and 7, of which 7 is its merging child, and page 4 goes on where it ends.
-pub fn index(alloc: Global) -> Result<Node> {
-    let first = (string(alloc, b"")?, Pid(3));
-    let second = (string(alloc, b"h")?, Pid(7));
-    let index = Index::from_pairs(alloc, &[first, second])?;
-    Ok(Node {
-        lo: string(alloc, b"")?,
-        hi: string(alloc, b"m")?,
+pub fn index(report: &Report) -> Option<Node> {
+    let (first, second) = report.pair(b"", b"h")?;
+    let pointers = [(first, Pid(3)), (second, Pid(7))];
+    let index = report.keep(Index::from_pairs(report.alloc(), &pointers));
+    drop(pointers);
+    let ((lo, hi), index) = report.pair(b"", b"m").zip(index)?;
+    Some(Node {
+        lo,
+        hi,
         next: Some(Pid(4)),
         merging: false,
         merging_child: Some(Pid(7)),

@@ -6,142 +6,154 @@ mod again;
 mod made;
 
 use again::{is_change_again, is_node_again, many_again, refusal};
-use made::{index, leaf, string};
+use made::{index, leaf};
 use sled_bytes::{Change, encode_change, encode_given, encode_linked, encode_node, encode_rooted};
-use sled_nodes::{Link, Node, Pid, Result, Version};
+use sled_nodes::{Link, Node, Pid, Version};
+use std::fmt::{self, Display, Formatter, Write};
 use std::process::ExitCode;
+use test_report::Report;
+
+// Bytes, each by two digits behind a space.
+#[derive(Clone, Copy)]
+struct Digits<'a>(&'a [u8]);
+
+impl Display for Digits<'_> {
+    fn fmt<W: Write>(&self, f: &mut Formatter<W>) -> fmt::Result {
+        for byte in self.0 {
+            write!(f, " {byte:02x}")?;
+        }
+        Ok(())
+    }
+}
 
 // Prints the bytes of something, and whether they were read again.
-fn tell(rt: &HostRuntime, name: &str, bytes: &[u8], is_again: bool) {
-    let _ = print!(rt; "{name}:");
-    for byte in bytes {
-        let _ = print!(rt; " {byte:02x}");
-    }
-    let _ = println!(rt; "; read again: {is_again}");
+fn tell(report: &Report, name: &str, bytes: &[u8], is_again: bool) {
+    let bytes = Digits(bytes);
+    report.tell(format_args!("{name}:{bytes}; read again: {is_again}"));
 }
 
 // Tells of a change, and adds its bytes to those of all.
-fn tell_change(rt: &HostRuntime, all: &mut Vec<u8>, name: &str, change: Change) -> Result<()> {
-    let mut bytes = Vec::new(rt.alloc());
-    let encoded = encode_change(&change, &mut bytes);
+fn tell_change(report: &Report, all: &mut Vec<u8>, name: &str, change: Change) {
+    let mut bytes = Vec::new(report.alloc());
+    report.keep(encode_change(&change, &mut bytes));
     drop(change);
-    encoded?;
-    tell(
-        rt,
-        name,
-        bytes.as_slice(),
-        is_change_again(rt.alloc(), bytes.as_slice()),
-    );
-    all.extend_from_slice(bytes.as_slice())?;
-    Ok(())
+    let is_again = is_change_again(report.alloc(), bytes.as_slice());
+    tell(report, name, bytes.as_slice(), is_again);
+    report.keep(all.extend_from_slice(bytes.as_slice()));
+    drop(bytes);
 }
 
 // The same of a link, as the change of page 2 to version 9.
-fn tell_link(rt: &HostRuntime, all: &mut Vec<u8>, name: &str, link: Link) -> Result<()> {
-    tell_change(rt, all, name, Change::Linked(Pid(2), Version(9), link))
+fn tell_link(report: &Report, all: &mut Vec<u8>, name: &str, link: Link) {
+    tell_change(report, all, name, Change::Linked(Pid(2), Version(9), link));
 }
 
 // The same of a node, as what page 1 is given at version 258.
-fn tell_given(rt: &HostRuntime, all: &mut Vec<u8>, name: &str, node: Node) -> Result<()> {
-    tell_change(rt, all, name, Change::Given(Pid(1), Version(258), node))
+fn tell_given(report: &Report, all: &mut Vec<u8>, name: &str, node: Option<Node>) {
+    if let Some(node) = node {
+        tell_change(report, all, name, Change::Given(Pid(1), Version(258), node));
+    }
 }
 
 // Tells of a node by itself, behind which two bytes stand.
-fn tell_node(rt: &HostRuntime, name: &str, node: Node) -> Result<()> {
-    let mut bytes = Vec::new(rt.alloc());
-    let encoded = encode_node(&node, &mut bytes);
-    drop(node);
-    encoded?;
-    bytes.extend_from_slice(&[7, 7])?;
-    tell(
-        rt,
-        name,
-        bytes.as_slice(),
-        is_node_again(rt.alloc(), bytes.as_slice(), 2),
-    );
-    Ok(())
+fn tell_node(report: &Report, name: &str, node: Option<Node>) {
+    let mut bytes = Vec::new(report.alloc());
+    if let Some(node) = node {
+        report.keep(encode_node(&node, &mut bytes));
+        drop(node);
+    }
+    report.keep(bytes.extend_from_slice(&[7, 7]));
+    let is_again = is_node_again(report.alloc(), bytes.as_slice(), 2);
+    tell(report, name, bytes.as_slice(), is_again);
+    drop(bytes);
 }
 
-fn tell_links(rt: &HostRuntime, all: &mut Vec<u8>) -> Result<()> {
-    let (key, value) = (string(rt.alloc(), b"k")?, string(rt.alloc(), b"v")?);
-    tell_link(rt, all, "set", Link::Set(key, value))?;
-    let key = string(rt.alloc(), b"k")?;
-    tell_link(rt, all, "del", Link::Del(key))?;
-    tell_link(rt, all, "intention", Link::ParentMergeIntention(Pid(3)))?;
-    tell_link(rt, all, "confirm", Link::ParentMergeConfirm)?;
-    tell_link(rt, all, "cap", Link::ChildMergeCap)
+fn tell_links(report: &Report, all: &mut Vec<u8>) {
+    if let Some((key, value)) = report.pair(b"k", b"v") {
+        tell_link(report, all, "set", Link::Set(key, value));
+    }
+    if let Some(key) = report.bytes(b"k") {
+        tell_link(report, all, "del", Link::Del(key));
+    }
+    tell_link(report, all, "intention", Link::ParentMergeIntention(Pid(3)));
+    tell_link(report, all, "confirm", Link::ParentMergeConfirm);
+    tell_link(report, all, "cap", Link::ChildMergeCap);
 }
 
-fn tell_roots(rt: &HostRuntime, all: &mut Vec<u8>) -> Result<()> {
-    let name = string(rt.alloc(), b"ulm")?;
-    tell_change(rt, all, "rooted", Change::Rooted(name, Some(Pid(1))))?;
-    let name = string(rt.alloc(), b"")?;
-    tell_change(rt, all, "unrooted", Change::Rooted(name, None))
+// The same of a root.
+fn tell_root(report: &Report, all: &mut Vec<u8>, what: &str, name: &[u8], root: Option<Pid>) {
+    if let Some(name) = report.bytes(name) {
+        tell_change(report, all, what, Change::Rooted(name, root));
+    }
 }
 
-fn tell_numbers(rt: &HostRuntime, all: &mut Vec<u8>) -> Result<()> {
-    tell_change(rt, all, "freed", Change::Freed(Pid(65535)))?;
-    tell_change(rt, all, "begun", Change::Begun)?;
-    tell_change(rt, all, "sealed", Change::Sealed)?;
-    tell_change(rt, all, "marked", Change::Marked(u64::MAX))?;
-    tell_change(rt, all, "limited", Change::Limited(16, 32))
+fn tell_numbers(report: &Report, all: &mut Vec<u8>) {
+    tell_change(report, all, "freed", Change::Freed(Pid(65535)));
+    tell_change(report, all, "begun", Change::Begun);
+    tell_change(report, all, "sealed", Change::Sealed);
+    tell_change(report, all, "marked", Change::Marked(u64::MAX));
+    tell_change(report, all, "limited", Change::Limited(16, 32));
 }
 
-fn tell_changes(rt: &HostRuntime, all: &mut Vec<u8>) -> Result<()> {
-    tell_given(rt, all, "leaf", leaf(rt.alloc())?)?;
-    tell_given(rt, all, "index", index(rt.alloc())?)?;
-    tell_links(rt, all)?;
-    tell_roots(rt, all)?;
-    tell_numbers(rt, all)
+// Tells of all changes, and how many their bytes are together.
+fn tell_changes(report: &Report) {
+    let mut all = Vec::new(report.alloc());
+    tell_given(report, &mut all, "leaf", leaf(report));
+    tell_given(report, &mut all, "index", index(report));
+    tell_links(report, &mut all);
+    tell_root(report, &mut all, "rooted", b"ulm", Some(Pid(1)));
+    tell_root(report, &mut all, "unrooted", b"", None);
+    tell_numbers(report, &mut all);
+    let (len, count) = (all.len(), many_again(report.alloc(), all.as_slice()));
+    drop(all);
+    report.tell(format_args!("all: {len} bytes; changes read again: {count:?}"));
+}
+
+// The bytes of a node and of a link that are lent.
+fn add_lent(report: &Report, bytes: &mut Vec<u8>, node: &Node, link: &Link) {
+    report.keep(encode_given(bytes, Pid(1), Version(258), node));
+    report.keep(encode_linked(bytes, Pid(2), Version(9), link));
 }
 
 // The same bytes of parts that are lent.
-fn tell_lent(rt: &HostRuntime) -> Result<()> {
-    let mut bytes = Vec::new(rt.alloc());
-    let node = leaf(rt.alloc())?;
-    let encoded = encode_given(&mut bytes, Pid(1), Version(258), &node);
-    drop(node);
-    encoded?;
-    let link = Link::Del(string(rt.alloc(), b"k")?);
-    let encoded = encode_linked(&mut bytes, Pid(2), Version(9), &link);
-    drop(link);
-    encoded?;
-    encode_rooted(&mut bytes, b"ulm", Some(Pid(1)))?;
-    let count = many_again(rt.alloc(), bytes.as_slice());
-    tell(rt, "lent", bytes.as_slice(), count == Some(3));
-    Ok(())
+fn tell_lent(report: &Report) {
+    let mut bytes = Vec::new(report.alloc());
+    if let Some((node, key)) = leaf(report).zip(report.bytes(b"k")) {
+        let link = Link::Del(key);
+        add_lent(report, &mut bytes, &node, &link);
+        drop(node);
+        drop(link);
+    }
+    report.keep(encode_rooted(&mut bytes, b"ulm", Some(Pid(1))));
+    let count = many_again(report.alloc(), bytes.as_slice());
+    tell(report, "lent", bytes.as_slice(), count == Some(3));
+    drop(bytes);
 }
 
-fn tell_all(rt: &HostRuntime) -> Result<()> {
-    let mut all = Vec::new(rt.alloc());
-    let told = tell_changes(rt, &mut all);
-    let (len, count) = (all.len(), many_again(rt.alloc(), all.as_slice()));
-    let _ = println!(rt; "all: {len} bytes; changes read again: {count:?}");
-    told?;
-    tell_lent(rt)?;
-    tell_node(rt, "node", index(rt.alloc())?)
-}
+// Bytes that are no changes.
+const FLAWED: [&[u8]; 7] = [
+    &[],
+    &[5, 6, 0],
+    &[9],
+    &[3, 1, 0, 0, 0, 0, 0, 0],
+    &[4, 255, 255, 255, 255, 255, 255, 255, 255, 1],
+    &[4, 0, 0, 0, 0, 0, 0, 0, 0, 2],
+    &[2, 0, 0, 0, 0, 0, 0, 0, 0, 0, 0, 0, 0, 0, 0, 0, 0, 6],
+];
 
 // Tells why bytes are no changes.
-fn tell_refusal(rt: &HostRuntime, bytes: &[u8]) {
-    let why = refusal(rt.alloc(), bytes);
-    let _ = println!(rt; "{bytes:?}: {why}");
+fn tell_refusal(report: &Report, bytes: &[u8]) {
+    let why = refusal(report.alloc(), bytes);
+    report.tell(format_args!("{bytes:?}: {why}"));
 }
 
 fn main(rt: HostRuntime) -> ExitCode {
-    let told = tell_all(&rt);
-    tell_refusal(&rt, &[]);
-    tell_refusal(&rt, &[5, 6, 0]);
-    tell_refusal(&rt, &[9]);
-    tell_refusal(&rt, &[3, 1, 0, 0, 0, 0, 0, 0]);
-    tell_refusal(&rt, &[4, 255, 255, 255, 255, 255, 255, 255, 255, 1]);
-    tell_refusal(&rt, &[4, 0, 0, 0, 0, 0, 0, 0, 0, 2]);
-    tell_refusal(&rt, &[2, 0, 0, 0, 0, 0, 0, 0, 0, 0, 0, 0, 0, 0, 0, 0, 0, 6]);
-    match told {
-        Ok(()) => ExitCode::SUCCESS,
-        Err(e) => {
-            drop(e);
-            ExitCode::FAILURE
-        }
+    let report = Report::new(rt);
+    tell_changes(&report);
+    tell_lent(&report);
+    tell_node(&report, "node", index(&report));
+    for bytes in FLAWED {
+        tell_refusal(&report, bytes);
     }
+    report.status()
 }

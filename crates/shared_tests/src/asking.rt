@@ -142,12 +142,20 @@ pub fn reply_told(reply: &Reply) -> Told {
     }
 }
 
+/// What an error tells.
+pub fn error_told(error: &Error) -> Told {
+    match error {
+        Error::CollectionNotFound(_) => Told::NoSuchTree,
+        Error::Unsupported(_) => Told::Unsupported,
+        _ => Told::Other,
+    }
+}
+
 /// What an outcome tells, which is let go.
 pub fn outcome_told(outcome: Outcome) -> Told {
     let told = match &outcome {
         Outcome::Decided(reply) => reply_told(reply),
-        Outcome::Refused(Error::CollectionNotFound(_)) => Told::NoSuchTree,
-        Outcome::Refused(Error::Unsupported(_)) => Told::Unsupported,
+        Outcome::Refused(error) => error_told(error),
         Outcome::Moved => Told::Moved,
         Outcome::Yielded(key, _) => Told::Pair(number_of(key.as_ref())),
         Outcome::Abandoned => Told::Abandoned,
@@ -275,8 +283,7 @@ pub fn value_told(value: Result<Option<IVec>, Error>) -> Told {
     let told = match &value {
         Ok(Some(value)) => Told::Value(number_of(value.as_ref())),
         Ok(None) => Told::NoValue,
-        Err(Error::CollectionNotFound(_)) => Told::NoSuchTree,
-        Err(_) => Told::Other,
+        Err(error) => error_told(error),
     };
     drop(value);
     told

@@ -1,5 +1,5 @@
 //! Whole calls by their own names, and what came of them.
-use crate::asking::{Ask, Told, batch_of, batches_of, next_told, pairs_of, reply_told};
+use crate::asking::{Ask, Told, batch_of, batches_of, error_told, next_told, pairs_of, reply_told};
 use crate::beside::{Scene, Way};
 use sled_machine::shared::{Answer, CallError, CallResult, Question, reply_of};
 use sled_machine::{Next, Reply, Subscriber, Tree};
@@ -9,35 +9,33 @@ use std::sync::Wait;
 use std::sync::ledger::Ledger;
 
 // Why a call has no answer.
-fn error_told(e: CallError) -> Told {
-    let told = match &e {
-        CallError::Refused(Error::CollectionNotFound(_)) => Told::NoSuchTree,
-        CallError::Refused(Error::Unsupported(_)) => Told::Unsupported,
-        CallError::Refused(_) => Told::Other,
+fn why_told(why: CallError) -> Told {
+    let told = match &why {
+        CallError::Refused(error) => error_told(error),
         CallError::NoSuchSlot => Told::NoSuchSlot,
     };
-    drop(e);
+    drop(why);
     told
 }
 
 fn done_told(answer: CallResult<()>) -> Told {
     match answer {
         Ok(()) => Told::Done,
-        Err(e) => error_told(e),
+        Err(why) => why_told(why),
     }
 }
 
 fn number_told(answer: CallResult<u64>) -> Told {
     match answer {
         Ok(_) => Told::Number,
-        Err(e) => error_told(e),
+        Err(why) => why_told(why),
     }
 }
 
 fn flag_told(answer: CallResult<bool>) -> Told {
     match answer {
         Ok(flag) => Told::Flag(flag),
-        Err(e) => error_told(e),
+        Err(why) => why_told(why),
     }
 }
 
@@ -52,7 +50,7 @@ fn popped_told(answer: CallResult<Option<(IVec, IVec)>>) -> Told {
             drop(pair);
             told
         }
-        Err(e) => error_told(e),
+        Err(why) => why_told(why),
     }
 }
 
@@ -62,14 +60,14 @@ fn tree_told(answer: CallResult<Tree>) -> Told {
             drop(tree);
             Told::Tree
         }
-        Err(e) => error_told(e),
+        Err(why) => why_told(why),
     }
 }
 
 fn subscriber_told(answer: CallResult<Subscriber>) -> Told {
     match answer {
         Ok(subscriber) => Told::Subscriber(subscriber.0),
-        Err(e) => error_told(e),
+        Err(why) => why_told(why),
     }
 }
 
@@ -83,7 +81,7 @@ fn event_told(answer: CallResult<Option<Next>>) -> Told {
             drop(next);
             told
         }
-        Err(e) => error_told(e),
+        Err(why) => why_told(why),
     }
 }
 
@@ -94,7 +92,7 @@ fn replied_told(answer: CallResult<Reply>) -> Told {
             drop(reply);
             told
         }
-        Err(e) => error_told(e),
+        Err(why) => why_told(why),
     }
 }
 

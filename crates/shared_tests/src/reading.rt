@@ -1,5 +1,5 @@
 //! Reads under one lock, what came of them, and the same reads of a plain map.
-use crate::asking::{Ask, Told, number_of, value_told};
+use crate::asking::{Ask, Told, error_told, number_of, value_told};
 use crate::beside::{Scene, Way};
 use crate::replay::{Plain, has_just, stands};
 use sled_machine::shared::{Answer, Collections, Names, Pairs, Question, Read};
@@ -9,20 +9,17 @@ use std::process::Abort;
 use std::sync::Wait;
 use std::sync::ledger::Ledger;
 
-// Why a read was refused.
-fn error_told(e: Error) -> Told {
-    let told = match &e {
-        Error::CollectionNotFound(_) => Told::NoSuchTree,
-        _ => Told::Other,
-    };
-    drop(e);
+// Why a read was refused. The error is let go.
+fn refused_told(error: Error) -> Told {
+    let told = error_told(&error);
+    drop(error);
     told
 }
 
 fn flag_told(answer: Result<bool, Error>) -> Told {
     match answer {
         Ok(flag) => Told::Flag(flag),
-        Err(e) => error_told(e),
+        Err(error) => refused_told(error),
     }
 }
 
@@ -36,14 +33,14 @@ fn pair_told(answer: Result<Option<(IVec, IVec)>, Error>) -> Told {
             drop(pair);
             told
         }
-        Err(e) => error_told(e),
+        Err(error) => refused_told(error),
     }
 }
 
 fn len_told(answer: Result<usize, Error>) -> Told {
     match answer {
         Ok(count) => Told::Pairs(count as u64),
-        Err(e) => error_told(e),
+        Err(error) => refused_told(error),
     }
 }
 
@@ -58,7 +55,7 @@ fn page_told(answer: Result<Pairs, Error>) -> Told {
             drop(page);
             Told::Pairs(number)
         }
-        Err(e) => error_told(e),
+        Err(error) => refused_told(error),
     }
 }
 
@@ -69,7 +66,7 @@ fn names_told(answer: Result<Names, Error>) -> Told {
             drop(names);
             Told::Pairs(count as u64)
         }
-        Err(e) => error_told(e),
+        Err(error) => refused_told(error),
     }
 }
 
@@ -83,7 +80,7 @@ fn export_told(answer: Result<Collections, Error>) -> Told {
             drop(all);
             Told::Pairs(pairs as u64)
         }
-        Err(e) => error_told(e),
+        Err(error) => refused_told(error),
     }
 }
 
