@@ -24,8 +24,6 @@ mod laws;
 mod pair;
 mod record;
 mod system;
-#[cfg(test)]
-mod tests;
 
 pub use host::HostFile;
 pub use laws::law_honest;

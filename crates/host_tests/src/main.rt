@@ -1,0 +1,119 @@
+//! The two files of a store, as the operating system keeps them: what was written is read at the next opening, a file is read until it is
+//! changed, a store is opened once, and what is no store is refused. It prints what came of each; `stdout` has what should have come.
+#![tactic(auto)]
+
+mod act;
+
+use act::Act;
+use sled_host::{HostError, Opening, Pair, open_pair};
+use std::fs;
+use std::io::{self, ErrorKind};
+use std::os::unix::fs::symlink;
+
+const USUAL: Opening = Opening {
+    creates: true,
+    needs_lock: true,
+};
+
+const AS_IS: Opening = Opening {
+    creates: false,
+    needs_lock: true,
+};
+
+// How an opening came out.
+fn word_of(opened: &Result<Pair, HostError>) -> &'static str {
+    match opened {
+        Ok(pair) if pair.is_locked => "opened and locked",
+        Ok(_) => "opened",
+        Err(HostError::Locked) => "open elsewhere",
+        Err(HostError::NotAFolder) => "no folder",
+        Err(HostError::NotAFile) => "no file",
+        Err(HostError::Io(error)) if error.kind() == ErrorKind::NotFound => "not found",
+        Err(_) => "refused",
+    }
+}
+
+// Prints how an opening comes out. The files are let go.
+fn tell_opening(rt: &HostRuntime, path: &str, opening: Opening) {
+    let opened = open_pair(rt, path, opening);
+    let _ = println!(rt; "{path}: {}", word_of(&opened));
+    drop(opened);
+}
+
+// Opens a store, does this with its first file one after the other, prints how many bytes the second has, and lets both files go.
+fn act_on(rt: &HostRuntime, path: &str, opening: Opening, acts: &[Act<'_>]) {
+    let mut opened = open_pair(rt, path, opening);
+    let _ = println!(rt; "{path}: {}", word_of(&opened));
+    if let Ok(pair) = &mut opened {
+        for act in acts {
+            act.run(rt, &mut pair.first);
+        }
+        Act::Len.run(rt, &mut pair.second);
+    }
+    drop(opened);
+}
+
+// What was written is read at the next opening, and so is what a cut leaves.
+fn tell_written(rt: &HostRuntime) {
+    let fill = [
+        Act::Tell,
+        Act::Put(0, b"abcdef"),
+        Act::Put(4, b"xyz"),
+        Act::Len,
+    ];
+    act_on(rt, "written", USUAL, &fill);
+    act_on(rt, "written", AS_IS, &[Act::Tell, Act::Cut(2)]);
+    act_on(rt, "written", AS_IS, &[Act::Tell]);
+}
+
+// A file is read until it is changed. Its length is known, and it can be changed again.
+fn tell_changed(rt: &HostRuntime) {
+    let acts = [
+        Act::Put(0, b"abcdef"),
+        Act::Tell,
+        Act::Len,
+        Act::Put(6, b"g"),
+    ];
+    act_on(rt, "changed", USUAL, &acts);
+}
+
+// A store is opened once, as long as one of its files is held.
+fn tell_once(rt: &HostRuntime) {
+    match open_pair(rt, "once", USUAL) {
+        Ok(Pair { first, second, .. }) => {
+            tell_opening(rt, "once", USUAL);
+            drop(first);
+            tell_opening(rt, "once", USUAL);
+            drop(second);
+        }
+        Err(error) => drop(error),
+    }
+    tell_opening(rt, "once", USUAL);
+}
+
+// Puts a folder, with a file in it, where a store could be.
+fn make_other(rt: &HostRuntime) -> io::Result<()> {
+    fs::create_dir(rt, "other")?;
+    fs::write(rt, "other/kept", b"kept".as_slice())
+}
+
+// What is no store is refused.
+fn tell_other(rt: &HostRuntime) -> io::Result<()> {
+    tell_opening(rt, "other", AS_IS);
+    make_other(rt)?;
+    tell_opening(rt, "other", AS_IS);
+    tell_opening(rt, "other/kept", USUAL);
+    fs::create_dir(rt, "other/log.0")?;
+    tell_opening(rt, "other", USUAL);
+    fs::remove_dir(rt, "other/log.0")?;
+    symlink(rt, "kept", "other/log.1")?;
+    tell_opening(rt, "other", USUAL);
+    Ok(())
+}
+
+fn main(rt: HostRuntime) -> io::Result<()> {
+    tell_written(&rt);
+    tell_changed(&rt);
+    tell_once(&rt);
+    tell_other(&rt)
+}
