@@ -123,8 +123,14 @@ impl Case {
         let disks = self.disks(start)?;
         match FilePages::open(start.alloc, disks.0, disks.1) {
             Ok(store) => Ok(Some(run_store(store, start.run()?, self.script)?)),
-            Err(OpenError::Disk(_)) => Ok(None),
-            Err(e) => Err(Trouble::Closed(e)),
+            Err(refused) => {
+                let why = refused.error;
+                drop(refused);
+                match why {
+                    OpenError::Disk(_) => Ok(None),
+                    e => Err(Trouble::Closed(e)),
+                }
+            }
         }
     }
 }

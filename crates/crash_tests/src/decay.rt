@@ -63,13 +63,24 @@ fn found(start: &Start, store: Store) -> Result<Opened> {
     Ok(Opened::Blank)
 }
 
+// What a refusal of a pair is.
+fn refused_as(why: OpenError) -> Result<Opened> {
+    match why {
+        OpenError::NoMemory => Err(Trouble::NoMemory),
+        OpenError::Disk(e) => Err(Trouble::Disk(e)),
+        _ => Ok(Opened::Refused),
+    }
+}
+
 // What a pair is opened as.
 fn open_as(start: &Start, disks: Disks) -> Result<Opened> {
     match FilePages::open(start.alloc, disks.0, disks.1) {
         Ok(store) => found(start, store),
-        Err(OpenError::NoMemory) => Err(Trouble::NoMemory),
-        Err(OpenError::Disk(e)) => Err(Trouble::Disk(e)),
-        Err(_) => Ok(Opened::Refused),
+        Err(refused) => {
+            let why = refused.error;
+            drop(refused);
+            refused_as(why)
+        }
     }
 }
 

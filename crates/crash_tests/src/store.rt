@@ -20,7 +20,11 @@ pub type Disks = (MemoryDisk, MemoryDisk);
 pub fn open_store(alloc: Global, disks: Disks) -> Result<Store> {
     match FilePages::open(alloc, disks.0, disks.1) {
         Ok(store) => Ok(store),
-        Err(e) => Err(Trouble::Closed(e)),
+        Err(refused) => {
+            let why = refused.error;
+            drop(refused);
+            Err(Trouble::Closed(why))
+        }
     }
 }
 

@@ -3,7 +3,7 @@ use sled_disk::DiskError;
 use sled_files::OpenError;
 use sled_nodes::Error;
 
-/// Why what a crash left was not opened. No contract says what a refused opening leaves of the files.
+/// Why what a crash left was not opened.
 #[derive(Debug, Drop)]
 pub enum Lost {
     /// There was no memory for the steps.

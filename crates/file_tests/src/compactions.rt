@@ -68,14 +68,19 @@ fn tell_again(report: &Report, store: FilePages<MemoryDisk>) {
     match FilePages::open(report.alloc(), first, second) {
         Ok(store) => {
             report.tell(format_args!(
-                "again: recovered {}, mark {}, rooted {}",
+                "again: recovered {}, mark {}, rooted {}, a snapshot of {} bytes, failed {}",
                 store.was_recovered(),
                 store.mark(),
-                store.root(b"a").is_some()
+                store.root(b"a").is_some(),
+                store.stats().snapshot,
+                store.failed()
             ));
             drop(store);
         }
-        Err(e) => report.tell(format_args!("again: {e}")),
+        Err(refused) => {
+            report.tell(format_args!("again: {}", refused.error));
+            drop(refused);
+        }
     }
 }
 

@@ -36,7 +36,7 @@ fn files(
     let mut first = empty(alloc, first_refused)?;
     let second = empty(alloc, second_refused)?;
     let gate = begin_file(alloc, &mut first, generation, &[])?;
-    Ok(TwoFiles::new(alloc, first, second, false, gate, generation))
+    Ok(TwoFiles::new(alloc, first, second, false, gate, 0, generation))
 }
 
 // Tells how long the log is after each of some calls, and whether a disk refused one.

@@ -1,6 +1,6 @@
 //! Two files are opened as a store, or told why not.
 use sled_disk::{MemoryDisk, Result};
-use sled_files::{FilePages, begin_file};
+use sled_files::{FilePages, NotOpened, begin_file};
 use sled_log::{append, block_of};
 use sled_store::Pages;
 use std::alloc::Global;
@@ -94,7 +94,10 @@ fn tell_opening(
                 ));
                 drop(store);
             }
-            Err(e) => report.tell(format_args!("{words}: {e}")),
+            Err(refused) => {
+                report.tell(format_args!("{words}: {}", refused.error));
+                drop(refused);
+            }
         },
         (first, second) => {
             drop(first);
@@ -120,6 +123,22 @@ fn refusing(alloc: Global) -> Result<MemoryDisk> {
     let mut disk = of_bytes(alloc, &[])?;
     disk.refuse_at(&[1])?;
     Ok(disk)
+}
+
+// Opens two disks of which one refuses a call, and the same two again.
+fn tell_twice(report: &Report, first: MemoryDisk, second: MemoryDisk) {
+    match FilePages::open(report.alloc(), first, second) {
+        Ok(store) => drop(store),
+        Err(refused) => {
+            let NotOpened {
+                error,
+                first,
+                second,
+            } = refused;
+            report.tell(format_args!("a disk refuses a call: {error}"));
+            tell_opening(report, "the same disks again", Ok(first), Ok(second));
+        }
+    }
 }
 
 // Tells of files with these changes.
@@ -216,10 +235,11 @@ pub fn tell(report: &Report) {
         of_bytes(alloc, &[]),
         of_bytes(alloc, b"a text of somebody's, no store"),
     );
-    tell_opening(
-        report,
-        "a disk refuses a call",
-        of_bytes(alloc, &[]),
-        refusing(alloc),
-    );
+    match (of_bytes(alloc, &[]), refusing(alloc)) {
+        (Ok(first), Ok(second)) => tell_twice(report, first, second),
+        (first, second) => {
+            drop(first);
+            drop(second);
+        }
+    }
 }

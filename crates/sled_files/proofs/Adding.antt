@@ -12,10 +12,14 @@ use Rattle.sled_bytes.specs.Reading.{changes_of}
 use Rattle.sled_bytes.proofs.Again.{changes_again}
 use Rattle.sled_files.specs.Change.{Durable, changed, changed_all, nothing_yet, AreAdded}
 use Rattle.sled_files.specs.Header.{header}
-use Rattle.sled_files.specs.Standing.{joined, all_changes, StandsFor, StandsAt, IsBlank, IsOlder}
+use Rattle.sled_files.specs.Standing.{joined, all_changes, HasChanges, OfGeneration, StandsFor, StandsAt, IsBlank, IsOlder}
 use Rattle.sled_files.specs.Pending.{Spells}
 use Rattle.sled_files.specs.Files.{AreForEither}
 use Rattle.sled_files.proofs.OfStore.{of_both}
+
+-- a file of a store is one whatever its changes are
+abbrev pub of_generation : {bytes : List ℕ} {generation : ℕ} {changes : List Change} → HasChanges bytes generation changes → OfGeneration bytes generation
+of_generation has = record { fits = has.fits; first = has.first; others = has.others; log = has.log }
 
 joined_swap : (x : Result (List Change) Flaw) → joined x (Ok []) ≡ joined (Ok []) x
 joined_swap (Ok front) = ap (λ (l : List Change). Ok l) (append-nil front)
@@ -78,5 +82,5 @@ module _ {one : List ℕ} {gate generation : ℕ} {d : Durable} (at : StandsAt o
   before_or_after block is c other behind (inr log) = inr (record { generation = generation; which = inl (record { stands = stands_more at.stands payload changes c (says spells) added log; behind = behind }) })
 
   -- once it is added
-  pub stands_after : (longer : List ℕ) (place : ℕ) → IsLog digest longer (payloads at.stands ++ payload ∷ []) place → StandsAt longer place generation (changed_all changes d)
+  abbrev pub stands_after : (longer : List ℕ) (place : ℕ) → IsLog digest longer (payloads at.stands ++ payload ∷ []) place → StandsAt longer place generation (changed_all changes d)
   stands_after longer place log = record { stands = stands_more at.stands payload changes longer (says spells) added (log_read digest_small log); log = log }

@@ -9,7 +9,7 @@ use Rattle.sled_log.proofs.ReadingLemmas.{digest_small, log_read}
 use Rattle.sled_bytes.specs.declared.change.Change.{Change}
 use Rattle.sled_files.specs.Change.{Durable, changed_all, nothing_yet}
 use Rattle.sled_files.specs.Header.{header}
-use Rattle.sled_files.specs.Standing.{StandsFor, StandsAt, IsBlank, IsBegun}
+use Rattle.sled_files.specs.Standing.{StandsFor, StandsWith, IsBlank, IsBegun}
 use Rattle.sled_files.specs.theory.Begun.{IsFirstBlock}
 use Rattle.sled_files.specs.Laws.{NewStoreLasts}
 use Rattle.sled_files.proofs.Adding.{alone}
@@ -23,14 +23,14 @@ pub closed_or_not : (file c : List ℕ) (generation : ℕ) (d : Durable) → Tor
 closed_or_not [] c generation d torn = inr (inl (inl (omega (arith, torn.no_longer))))
 closed_or_not (x ∷ rest) c generation d torn = ⊎_elim (λ is. inl is) (λ is. inr (inl (inr (ap (log_of digest) is ∙ log_read digest_small (gate_first (x ∷ rest)))))) (torn.single refl (omega arith))
 
-module _ {block : List ℕ} {generation : ℕ} {changes : List Change} (first : IsFirstBlock block generation changes) where
-  abbrev stands_new : (c : List ℕ) → log_of digest c ≡ Ok ((header generation ++ first.payload) ∷ []) → StandsFor c generation (changed_all changes nothing_yet)
-  stands_new c log = record { changes = changes; has = record { fits = first.fits; first = first.payload; others = []; log = log; decoded = alone first.spells }; makes = refl; made = first.made }
+module _ {block payload : List ℕ} {generation : ℕ} {changes : List Change} (first : IsFirstBlock block payload generation changes) where
+  abbrev stands_new : (c : List ℕ) → log_of digest c ≡ Ok ((header generation ++ payload) ∷ []) → StandsFor c generation (changed_all changes nothing_yet)
+  stands_new c log = record { changes = changes; has = record { fits = first.fits; first = payload; others = []; log = log; decoded = alone first.spells }; makes = refl; made = first.made }
 
   module _ (file mid : List ℕ) (written_is : mid ≡ written 0 (closed ∷ []) file) where
     -- the first block is one for the file behind its closed gate
     abbrev pub block_for_first : IsBlockFor mid 0 block
-    block_for_first = record { digest = digest; small = digest_small; payloads = []; log = record { fit = tt; rest = drop 1 file; file_is = written_is; gate_is = refl }; payload = header generation ++ first.payload; fits = first.few; bytes_are = first.bytes_are }
+    block_for_first = record { digest = digest; small = digest_small; payloads = []; log = record { fit = tt; rest = drop 1 file; file_is = written_is; gate_is = refl }; payload = header generation ++ payload; fits = first.few; bytes_are = first.bytes_are }
 
     -- what a crash leaves while that block is added
     pub begun_or_not : (c : List ℕ) → IsBeforeOrAfter block_for_first c → IsBegun file generation (changed_all changes nothing_yet) c
@@ -38,12 +38,12 @@ module _ {block : List ℕ} {generation : ℕ} {changes : List Change} (first : 
     begun_or_not c (inr log) = inr (inr (stands_new c log))
 
     -- once it is added
-    stands_begun : (new : List ℕ) → IsLog digest new ((header generation ++ first.payload) ∷ []) (0 + length block) → StandsAt new (length block) generation (changed_all changes nothing_yet)
-    stands_begun new log = record { stands = stands_new new (log_read digest_small log); log = subst (λ (n : ℕ). IsLog digest new ((header generation ++ first.payload) ∷ []) n) (omega arith) log }
+    stands_begun : (new : List ℕ) → IsLog digest new ((header generation ++ payload) ∷ []) (0 + length block) → StandsWith new (length block) (length payload) generation (changed_all changes nothing_yet)
+    stands_begun new log = record { at = record { stands = stands_new new (log_read digest_small log); log = subst (λ (n : ℕ). IsLog digest new ((header generation ++ payload) ∷ []) n) (omega arith) log }; snapshot_is = refl }
 
 pub stands_on_ok : {T E : Type 0} (r : Result T E) (file mid new block : List ℕ) → mid ≡ written 0 (closed ∷ []) file → OnOk r ((b : IsBlockFor mid 0 block) → IsLog b.digest new (b.payloads ++ b.payload ∷ []) (0 + length block))
-    → OnOk r ((generation : ℕ) (changes : List Change) → IsFirstBlock block generation changes → StandsAt new (length block) generation (changed_all changes nothing_yet))
-stands_on_ok (Ok x) file mid new block is next = λ generation changes first. stands_begun first file mid is new (next (block_for_first first file mid is))
+    → OnOk r ((payload : List ℕ) (generation : ℕ) (changes : List Change) → IsFirstBlock block payload generation changes → StandsWith new (length block) (length payload) generation (changed_all changes nothing_yet))
+stands_on_ok (Ok x) file mid new block is next = λ payload generation changes first. stands_begun first file mid is new (next (block_for_first first file mid is))
 stands_on_ok (Err e) file mid new block is next = next
 
 -- a write that begins within the file ends within it

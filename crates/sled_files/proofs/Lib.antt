@@ -5,8 +5,9 @@ pub mod Finishing
 pub mod Headers
 pub mod Finding
 pub mod Making
-pub mod Choosing
 pub mod Adding
+pub mod Choosing
+pub mod Flawed
 pub mod Beginning
 pub mod Pairs
 pub mod Grows
@@ -22,4 +23,5 @@ pub mod Calls
 pub mod Flushing
 pub mod Readying
 pub mod Meanwhile
+pub mod Refused
 pub mod Reopening

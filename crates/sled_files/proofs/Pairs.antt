@@ -7,9 +7,9 @@ use Rattle.sled_log.specs.Append.{behind_gate, IsBeforeOrAfter}
 use Rattle.sled_log.proofs.Moments.{begun}
 use Rattle.sled_bytes.specs.declared.change.Change.{Change}
 use Rattle.sled_files.specs.Change.{Durable, changed_all, AreAdded}
-use Rattle.sled_files.specs.Standing.{HasChanges, StandsFor, StandsAt, IsBlank, IsOlder, IsBegun, AreFor}
+use Rattle.sled_files.specs.Standing.{OfGeneration, StandsFor, StandsAt, IsBlank, IsOlder, IsBegun, AreFor}
 use Rattle.sled_files.specs.Pending.{Spells}
-use Rattle.sled_files.proofs.Adding.{block_for, before_or_after}
+use Rattle.sled_files.proofs.Adding.{block_for, before_or_after, of_generation}
 use Rattle.sled_files.specs.Files.{Files, picked, one_of, other_of, IsReady, KeepsTime, LeavesPairs, AreForEither}
 
 -- it does not matter which of two files is the first
@@ -26,7 +26,7 @@ begun_beside {one} {other} {gate} {generation} {d} {e} at behind next below a b 
 begun_beside {one} {other} {gate} {generation} {d} {e} at behind next below a b is (inr (inl blank)) = inl (record { generation = generation; which = inl (record { stands = subst (λ (c : List ℕ). StandsFor c generation d) (sym is) at.stands; behind = inl blank }) })
 begun_beside {one} {other} {gate} {generation} {d} {e} at behind next below a b is (inr (inr stands)) = inr (record {
   generation = next;
-  which = inr (record { stands = stands; behind = inr (record { earlier = generation; below = below; changes = at.stands.changes; has = subst (λ (c : List ℕ). HasChanges c generation at.stands.changes) (sym is) at.stands.has }) });
+  which = inr (record { stands = stands; behind = inr (record { earlier = generation; below = below; is = subst (λ (c : List ℕ). OfGeneration c generation) (sym is) (of_generation at.stands.has) }) });
 })
 
 -- one of two, where both have what is said
@@ -106,30 +106,38 @@ module _ {D : Type 0} (seen : D → List ℕ) (moment : D → ℕ) (left_since :
       (λ a b is started. begun_beside ready.stands ready.behind next below a b is started)
       (either_swapped d e)
 
-  of_parts : (is_second : Bool) (first second : D) (gate generation : ℕ) (d : Durable) → IsSteady (picked is_second first second) → IsSteady (picked is_second second first) → StandsAt (seen (picked is_second first second)) gate generation d → IsBlank (seen (picked is_second second first)) ⊎ IsOlder generation (seen (picked is_second second first))
-      → IsReady seen may_leave (record { first = first; second = second; is_second = is_second; gate = gate; generation = generation; failed = false }) d
-  of_parts true first second gate generation d one other at behind = record { sound = refl; first_only = other; second_only = one; stands = at; behind = behind }
-  of_parts false first second gate generation d one other at behind = record { sound = refl; first_only = one; second_only = other; stands = at; behind = behind }
+  of_parts : (is_second : Bool) (first second : D) (gate snapshot generation : ℕ) (d : Durable) → IsSteady (picked is_second first second) → IsSteady (picked is_second second first) → (at : StandsAt (seen (picked is_second first second)) gate generation d) → length at.stands.has.first ≡ snapshot → IsBlank (seen (picked is_second second first)) ⊎ IsOlder generation (seen (picked is_second second first))
+      → IsReady seen may_leave (record { first = first; second = second; is_second = is_second; gate = gate; snapshot = snapshot; generation = generation; failed = false }) d
+  of_parts true first second gate snapshot generation d one other at begins behind = record { sound = refl; first_only = other; second_only = one; stands = at; begins = begins; behind = behind }
+  of_parts false first second gate snapshot generation d one other at begins behind = record { sound = refl; first_only = one; second_only = other; stands = at; begins = begins; behind = behind }
 
   turned : (is_second : Bool) (first second : D) → picked (not is_second) first second ≡ picked is_second second first
   turned true first second = refl
   turned false first second = refl
 
+  with_turned : (is_second : Bool) (first second : D) (gate snapshot generation : ℕ) (e : Durable) (at : StandsAt (seen (picked is_second second first)) gate generation e) → length at.stands.has.first ≡ snapshot
+      → (it : StandsAt (seen (picked (not is_second) first second)) gate generation e) × (length it.stands.has.first ≡ snapshot)
+  with_turned true first second gate snapshot generation e at begins = (at, begins)
+  with_turned false first second gate snapshot generation e at begins = (at, begins)
+
   -- once a block was added to the file that counts
-  pub once_added : (old : Files D) (first second : D) (gate : ℕ) (d e : Durable) → IsReady seen may_leave old d → picked old.is_second second first ≡ other_of old → IsSteady (picked old.is_second first second) → StandsAt (seen (picked old.is_second first second)) gate old.generation e
-      → IsReady seen may_leave (record { first = first; second = second; is_second = old.is_second; gate = gate; generation = old.generation; failed = false }) e
-  once_added old first second gate d e ready same steady at =
-      of_parts old.is_second first second gate old.generation e steady
+  pub once_added : (old : Files D) (first second : D) (gate : ℕ) (d e : Durable) → IsReady seen may_leave old d → picked old.is_second second first ≡ other_of old → IsSteady (picked old.is_second first second) → (at : StandsAt (seen (picked old.is_second first second)) gate old.generation e) → length at.stands.has.first ≡ old.snapshot
+      → IsReady seen may_leave (record { first = first; second = second; is_second = old.is_second; gate = gate; snapshot = old.snapshot; generation = old.generation; failed = false }) e
+  once_added old first second gate d e ready same steady at begins =
+      of_parts old.is_second first second gate old.snapshot old.generation e steady
       (subst IsSteady (sym same) (other_only old d ready))
       at
+      begins
       (subst (λ (x : D). IsBlank (seen x) ⊎ IsOlder old.generation (seen x)) (sym same) ready.behind)
 
   -- once the other file was begun anew
-  pub once_begun : (old : Files D) (first second : D) (gate next : ℕ) (d e : Durable) → IsReady seen may_leave old d → old.generation < next → picked old.is_second first second ≡ one_of old → IsSteady (picked old.is_second second first) → StandsAt (seen (picked old.is_second second first)) gate next e
-      → IsReady seen may_leave (record { first = first; second = second; is_second = not old.is_second; gate = gate; generation = next; failed = false }) e
-  once_begun old first second gate next d e ready below same steady at =
-      of_parts (not old.is_second) first second gate next e
+  pub once_begun : (old : Files D) (first second : D) (gate snapshot next : ℕ) (d e : Durable) → IsReady seen may_leave old d → old.generation < next → picked old.is_second first second ≡ one_of old → IsSteady (picked old.is_second second first) → (at : StandsAt (seen (picked old.is_second second first)) gate next e) → length at.stands.has.first ≡ snapshot
+      → IsReady seen may_leave (record { first = first; second = second; is_second = not old.is_second; gate = gate; snapshot = snapshot; generation = next; failed = false }) e
+  once_begun old first second gate snapshot next d e ready below same steady at begins =
+      let turned_at = with_turned old.is_second first second gate snapshot next e at begins in
+      of_parts (not old.is_second) first second gate snapshot next e
       (subst IsSteady (sym (turned old.is_second first second)) steady)
       (subst IsSteady (sym (turned old.is_second second first)) (subst IsSteady (sym same) (one_only old d ready)))
-      (subst (λ (x : D). StandsAt (seen x) gate next e) (sym (turned old.is_second first second)) at)
-      (inr (record { earlier = old.generation; below = below; changes = ready.stands.stands.changes; has = subst (λ (x : D). HasChanges (seen x) old.generation ready.stands.stands.changes) (sym (turned old.is_second second first)) (subst (λ (x : D). HasChanges (seen x) old.generation ready.stands.stands.changes) (sym same) ready.stands.stands.has) }))
+      turned_at.0
+      turned_at.1
+      (inr (record { earlier = old.generation; below = below; is = subst (λ (x : D). OfGeneration (seen x) old.generation) (sym (turned old.is_second second first)) (subst (λ (x : D). OfGeneration (seen x) old.generation) (sym same) (of_generation ready.stands.stands.has)) }))

@@ -138,17 +138,21 @@ pub refused_openable : (first second : List ℕ) (e : OpenError) → is_why_clos
 refused_openable first second NoMemory why are = tt
 refused_openable first second NotAStore why are = absurd (none_or_one why.0 are)
 refused_openable first second (OtherFormat other) why are = absurd (none_or_one why.0 are)
-refused_openable first second (Decayed place) why are = absurd (none_or_one why are)
+refused_openable first second (Decayed place) why are = absurd (none_or_one why.0 are)
 refused_openable first second (Disk e) why are = tt
 
 pub opens_again : OpensAgain
 opens_again asked limits s first second l e why = refused_openable first second e why (inr (l.durable, l.stands))
 
--- a crash while files are opened that are right for a store
-pub lasts_while : {D : Type 0} {seen : D → List ℕ} {moment : D → ℕ} {left_since : D → ℕ → List ℕ → Type 0} {may_leave : D → List ℕ → Type 0} (first second : D) (files : Files D) → LeavesWhileOpened seen moment left_since may_leave first second files → may_leave first (seen first) → may_leave second (seen second)
-    → (asked : List ℕ) (limits : Limits) (s : Store) → EachPair (may_leave first) (may_leave second) (IsLasting asked limits s) → EachPair (left_since files.first (moment first)) (left_since files.second (moment second)) (IsLasting asked limits s)
-lasts_while {D} {seen} {moment} {left_since} {may_leave} first second files w stays also asked limits s lasts = record { each = λ a b x y. go a b (w.first_is a x) (w.second_is b y) }
-  where
-    go : (a b : List ℕ) → may_leave first a ⊎ (AreBlank (seen first) (seen second) × IsBegun (seen first) 1 nothing_yet a) → may_leave second b → IsLasting asked limits s a b
-    go a b (inl before) y = lasts.each a b before y
-    go a b (inr begun) y = absurd (blanks_or_store begun.0 (lasts.each (seen first) (seen second) stays also).stands)
+-- a crash while files are opened that are right for a store, or once they were refused
+module _ {D : Type 0} {seen : D → List ℕ} {moment : D → ℕ} {left_since : D → ℕ → List ℕ → Type 0} {may_leave : D → List ℕ → Type 0} (first second one two : D) (w : LeavesWhileOpened seen moment left_since may_leave first second one two)
+    (stays : may_leave first (seen first)) (also : may_leave second (seen second)) (asked : List ℕ) (limits : Limits) (s : Store) (lasts : EachPair (may_leave first) (may_leave second) (IsLasting asked limits s)) where
+  lasts_with : (a b : List ℕ) → may_leave first a ⊎ (AreBlank (seen first) (seen second) × IsBegun (seen first) 1 nothing_yet a) → may_leave second b → IsLasting asked limits s a b
+  lasts_with a b (inl before) y = lasts.each a b before y
+  lasts_with a b (inr begun) y = absurd (blanks_or_store begun.0 (lasts.each (seen first) (seen second) stays also).stands)
+
+  pub lasts_while : EachPair (left_since one (moment first)) (left_since two (moment second)) (IsLasting asked limits s)
+  lasts_while = record { each = λ a b x y. lasts_with a b (w.first_is a x) (w.second_is b y) }
+
+  pub lasts_then : EachPair (may_leave one) (may_leave two) (IsLasting asked limits s)
+  lasts_then = record { each = λ a b x y. lasts_with a b (w.first_now a x) (w.second_now b y) }

@@ -14,7 +14,6 @@ use Rattle.sled_bytes.specs.Reading.{changes_of}
 use Rattle.sled_files.specs.Change.{Durable, nothing_yet, changed, changed_all}
 use Rattle.sled_files.specs.Standing.{joined, all_changes}
 use Rattle.sled_files.specs.theory.Replay.{Numbers, replayed_of, numbers_of, numbers_after, numbers_after_all, HasPlace, is_why_halted, Replays, ReplaysRead, IsReplay, halts}
-use Rattle.sled_files.specs.theory.Chosen.{IsRead, fails}
 
 -- what was replayed, by what is put into the store in the making
 abbrev pub durable_with : Bool → ℕ → ℕ → ℕ → Rebuilt → Durable
@@ -153,37 +152,3 @@ pub left_at : (ps : List (Bor (List ℕ))) (i : ℕ) (d : Bor (List ℕ)) → i 
 left_at ps i d lt =
     let of : Bor (List ℕ) → List ℕ = λ p. p.now in
     drop_more (map of ps) i d.now (omega (arith, lt, length-map ps of)) ∙ ap (λ (l : List ℕ). l ∷ drop (i + 1) (map of ps)) (get_or-map of ps i d d.now lt)
-
--- the same of payloads that are read, and not replayed
-
--- what cannot be read of the first cannot be read of all
-pub fails_both : (e : Halt) (x y : Result (List Change) Flaw) → fails e x → fails e (joined x y)
-fails_both NoMemory x y why = tt
-fails_both Flawed x y why = λ changes is. let b = both_read x y changes is in why b.front b.front_is
-
-fails_behind : (e : Halt) (x y : Result (List Change) Flaw) → fails e y → fails e (joined x y)
-fails_behind NoMemory x y why = tt
-fails_behind Flawed x y why = λ changes is. let b = both_read x y changes is in why b.back b.back_is
-
-pub record Checks (all left : List (List ℕ)) : Type 0 where
-  pub done : List Change
-  pub comes : joined (Ok done) (all_changes left) ≡ all_changes all
-
-pub checks_first : (p : List ℕ) (ps : List (List ℕ)) → IsRead (changes_of p) → Checks (p ∷ ps) ps
-checks_first p ps r = record { done = r.changes; comes = ap (λ (x : Result (List Change) Flaw). joined x (all_changes ps)) (sym r.is) }
-
-module _ {all left : List (List ℕ)} (m : Checks all left) where
-  pub checks_more : (p : List ℕ) (rest : List (List ℕ)) → left ≡ p ∷ rest → IsRead (changes_of p) → Checks all rest
-  checks_more p rest is r = record {
-    done = m.done ++ r.changes;
-    comes = sym (joined_twice m.done r.changes (all_changes rest))
-        ∙ ap (λ (x : Result (List Change) Flaw). joined (Ok m.done) (joined x (all_changes rest))) (sym r.is)
-        ∙ ap (λ (l : List (List ℕ)). joined (Ok m.done) (all_changes l)) (sym is)
-        ∙ m.comes;
-  }
-
-  pub checks_all : left ≡ [] → IsRead (all_changes all)
-  checks_all is = record { changes = m.done; is = sym m.comes ∙ ap (λ (l : List (List ℕ)). joined (Ok m.done) (all_changes l)) is ∙ ap (λ (l : List Change). Ok l) (append-nil m.done) }
-
-  pub checks_failed : (e : Halt) (p : List ℕ) (rest : List (List ℕ)) → left ≡ p ∷ rest → fails e (changes_of p) → fails e (all_changes all)
-  checks_failed e p rest is why = subst (λ (x : Result (List Change) Flaw). fails e x) m.comes (fails_behind e (Ok m.done) (all_changes left) (subst (λ (l : List (List ℕ)). fails e (all_changes l)) (sym is) (fails_both e (changes_of p) (all_changes rest) why)))

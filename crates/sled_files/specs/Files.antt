@@ -7,13 +7,14 @@ use Rattle.sled_files.specs.Change.{Durable}
 use Rattle.sled_files.specs.Standing.{StandsAt, IsBlank, IsOlder, AreFor}
 use Rattle.sled_files.specs.Lasting.{EachPair}
 
--- the files, whether the second is the one that counts, where the closed gate of its log is, its generation, and whether a call of
--- a disk was refused, so that nothing is known of the file but what a crash may leave
+-- the files, whether the second is the one that counts, where the closed gate of its log is, how long the snapshot is that it begins
+-- with, its generation, and whether a call of a disk was refused, so that nothing is known of the file but what a crash may leave
 pub record Files (D : Type 0) : Type 0 where
   pub first : D
   pub second : D
   pub is_second : Bool
   pub gate : ℕ
+  pub snapshot : ℕ
   pub generation : ℕ
   pub failed : Bool
 
@@ -34,6 +35,7 @@ pub record IsReady {D : Type 0} (seen : D → List ℕ) (may_leave : D → List 
   pub first_only : Only (seen f.first) (may_leave f.first)
   pub second_only : Only (seen f.second) (may_leave f.second)
   pub stands : StandsAt (seen (one_of f)) f.gate f.generation d
+  pub begins : length stands.stands.has.first ≡ f.snapshot
   pub behind : IsBlank (seen (other_of f)) ⊎ IsOlder f.generation (seen (other_of f))
 
 -- what the laws of a disk say of one file: this moment is one of those since an earlier one, and the only one since itself

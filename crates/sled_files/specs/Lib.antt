@@ -2,6 +2,7 @@ pub mod Change
 pub mod Header
 pub mod Standing
 pub mod Lasting
+pub mod Flaws
 pub mod Pending
 pub mod Files
 pub mod Opening

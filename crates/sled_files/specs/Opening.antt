@@ -1,14 +1,13 @@
 -- What the two files of a store are found to be, and the store that is opened of them.
-use Rattle.std.specs.Prelude.{◌≡◌, ◌⊎◌, ℕ, true, ◌&&◌, nat_lt, List, [], ◌∷◌, take, drop, Ok}
-use Rattle.std.specs.Int.{w32, from_le_bytes}
+use Rattle.std.specs.Prelude.{◌≡◌, ◌⊎◌, ◌+◌, ℕ, true, ◌&&◌, nat_lt, List, []}
 use Rattle.sled_store.specs.Store.{Store}
-use Rattle.sled_log.specs.Digest.{digest}
-use Rattle.sled_log.specs.Log.{log_of}
+use Rattle.sled_disk.specs.Disk.{Only}
+use Rattle.sled_disk.specs.declared.disk.DiskError.TheVariants as full
 use Rattle.sled_pages.specs.Memory.{empty_store}
 use Rattle.sled_files.specs.declared.found.OpenError.{OpenError}
-use Rattle.sled_files.specs.declared.found.OpenError.TheVariants.{NoMemory, NotAStore, OtherFormat, Decayed, Disk}
+use Rattle.sled_files.specs.declared.found.OpenError.TheVariants.{NoMemory, Disk}
 use Rattle.sled_files.specs.Change.{Durable, nothing_yet}
-use Rattle.sled_files.specs.Header.{magic, format}
+use Rattle.sled_files.specs.Flaws.{is_flaw}
 use Rattle.sled_files.specs.Standing.{AreFor, AreBlank, IsBegun}
 use Rattle.sled_files.specs.Files.{Files, IsReady}
 
@@ -33,26 +32,11 @@ pub record IsReopened (d : Durable) (s : Store) : Type 0 where
   pub faults : s.faults ≡ 0
   pub readable : (p : ℕ) → s.is_readable p ≡ true
 
--- the bytes say whose file it is where the header of the first block stands
-abbrev pub HasMagic : List ℕ → Type 0
-HasMagic bytes = take 8 (drop 17 bytes) ≡ magic
-
--- a header of another format
-pub record HasOtherFormat (other : ℕ) (bytes : List ℕ) : Type 0 where
-  pub payload : List ℕ
-  pub others : List (List ℕ)
-  pub log : log_of digest bytes ≡ Ok (payload ∷ others)
-  pub begins : take 8 payload ≡ magic
-  pub number : from_le_bytes w32 (take 4 (drop 8 payload)) ≡ other
-  pub is_other : other ≡ format → ⊥
-
--- why two files are not opened
+-- why two files are not opened: for want of memory, or as they are of no store. At most one thing is found to be wrong with them
 abbrev pub is_why_unopened : OpenError → List ℕ → List ℕ → Type 0
 is_why_unopened NoMemory first second = Unit {0}
-is_why_unopened NotAStore first second = AreOfNone first second × ((HasMagic first → ⊥) ⊎ (HasMagic second → ⊥))
-is_why_unopened (OtherFormat other) first second = AreOfNone first second × (HasOtherFormat other first ⊎ HasOtherFormat other second)
-is_why_unopened (Decayed place) first second = AreOfNone first second
 is_why_unopened (Disk e) first second = ⊥
+is_why_unopened e first second = AreOfNone first second × is_flaw e first second
 
 -- a disk refused a call, for memory or for a fault
 abbrev pub is_refusal : OpenError → Type 0
@@ -65,11 +49,32 @@ abbrev pub is_why_closed : OpenError → List ℕ → List ℕ → Type 0
 is_why_closed (Disk e) first second = Unit {0}
 is_why_closed e first second = is_why_unopened e first second
 
--- What a crash leaves while two disks are opened: of each what it might have left of it before; of the first, where both files are
--- blank, also what is left of a store's first file while it is begun
-pub record LeavesWhileOpened {D : Type 0} (seen : D → List ℕ) (moment : D → ℕ) (left_since : D → ℕ → List ℕ → Type 0) (may_leave : D → List ℕ → Type 0) (first second : D) (files : Files D) : Type 0 where
-  pub first_is : (c : List ℕ) → left_since files.first (moment first) c → may_leave first c ⊎ (AreBlank (seen first) (seen second) × IsBegun (seen first) 1 nothing_yet c)
-  pub second_is : (c : List ℕ) → left_since files.second (moment second) c → may_leave second c
+-- what an opening told of two files, where this is wrong with them: it, or that a disk refused a call
+abbrev pub IsTold : OpenError → OpenError → Type 0
+IsTold flaw told = (told ≡ flaw) ⊎ is_refusal told
+
+-- What a crash leaves of two disks from when they are given to be opened until they are given back, in a store or as they were refused:
+-- of each what it might have left of it before; of the first, where both files are blank, also what is left of a store's first file
+-- while it is begun
+pub record LeavesWhileOpened {D : Type 0} (seen : D → List ℕ) (moment : D → ℕ) (left_since : D → ℕ → List ℕ → Type 0) (may_leave : D → List ℕ → Type 0) (first second first_then second_then : D) : Type 0 where
+  pub first_is : (c : List ℕ) → left_since first_then (moment first) c → may_leave first c ⊎ (AreBlank (seen first) (seen second) × IsBegun (seen first) 1 nothing_yet c)
+  pub second_is : (c : List ℕ) → left_since second_then (moment second) c → may_leave second c
+  -- and then
+  pub first_now : (c : List ℕ) → may_leave first_then c → may_leave first c ⊎ (AreBlank (seen first) (seen second) × IsBegun (seen first) 1 nothing_yet c)
+  pub second_now : (c : List ℕ) → may_leave second_then c → may_leave second c
+
+-- two disks are as they were, and all that they have is on them
+pub record StayAsTheyWere {D : Type 0} (seen : D → List ℕ) (may_leave : D → List ℕ → Type 0) (first second first_then second_then : D) : Type 0 where
+  pub first_stays : seen first_then ≡ seen first
+  pub second_stays : seen second_then ≡ seen second
+  pub first_only : Only (seen first) (may_leave first_then)
+  pub second_only : Only (seen second) (may_leave second_then)
+
+-- a refusal of a disk, but for want of memory, is counted as its fault, and no other refusal is
+abbrev pub is_counted : ℕ → ℕ → OpenError → Type 0
+is_counted before now (Disk full.NoMemory) = ⊥
+is_counted before now (Disk e) = now ≡ before + 1
+is_counted before now e = now ≡ before
 
 -- the store that two files stand for was opened, they stand for nothing else, and they stay as they were
 pub record Recovers {D : Type 0} (seen : D → List ℕ) (may_leave : D → List ℕ → Type 0) (first second : List ℕ) (files : Files D) (s : Store) : Type 0 where

@@ -39,16 +39,27 @@ pub record StandsAt (file : List ℕ) (gate generation : ℕ) (d : Durable) : Ty
   pub stands : StandsFor file generation d
   pub log : IsLog digest file ((header generation ++ stands.has.first) ∷ stands.has.others) gate
 
+-- and its snapshot, which is what its first payload has behind the header, is so long
+pub record StandsWith (file : List ℕ) (gate snapshot generation : ℕ) (d : Durable) : Type 0 where
+  pub at : StandsAt file gate generation d
+  pub snapshot_is : length at.stands.has.first ≡ snapshot
+
 -- a file in which nothing counts: at most one byte, or a closed gate at its front
 abbrev pub IsBlank : List ℕ → Type 0
 IsBlank bytes = (length bytes ≤ 1) ⊎ (log_of digest bytes ≡ Ok [])
+
+-- a file of a store, of this generation, whatever else it has: a log whose first payload begins with the header
+pub record OfGeneration (bytes : List ℕ) (generation : ℕ) : Type 0 where
+  pub fits : generation < 2 ^ 64
+  pub first : List ℕ
+  pub others : List (List ℕ)
+  pub log : log_of digest bytes ≡ Ok ((header generation ++ first) ∷ others)
 
 -- a store's file of an earlier generation
 pub record IsOlder (generation : ℕ) (bytes : List ℕ) : Type 0 where
   pub earlier : ℕ
   pub below : earlier < generation
-  pub changes : List Change
-  pub has : HasChanges bytes earlier changes
+  pub is : OfGeneration bytes earlier
 
 -- What a crash may leave of a file that is begun anew: what it was, nothing that counts, or what it is to stand for
 abbrev pub IsBegun : List ℕ → ℕ → Durable → List ℕ → Type 0

@@ -5,7 +5,7 @@ ghost use Rattle.sled_disk.specs.declared.disk.DiskError.TheVariants.{NoMemory};
 ghost use Rattle.sled_bytes.specs.declared.change.Change.{Change};
 ghost use Rattle.sled_files.specs.Change.{nothing_yet, changed_all, AreOfStore};
 ghost use Rattle.sled_files.specs.Header.{header};
-ghost use Rattle.sled_files.specs.Standing.{StandsAt, IsBegun};
+ghost use Rattle.sled_files.specs.Standing.{StandsWith, IsBegun};
 ghost use Rattle.sled_files.specs.Pending.{Spells};
 ghost use Rattle.sled_files.specs.theory.Begun.{IsFirstBlock};
 
@@ -34,7 +34,7 @@ fn first_payload(alloc: Global, generation: u64, payload: &[u8]) -> Result<Vec<u
 
 // The block of the first payload, as a log takes it.
 pub(crate) fn first_block(alloc: Global, generation: u64, payload: &[u8]) -> Result<Vec<u8>>
-    ensures ok { IfOk result (λ block. (changes : List Change) → Spells payload.now changes → AreOfStore changes (changed_all changes nothing_yet) → IsFirstBlock block.items generation changes) }
+    ensures ok { IfOk result (λ block. (changes : List Change) → Spells payload.now changes → AreOfStore changes (changed_all changes nothing_yet) → IsFirstBlock block.items payload.now generation changes) }
     ensures err { IfErr result (λ e. e ≡ NoMemory) }
 {
     let bytes = first_payload(alloc, generation, payload)?;
@@ -44,10 +44,10 @@ pub(crate) fn first_block(alloc: Global, generation: u64, payload: &[u8]) -> Res
 // Makes of a file one whose log has this block alone: first a closed gate at its front is brought to the disk.
 pub(crate) fn begin_with<D: Disk>(disk: &mut D, block: &[u8]) -> Result<()>
     requires on_disk { Only (D.seen disk.old) (D.may_leave disk.old) }
-    ensures stands { OnOk result ((generation : ℕ) (changes : List Change) → IsFirstBlock block.now generation changes → StandsAt (D.seen disk.new) (length block.now) generation (changed_all changes nothing_yet)) }
+    ensures stands { OnOk result ((payload : List ℕ) (generation : ℕ) (changes : List Change) → IsFirstBlock block.now payload generation changes → StandsWith (D.seen disk.new) (length block.now) (length payload) generation (changed_all changes nothing_yet)) }
     ensures place { OnOk result (length block.now < length (D.seen disk.new)) }
     ensures durable { OnOk result (Only (D.seen disk.new) (D.may_leave disk.new)) }
-    ensures any_moment { (generation : ℕ) (changes : List Change) → IsFirstBlock block.now generation changes → LeavesOnly D.moment D.left_since disk.old disk.new (IsBegun (D.seen disk.old) generation (changed_all changes nothing_yet)) }
+    ensures any_moment { (payload : List ℕ) (generation : ℕ) (changes : List Change) → IsFirstBlock block.now payload generation changes → LeavesOnly D.moment D.left_since disk.old disk.new (IsBegun (D.seen disk.old) generation (changed_all changes nothing_yet)) }
     ensures cause { HasCause (D.faults disk.old) (D.faults disk.new) result }
 {
     write_through(disk, 0, &[CLOSED])?;
@@ -69,7 +69,7 @@ pub fn begin_file<D: Disk>(
     payload: &[u8],
 ) -> Result<usize>
     requires on_disk { Only (D.seen disk.old) (D.may_leave disk.old) }
-    ensures stands { IfOk result (λ gate. (changes : List Change) → Spells payload.now changes → AreOfStore changes (changed_all changes nothing_yet) → StandsAt (D.seen disk.new) gate generation (changed_all changes nothing_yet)) }
+    ensures stands { IfOk result (λ gate. (changes : List Change) → Spells payload.now changes → AreOfStore changes (changed_all changes nothing_yet) → StandsWith (D.seen disk.new) gate (length payload.now) generation (changed_all changes nothing_yet)) }
     // There is a byte at the gate, whatever the payload is.
     ensures place { IfOk result (λ gate. gate < length (D.seen disk.new)) }
     ensures durable { OnOk result (Only (D.seen disk.new) (D.may_leave disk.new)) }

@@ -13,7 +13,7 @@ use crate::spelled::{
     allocate, begin_group, cas_root, free, link, next_of, replace, seal_group, spell_limits,
     spelled,
 };
-use crate::storing::{add, begin_anew, fault};
+use crate::storing::{USED_UP, add, begin_anew, fault};
 use crate::two_files::TwoFiles;
 use sled_bytes::Change;
 use sled_disk::Disk;
@@ -34,6 +34,8 @@ pub struct FileStats {
     pub pages: u64,
     /// How long the log is that counts.
     pub bytes: usize,
+    /// How long the snapshot is that it begins with.
+    pub snapshot: usize,
     /// The generation of its file: one more each time that a file is begun anew.
     pub generation: u64,
 }
@@ -56,9 +58,8 @@ pub struct FilePages<D: Disk> {
     // a mark that was refused by a disk, which may have it all the same
     asked: Option<u64>,
     faults: u64,
-    // the length of the log above which it is begun anew, and of the last snapshot, which it is to be twice as long as
+    // the length of the log above which it is begun anew
     longest: usize,
-    last: usize,
 }
 
 impl<D: Disk> Model for FilePages<D> {
@@ -78,22 +79,8 @@ impl<D: Disk> Model for FilePages<D> {
 // By hand, so that whoever lets go of a store cites this, and need not prove again how each of its parts goes.
 impl<D: Disk> Drop for FilePages<D> {
     fn drop(self) {
-        let FilePages {
-            alloc: _,
-            pages,
-            files,
-            pending,
-            mark: _,
-            limit_pids: _,
-            limit_versions: _,
-            asked: _,
-            faults: _,
-            longest: _,
-            last: _,
-        } = self;
-        drop(pages);
+        let files = self.into_files();
         drop(files);
-        drop(pending);
     }
 }
 
@@ -128,19 +115,14 @@ impl<D: Disk> FilePages<D> {
             asked: None,
             faults: 0,
             longest: LONGEST,
-            last: 0,
         }
     }
 }
 
 impl<D: Disk> FilePages<D> {
-    /// The two disks, the first and the second, as they are. Nothing is written: what was not flushed is not in the files.
-    ///
-    /// ```
-    /// let (first, second) = store.into_disks();
-    /// ```
-    pub fn into_disks(self) -> (D, D)
-        ensures { result ≡ (self.files.first, self.files.second) }
+    // The files alone.
+    fn into_files(self) -> TwoFiles<D>
+        ensures { result ≡ self.files }
     {
         let FilePages {
             alloc: _,
@@ -153,11 +135,21 @@ impl<D: Disk> FilePages<D> {
             asked: _,
             faults: _,
             longest: _,
-            last: _,
         } = self;
         drop(pages);
         drop(pending);
-        files.into_disks()
+        files
+    }
+
+    /// The two disks, the first and the second, as they are. Nothing is written: what was not flushed is not in the files.
+    ///
+    /// ```
+    /// let (first, second) = store.into_disks();
+    /// ```
+    pub fn into_disks(self) -> (D, D)
+        ensures { result ≡ (self.files.first, self.files.second) }
+    {
+        self.into_files().into_disks()
     }
 }
 
@@ -166,7 +158,7 @@ impl<D: Disk> FilePages<D> {
     ///
     /// ```
     /// let (first, _) = store.disks();
-    /// let left = first.crash(&mut choices)?; // Where they are in memory: what a crash would leave now.
+    /// let bytes = first.bytes(); // Where they are in memory: what is in the first file now.
     /// ```
     pub fn disks(&self) -> (&D, &D)
         ensures first { result.0.now ≡ self.now.files.first }
@@ -179,28 +171,25 @@ impl<D: Disk> FilePages<D> {
 // The length of the log from which on a flush begins it anew, where none is set.
 const LONGEST: usize = 4_000_000;
 
-// Whether a log is to be begun anew: it is longer than this, and longer than twice the last snapshot.
-fn is_long(len: usize, longest: usize, last: usize) -> bool
-    ensures { result ≡ (nat_lt longest len && nat_lt last (len / 2)) }
+// Whether a log is to be begun anew: it is longer than this, and longer than twice its snapshot.
+fn is_long(len: usize, longest: usize, snapshot: usize) -> bool
+    ensures { result ≡ (nat_lt longest len && nat_lt snapshot (len / 2)) }
 {
-    longest < len && last < len / 2
+    longest < len && snapshot < len / 2
 }
 
-// How many numbers and versions more a limit sets aside.
-const MORE: u64 = 1_000_000;
+/// How many page numbers and versions above the next one a limit sets aside when it is raised.
+pub const SET_ASIDE: u64 = 1_000_000;
 
-// The code of the fault that numbers are used up, as the pages in memory have it.
-const USED_UP: u32 = 3;
+/// How near the next page number or version may come to its limit before a flush raises it.
+pub const NEAR_LIMIT: u64 = 200_000;
 
 // The next limit: some way above what comes next, and no lower than this one.
 fn raised(limit: u64, next: u64) -> u64
     ensures { limit ≤ result }
 {
-    limit.max(next.saturating_add(MORE))
+    limit.max(next.saturating_add(SET_ASIDE))
 }
-
-// How near the next number or version may come to its limit before a flush raises it.
-const NEAR: u64 = 200_000;
 
 // The limits that a flush sets: those that there are, or, where what comes next is near and there is a block to be added, higher ones.
 fn ahead(pages: &MemPages, is_idle: bool, pids: u64, versions: u64) -> (u64, u64)
@@ -210,7 +199,8 @@ fn ahead(pages: &MemPages, is_idle: bool, pids: u64, versions: u64) -> (u64, u64
     let Some((pid, version)) = next_of(pages) else {
         return (pids, versions);
     };
-    let is_far = pid.0 < pids.saturating_sub(NEAR) && version.0 < versions.saturating_sub(NEAR);
+    let is_far = pid.0 < pids.saturating_sub(NEAR_LIMIT)
+        && version.0 < versions.saturating_sub(NEAR_LIMIT);
     if is_idle || is_far {
         return (pids, versions);
     }
@@ -306,24 +296,19 @@ impl<D: Disk> FilePages<D> {
         ensures one { (now (stored_as self.old)).in_group ≡ false → OnOk result (other_of self.new.files ≡ one_of self.old.files) }
         ensures err { IfErr result (λ e. IsRefused e (stored_as self.old) (stored_as self.new)) }
         ensures asked { self.new.asked ≡ self.old.asked }
-        ensures limits { self.new.limits ≡ self.old.limits }
+        ensures limits { AreNoLower self.old.limits self.new.limits }
         ensures any_moment { LeavesPairs D.moment D.left_since D.may_leave self.old.files self.new.files (IsLasting (asked_of self.old.asked) self.old.limits (stored_as self.old)) }
     {
         self.files.law_time();
         if self.pages.in_group() {
             return Ok(());
         }
-        let whole = match snapshot(
-            self.alloc,
-            &self.pages,
-            self.mark,
-            self.limit_pids,
-            self.limit_versions,
-        ) {
+        let (pids, versions) = self.ahead(false);
+        let whole = match self.whole_with(pids, versions) {
             Ok(whole) => whole,
             Err(e) => return Err(e),
         };
-        let flushed = self.flush_anew(&whole);
+        let flushed = self.flush_anew(&whole, pids, versions);
         drop(whole);
         match flushed {
             Ok(_) => Ok(()),
@@ -343,7 +328,18 @@ impl<D: Disk> FilePages<D> {
         self.longest = len;
     }
 
-    /// How many page numbers were given, and how long the log is and of which generation.
+    /// Whether a disk refused a call, so that each flush, mark and raise is refused from then on.
+    ///
+    /// ```
+    /// let is_over = store.failed(); // Open the disks of `into_disks` again.
+    /// ```
+    pub fn failed(&self) -> bool
+        ensures { result ≡ self.now.files.failed }
+    {
+        self.files.failed()
+    }
+
+    /// How many page numbers were given, and how long the log is, its snapshot, and of which generation.
     ///
     /// ```
     /// let generation = store.stats().generation;
@@ -351,30 +347,45 @@ impl<D: Disk> FilePages<D> {
     pub fn stats(&self) -> FileStats
         ensures pages { (p : ℕ) → 0 < p → (stored_as self.now).pids p ≡ nat_le p result.pages }
         ensures bytes { result.bytes ≡ self.now.files.gate }
+        ensures snapshot { result.snapshot ≡ self.now.files.snapshot }
         ensures generation { result.generation ≡ self.now.files.generation }
     {
         let (greatest, _) = self.pages.numbers_given();
         FileStats {
             pages: greatest.0,
             bytes: self.files.len(),
+            snapshot: self.files.snapshot(),
             generation: self.files.generation(),
         }
     }
 
-    // What the store is now, where the log has grown long, and there is memory for it.
-    fn whole(&self) -> Option<Vec<u8>>
-        ensures { IfSome result (λ bytes. Makes (store_of self.now.pages) bytes.items (durable_now (stored_as self.now) self.now.mark self.now.limits.pids self.now.limits.versions)) }
+    // The limits that a flush sets.
+    fn ahead(&self, is_idle: bool) -> (u64, u64)
+        ensures pids { self.now.limits.pids ≤ result.0 }
+        ensures versions { self.now.limits.versions ≤ result.1 }
     {
-        if self.files.failed() || !is_long(self.files.len(), self.longest, self.last) {
+        ahead(&self.pages, is_idle, self.limit_pids, self.limit_versions)
+    }
+
+    // What the store is now, with these limits.
+    fn whole_with(&self, pids: u64, versions: u64) -> Result<Vec<u8>>
+        ensures ok { IfOk result (λ bytes. Makes (store_of self.now.pages) bytes.items (durable_now (stored_as self.now) self.now.mark pids versions)) }
+        ensures err { IfErr result (λ e. e ≡ NoMemory) }
+    {
+        match snapshot(self.alloc, &self.pages, self.mark, pids, versions) {
+            Ok(bytes) => Ok(bytes),
+            Err(e) => Err(e),
+        }
+    }
+
+    // The same, where the log has grown long, and there is memory for it.
+    fn whole(&self, pids: u64, versions: u64) -> Option<Vec<u8>>
+        ensures { IfSome result (λ bytes. Makes (store_of self.now.pages) bytes.items (durable_now (stored_as self.now) self.now.mark pids versions)) }
+    {
+        if self.files.failed() || !is_long(self.files.len(), self.longest, self.files.snapshot()) {
             return None;
         }
-        match snapshot(
-            self.alloc,
-            &self.pages,
-            self.mark,
-            self.limit_pids,
-            self.limit_versions,
-        ) {
+        match self.whole_with(pids, versions) {
             Ok(bytes) => Some(bytes),
             Err(e) => {
                 drop(e);
@@ -394,12 +405,7 @@ impl<D: Disk> FilePages<D> {
         ensures any_moment { LeavesPairs D.moment D.left_since D.may_leave self.old.files self.new.files (IsLasting (asked_of self.old.asked) self.old.limits (stored_as self.old)) }
     {
         self.files.law_time();
-        let (pids, versions) = ahead(
-            &self.pages,
-            self.pending.is_empty(),
-            self.limit_pids,
-            self.limit_versions,
-        );
+        let (pids, versions) = self.ahead(self.pending.is_empty());
         let len = self.pending.len();
         if let Err(e) = spell_limits(
             &mut self.pending,
@@ -420,24 +426,27 @@ impl<D: Disk> FilePages<D> {
         Ok(self.pages.flush_uncounted())
     }
 
-    // Flushes by a file that is begun anew with all that the store is.
-    fn flush_anew(&mut self, whole: &[u8]) -> Result<usize>
+    // Flushes by a file that is begun anew with all that the store is, and with these limits.
+    fn flush_anew(&mut self, whole: &[u8], pids: u64, versions: u64) -> Result<usize>
         requires out { (now (stored_as self.old)).in_group ≡ false }
-        requires whole { Makes (store_of self.old.pages) whole.now (durable_now (stored_as self.old) self.old.mark self.old.limits.pids self.old.limits.versions) }
+        requires whole { Makes (store_of self.old.pages) whole.now (durable_now (stored_as self.old) self.old.mark pids versions) }
+        requires pids { self.old.limits.pids ≤ pids }
+        requires versions { self.old.limits.versions ≤ versions }
         ensures ok { OnOk result (stored_as self.new ≡ after_flush (stored_as self.old)) }
         ensures number { IfOk result (λ n. n ≡ length (stored_as self.old).recent) }
         ensures one { OnOk result (other_of self.new.files ≡ one_of self.old.files) }
         ensures err { IfErr result (λ e. IsRefused e (stored_as self.old) (stored_as self.new)) }
         ensures stays { IfErr result (λ e. e ≡ NoMemory → self.new.files.failed ≡ false → self.new ≡ self.old) }
         ensures asked { self.new.asked ≡ self.old.asked }
-        ensures limits { self.new.limits ≡ self.old.limits }
+        ensures limits { AreNoLower self.old.limits self.new.limits }
         ensures any_moment { LeavesPairs D.moment D.left_since D.may_leave self.old.files self.new.files (IsLasting (asked_of self.old.asked) self.old.limits (stored_as self.old)) }
     {
         if let Err(e) = begin_anew(&mut self.files, &mut self.faults, whole) {
             return Err(e);
         }
         self.pending.clear();
-        self.last = whole.len();
+        self.limit_pids = pids;
+        self.limit_versions = versions;
         Ok(self.pages.flush_uncounted())
     }
 }
@@ -581,10 +590,11 @@ impl<D: Disk + Send> Pages for FilePages<D> {
         ensures limits { AreNoLower self.old.limits self.new.limits }
         ensures any_moment { LeavesPairs D.moment D.left_since D.may_leave self.old.files self.new.files (IsLasting (asked_of self.old.asked) self.old.limits (stored_as self.old)) }
     {
-        let Some(whole) = self.whole() else {
+        let (pids, versions) = self.ahead(false);
+        let Some(whole) = self.whole(pids, versions) else {
             return self.flush_on();
         };
-        let flushed = self.flush_anew(&whole);
+        let flushed = self.flush_anew(&whole, pids, versions);
         drop(whole);
         match flushed {
             Ok(count) => Ok(count),

@@ -4,7 +4,7 @@ ghost use Rattle.sled_disk.specs.declared.disk.DiskError as disk;
 ghost use Rattle.sled_files.specs.Header.{magic, header};
 ghost use Rattle.sled_files.specs.Standing.{IsBlank};
 ghost use Rattle.sled_files.specs.theory.Found.{IsFileOf, IsNoFile, is_why_no_file, is_why_headless, IsNoLog, HasHeader, FlawOf};
-ghost use Rattle.sled_files.specs.Opening.{HasMagic};
+ghost use Rattle.sled_files.specs.Flaws.{HasMagic};
 
 use sled_disk::DiskError;
 use sled_log::{Log, LogError, read_log};

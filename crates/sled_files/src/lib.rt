@@ -18,9 +18,11 @@ mod storing;
 mod two_files;
 
 pub use begin::begin_file;
-pub use file_pages::{FilePages, FileStats, law_lasts};
+pub use file_pages::{FilePages, FileStats, NEAR_LIMIT, SET_ASIDE, law_lasts};
+pub use files::NotOpened;
 pub use found::OpenError;
 pub use laws::{
     law_flush_ends, law_flush_lasts, law_new_store_lasts, law_opened_goes_on, law_opens_again,
 };
+pub use storing::{DISK_FAILED, DISK_FULL, USED_UP};
 pub use two_files::TwoFiles;

@@ -6,7 +6,6 @@ ghost use Rattle.sled_bytes.specs.Reading.{changes_of};
 ghost use Rattle.sled_files.specs.Standing.{all_changes};
 ghost use Rattle.sled_files.specs.theory.Replay.{replayed_of, numbers_of, numbers_after, HasPlace, is_why_halted, halts, Replays, ReplaysRead, IsReplay, IsWhole};
 ghost use Rattle.sled_files.specs.Opening.{IsReopened};
-ghost use Rattle.sled_files.specs.theory.Chosen.{IsRead, fails};
 ghost use Rattle.sled_pages.specs.Memory.{store_of, calls_refused};
 
 use sled_bytes::{Change, Refusal, decode_changes};
@@ -212,35 +211,4 @@ pub fn replay_all(alloc: Global, first: &[u8], others: &[&[u8]]) -> Result<Repla
         }
     }
     Ok(replay)
-}
-
-// Whether a payload can be read.
-fn check_payload(alloc: Global, payload: &[u8]) -> Result<(), Halt>
-    ensures ok { OnOk result (IsRead (changes_of payload.now)) }
-    ensures cause { IfErr result (λ e. fails e (changes_of payload.now)) }
-{
-    match decode_changes(alloc, payload) {
-        Ok(changes) => {
-            drop(changes);
-            Ok(())
-        }
-        Err(Refusal::NoMemory) => Err(Halt::NoMemory),
-        Err(Refusal::Flawed(_)) => Err(Halt::Flawed),
-    }
-}
-
-/// Whether all payloads can be read.
-pub fn check_all(alloc: Global, first: &[u8], others: &[&[u8]]) -> Result<(), Halt>
-    ensures ok { OnOk result (IsRead (all_changes (first.now ∷ map (λ p. p.now) others.now))) }
-    ensures cause { IfErr result (λ e. fails e (all_changes (first.now ∷ map (λ p. p.now) others.now))) }
-{
-    if let Err(e) = check_payload(alloc, first) {
-        return Err(e);
-    }
-    for payload in others {
-        if let Err(e) = check_payload(alloc, payload) {
-            return Err(e);
-        }
-    }
-    Ok(())
 }

@@ -11,10 +11,14 @@ use crate::two_files::TwoFiles;
 use sled_disk::{Disk, DiskError};
 use sled_nodes::{Error, Fault, Result};
 
-// The codes of the faults of the files, beside those of the pages in memory: a disk is full, it failed in another way or did so before.
-const FULL: u32 = 4;
+/// The code of the fault that no page number, version or generation is left.
+pub const USED_UP: u32 = 3;
 
-const FAILED: u32 = 5;
+/// The code of the fault that a disk has no room.
+pub const DISK_FULL: u32 = 4;
+
+/// The code of the fault that a disk failed in another way, or that one refused a call before.
+pub const DISK_FAILED: u32 = 5;
 
 /// A fault, while faults can be counted.
 pub fn fault(faults: &mut u64, code: u32) -> Error
@@ -33,8 +37,8 @@ fn refusal(faults: &mut u64, e: DiskError) -> Error
 {
     match e {
         DiskError::NoMemory => Error::NoMemory,
-        DiskError::Full => fault(faults, FULL),
-        DiskError::Failed => fault(faults, FAILED),
+        DiskError::Full => fault(faults, DISK_FULL),
+        DiskError::Failed => fault(faults, DISK_FAILED),
     }
 }
 
@@ -52,7 +56,7 @@ pub fn add<D: Disk>(files: &mut TwoFiles<D>, faults: &mut u64, payload: &[u8]) -
 {
     files.law_time();
     if files.failed() {
-        return Err(fault(faults, FAILED));
+        return Err(fault(faults, DISK_FAILED));
     }
     if payload.is_empty() {
         return Ok(());
@@ -79,7 +83,7 @@ pub fn begin_anew<D: Disk>(files: &mut TwoFiles<D>, faults: &mut u64, payload: &
 {
     files.law_time();
     if files.failed() {
-        return Err(fault(faults, FAILED));
+        return Err(fault(faults, DISK_FAILED));
     }
     match files.rewrite(payload) {
         Ok(()) => Ok(()),

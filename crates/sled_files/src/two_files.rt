@@ -6,7 +6,7 @@ ghost use Rattle.sled_bytes.specs.declared.change.Change.{Change};
 ghost use Rattle.sled_files.specs.Change.{Durable, nothing_yet, changed_all, AreOfStore, AreAdded};
 ghost use Rattle.sled_log.specs.Log.{IsLog};
 ghost use Rattle.sled_log.specs.Append.{IsBlockFor, IsBeforeOrAfter};
-ghost use Rattle.sled_files.specs.Standing.{StandsAt, IsBegun};
+ghost use Rattle.sled_files.specs.Standing.{StandsWith, IsBegun};
 ghost use Rattle.sled_files.specs.Pending.{Spells};
 ghost use Rattle.sled_files.specs.Files.{picked, KeepsTime};
 ghost use Rattle.sled_files.specs.theory.Begun.{IsFirstBlock};
@@ -60,10 +60,10 @@ fn append_to_one<D: Disk>(
 fn begin_other<D: Disk>(first: &mut D, second: &mut D, is_second: bool, block: &[u8]) -> Result<()>
     requires on_disk { Only (D.seen (picked is_second second.old first.old)) (D.may_leave (picked is_second second.old first.old)) }
     ensures one { picked is_second first.new second.new ≡ picked is_second first.old second.old }
-    ensures stands { OnOk result ((generation : ℕ) (changes : List Change) → IsFirstBlock block.now generation changes → StandsAt (D.seen (picked is_second second.new first.new)) (length block.now) generation (changed_all changes nothing_yet)) }
+    ensures stands { OnOk result ((payload : List ℕ) (generation : ℕ) (changes : List Change) → IsFirstBlock block.now payload generation changes → StandsWith (D.seen (picked is_second second.new first.new)) (length block.now) (length payload) generation (changed_all changes nothing_yet)) }
     ensures place { OnOk result (length block.now < length (D.seen (picked is_second second.new first.new))) }
     ensures durable { OnOk result (Only (D.seen (picked is_second second.new first.new)) (D.may_leave (picked is_second second.new first.new))) }
-    ensures any_moment { (generation : ℕ) (changes : List Change) → IsFirstBlock block.now generation changes → LeavesOnly D.moment D.left_since (picked is_second second.old first.old) (picked is_second second.new first.new) (IsBegun (D.seen (picked is_second second.old first.old)) generation (changed_all changes nothing_yet)) }
+    ensures any_moment { (payload : List ℕ) (generation : ℕ) (changes : List Change) → IsFirstBlock block.now payload generation changes → LeavesOnly D.moment D.left_since (picked is_second second.old first.old) (picked is_second second.new first.new) (IsBegun (D.seen (picked is_second second.old first.old)) generation (changed_all changes nothing_yet)) }
     ensures cause { HasCause (D.faults (picked is_second second.old first.old)) (D.faults (picked is_second second.new first.new)) result }
 {
     if is_second {
@@ -82,6 +82,7 @@ pub struct TwoFiles<D: Disk> {
     second: D,
     is_second: bool,
     gate: usize,
+    snapshot: usize,
     generation: u64,
     failed: bool,
 }
@@ -91,21 +92,22 @@ impl<D: Disk> Model for TwoFiles<D> {
 
     ghost Value = { Files D };
 
-    ghost view = { λ f. record { first = f.first; second = f.second; is_second = f.is_second; gate = f.gate; generation = f.generation; failed = f.failed } };
+    ghost view = { λ f. record { first = f.first; second = f.second; is_second = f.is_second; gate = f.gate; snapshot = f.snapshot; generation = f.generation; failed = f.failed } };
 
-    ghost invariant = { λ f. IsKept D.seen D.may_leave (record { first = f.first; second = f.second; is_second = f.is_second; gate = f.gate; generation = f.generation; failed = f.failed }) };
+    ghost invariant = { λ f. IsKept D.seen D.may_leave (record { first = f.first; second = f.second; is_second = f.is_second; gate = f.gate; snapshot = f.snapshot; generation = f.generation; failed = f.failed }) };
 }
 
 impl<D: Disk> TwoFiles<D> {
     ghost use Rattle.sled_files.specs.Files.{Files, IsReady, LeavesPairs, AreForEither, IsRefused, faults_in, one_of, other_of};
 
-    /// Two files as they were opened: the one that counts, where the closed gate of its log is, and its generation.
+    /// Two files as they were opened: the one that counts, where the closed gate of its log is, how long the snapshot is that it begins
+    /// with, and its generation.
     ///
     /// ```
     /// let mut first = MemoryDisk::new(alloc, Vec::new(alloc))?;
     /// let second = MemoryDisk::new(alloc, Vec::new(alloc))?;
     /// let gate = begin_file(alloc, &mut first, 1, &[])?;
-    /// let files = TwoFiles::new(alloc, first, second, false, gate, 1);
+    /// let files = TwoFiles::new(alloc, first, second, false, gate, 0, 1);
     /// ```
     pub fn new(
         alloc: Global,
@@ -113,12 +115,13 @@ impl<D: Disk> TwoFiles<D> {
         second: D,
         is_second: bool,
         gate: usize,
+        snapshot: usize,
         generation: u64,
     ) -> TwoFiles<D>
         requires first_only { Only (D.seen first) (D.may_leave first) }
         requires second_only { Only (D.seen second) (D.may_leave second) }
         requires place { gate < length (D.seen (picked is_second first second)) }
-        ensures { result ≡ record { first = first; second = second; is_second = is_second; gate = gate; generation = generation; failed = false } }
+        ensures { result ≡ record { first = first; second = second; is_second = is_second; gate = gate; snapshot = snapshot; generation = generation; failed = false } }
     {
         TwoFiles {
             alloc,
@@ -126,6 +129,7 @@ impl<D: Disk> TwoFiles<D> {
             second,
             is_second,
             gate,
+            snapshot,
             generation,
             failed: false,
         }
@@ -179,6 +183,7 @@ impl<D: Disk> TwoFiles<D> {
             second,
             is_second: _,
             gate: _,
+            snapshot: _,
             generation: _,
             failed: _,
         } = self;
@@ -209,6 +214,17 @@ impl<D: Disk> TwoFiles<D> {
         self.gate
     }
 
+    /// How long the snapshot is that the log begins with, in bytes.
+    ///
+    /// ```
+    /// let is_twice = files.snapshot() < files.len() / 2;
+    /// ```
+    pub fn snapshot(&self) -> usize
+        ensures { result ≡ self.now.snapshot }
+    {
+        self.snapshot
+    }
+
     /// Adds changes to those for which the files stand, as one block of the log that counts, and brings them to the disk. At any
     /// moment a crash leaves files that stand for what they stood for, or for that with all of the changes. Refused with `NoMemory`
     /// or, where the log would be too long, `Full`, and then nothing changed; by the disk, and then all calls are refused from then
@@ -221,6 +237,9 @@ impl<D: Disk> TwoFiles<D> {
         ensures ready { OnOk result ((d : Durable) (changes : List Change) → IsReady D.seen D.may_leave self.old d → Spells payload.now changes → AreAdded changes d → IsReady D.seen D.may_leave self.new (changed_all changes d)) }
         ensures any_moment { (d : Durable) (changes : List Change) → IsReady D.seen D.may_leave self.old d → Spells payload.now changes → AreAdded changes d → LeavesPairs D.moment D.left_since D.may_leave self.old self.new (AreForEither d (changed_all changes d)) }
         ensures other { other_of self.new ≡ other_of self.old }
+        // The log has the same snapshot and generation.
+        ensures snapshot { self.new.snapshot ≡ self.old.snapshot }
+        ensures generation { self.new.generation ≡ self.old.generation }
         ensures calm { OnOk result (faults_in D.faults self.new ≡ faults_in D.faults self.old) }
         ensures over { self.old.failed ≡ true → (result ≡ Err Failed) × (self.new ≡ self.old) }
         ensures err { IfErr result (IsRefused D.faults (2 ^ 62 < self.old.gate + 17 + length payload.now) self.old self.new) }
@@ -259,6 +278,8 @@ impl<D: Disk> TwoFiles<D> {
         ensures ready { OnOk result ((d : Durable) (changes : List Change) → IsReady D.seen D.may_leave self.old d → Spells payload.now changes → AreOfStore changes (changed_all changes nothing_yet) → IsReady D.seen D.may_leave self.new (changed_all changes nothing_yet)) }
         ensures any_moment { (d : Durable) (changes : List Change) → IsReady D.seen D.may_leave self.old d → Spells payload.now changes → AreOfStore changes (changed_all changes nothing_yet) → LeavesPairs D.moment D.left_since D.may_leave self.old self.new (AreForEither d (changed_all changes nothing_yet)) }
         ensures one { OnOk result (other_of self.new ≡ one_of self.old) }
+        ensures snapshot { OnOk result (self.new.snapshot ≡ length payload.now) }
+        ensures generation { OnOk result (self.new.generation ≡ self.old.generation + 1) }
         ensures calm { OnOk result (faults_in D.faults self.new ≡ faults_in D.faults self.old) }
         ensures over { self.old.failed ≡ true → (result ≡ Err Failed) × (self.new ≡ self.old) }
         ensures err { IfErr result (IsRefused D.faults (self.old.generation + 1 ≡ 2 ^ 64) self.old self.new) }
@@ -277,6 +298,7 @@ impl<D: Disk> TwoFiles<D> {
         begun?;
         self.is_second = !self.is_second;
         self.gate = block.len();
+        self.snapshot = payload.len();
         self.generation = generation;
         self.failed = false;
         Ok(())

@@ -65,7 +65,11 @@ pub fn open_with<M: MergeOperator>(
     };
     let pages = match FilePages::open(rt.alloc(), first, second) {
         Ok(pages) => pages,
-        Err(e) => return Err(of_files(e)),
+        Err(refused) => {
+            let why = of_files(refused.error);
+            drop(refused);
+            return Err(why);
+        }
     };
     match Db::open_checked(rt.alloc(), pages, name) {
         Ok(db) => Ok((db.with_operators::<M>(), is_locked)),

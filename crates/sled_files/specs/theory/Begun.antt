@@ -8,10 +8,9 @@ use Rattle.sled_files.specs.Header.{header}
 use Rattle.sled_files.specs.Pending.{Spells}
 
 -- The bytes are those of a block behind its gate, and then a closed gate; the block's payload is the header of this generation and
--- these changes, which are those of a store
-pub record IsFirstBlock (bytes : List ℕ) (generation : ℕ) (changes : List Change) : Type 0 where
+-- what spells these changes, which are those of a store
+pub record IsFirstBlock (bytes payload : List ℕ) (generation : ℕ) (changes : List Change) : Type 0 where
   pub fits : generation < 2 ^ 64
-  pub payload : List ℕ
   pub spells : Spells payload changes
   pub made : AreOfStore changes (changed_all changes nothing_yet)
   pub few : length (header generation ++ payload) < 2 ^ 64

@@ -1,26 +1,14 @@
 -- Which of two files counts, and the store that is made of it.
-use Rattle.std.specs.Prelude.{◌≡◌, ◌⊎◌, ℕ, Bool, List, [], Result, Ok, if◌then◌else◌}
+use Rattle.std.specs.Prelude.{◌≡◌, ◌⊎◌, ℕ, Bool, List, length, [], Result, Ok, if◌then◌else◌}
 use Rattle.sled_bytes.specs.declared.change.Change.{Change}
 use Rattle.sled_bytes.specs.declared.refusal.Flaw.{Flaw}
 use Rattle.sled_pages.specs.Memory.{store_of, calls_refused}
-use Rattle.sled_files.specs.declared.replay.Halt.{Halt}
 use Rattle.sled_files.specs.declared.replay.Made.{Made}
-use Rattle.sled_files.specs.declared.replay.Halt.TheVariants as halt
 use Rattle.sled_files.specs.declared.found.OpenError.{OpenError}
 use Rattle.sled_files.specs.declared.found.OpenError.TheVariants.{NoMemory, Decayed}
 use Rattle.sled_files.specs.Change.{Durable, nothing_yet, changed_all, AreOfStore}
 use Rattle.sled_files.specs.Standing.{AreFor, StandsAt, IsBlank, IsOlder}
 use Rattle.sled_files.specs.Opening.{IsReopened}
-
--- bytes can be read as changes
-pub record IsRead (read : Result (List Change) Flaw) : Type 0 where
-  pub changes : List Change
-  pub is : read ≡ Ok changes
-
--- why bytes cannot be read: for memory, or as they are no changes
-abbrev pub fails : Halt → Result (List Change) Flaw → Type 0
-fails halt.NoMemory read = Unit {0}
-fails halt.Flawed read = (changes : List Change) → read ≡ Ok changes → ⊥
 
 -- the changes that were read are those of a store, and it is opened
 pub record IsMade (read : Result (List Change) Flaw) (store : Made) : Type 0 where
@@ -32,23 +20,23 @@ pub record IsMade (read : Result (List Change) Flaw) (store : Made) : Type 0 whe
   pub versions : store.versions ≡ (changed_all changes nothing_yet).versions
   pub named : calls_refused store.pages ≡ []
 
--- why no store is made of changes that were read: for memory, or as they are of none
-abbrev pub is_why_unmade : OpenError → Result (List Change) Flaw → Type 0
-is_why_unmade NoMemory read = Unit {0}
-is_why_unmade (Decayed place) read = (changes : List Change) → read ≡ Ok changes → AreOfStore changes (changed_all changes nothing_yet) → ⊥
-is_why_unmade _ read = ⊥
+-- why no store is made of changes that were read, up to a closed gate: for memory, or as they are of none
+abbrev pub is_why_unmade : OpenError → ℕ → Result (List Change) Flaw → Type 0
+is_why_unmade NoMemory gate read = Unit {0}
+is_why_unmade (Decayed place) gate read = (place ≡ gate) × ((changes : List Change) → read ≡ Ok changes → AreOfStore changes (changed_all changes nothing_yet) → ⊥)
+is_why_unmade _ gate read = ⊥
 
--- why payloads cannot be read
-abbrev pub is_why_unread : OpenError → Result (List Change) Flaw → Type 0
-is_why_unread NoMemory read = Unit {0}
-is_why_unread (Decayed place) read = fails halt.Flawed read
-is_why_unread _ read = ⊥
+-- a file beside the one of this generation that counts
+abbrev pub IsBehind : ℕ → List ℕ → Type 0
+IsBehind generation bytes = IsBlank bytes ⊎ IsOlder generation bytes
 
--- The store that two files stand for was opened: which of the two counts, where the closed gate of its log is, and its generation
-pub record IsOpened (first second : List ℕ) (is_second : Bool) (gate generation : ℕ) (store : Made) : Type 0 where
+-- The store that two files stand for was opened: which of the two counts, where the closed gate of its log is, how long its
+-- snapshot is, and its generation
+pub record IsOpened (first second : List ℕ) (is_second : Bool) (gate snapshot generation : ℕ) (store : Made) : Type 0 where
   pub durable : Durable
   pub stands : StandsAt (if is_second then second else first) gate generation durable
-  pub behind : IsBlank (if is_second then first else second) ⊎ IsOlder generation (if is_second then first else second)
+  pub begins : length stands.stands.has.first ≡ snapshot
+  pub behind : IsBehind generation (if is_second then first else second)
   pub stand : AreFor first second durable
   pub reopened : IsReopened durable (store_of store.pages)
   pub pids : store.pids ≡ durable.pids

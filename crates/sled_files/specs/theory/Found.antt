@@ -1,13 +1,12 @@
 -- What one file of a store is found to be.
-use Rattle.std.specs.Prelude.{◌≡◌, ◌⊎◌, ◌<◌, ◌^◌, ℕ, List, ◌∷◌, ◌++◌, take, drop, Ok}
-use Rattle.std.specs.Int.{w32, from_le_bytes}
+use Rattle.std.specs.Prelude.{◌≡◌, ◌⊎◌, ◌<◌, ◌≤◌, ◌^◌, ℕ, List, ◌∷◌, ◌++◌, length, take, drop, Ok}
 use Rattle.sled_log.specs.Digest.{digest}
 use Rattle.sled_log.specs.Log.{log_of, IsLog}
 use Rattle.sled_files.specs.declared.found.OpenError.{OpenError}
-use Rattle.sled_files.specs.declared.found.OpenError.TheVariants.{NoMemory, NotAStore, OtherFormat, Decayed, Disk}
+use Rattle.sled_files.specs.declared.found.OpenError.TheVariants.{NoMemory, NotAStore, OtherFormat, Decayed}
 use Rattle.sled_files.specs.Header.{magic, format, header}
 use Rattle.sled_files.specs.Standing.{IsBlank}
-use Rattle.sled_files.specs.Opening.{HasMagic, HasOtherFormat}
+use Rattle.sled_files.specs.Flaws.{HasMagic, format_in, IsCutShort, IsFlawOf}
 
 -- a log of this generation: what stands behind the header of its first payload, the other payloads, and its closed gate
 pub record IsFileOf (bytes : List ℕ) (generation gate : ℕ) (first : List ℕ) (others : List (List ℕ)) : Type 0 where
@@ -27,15 +26,12 @@ pub record IsNoFile (bytes : List ℕ) : Type 0 where
 -- why a file is found to be none of a store
 abbrev pub is_why_no_file : OpenError → List ℕ → Type 0
 is_why_no_file NoMemory bytes = Unit {0}
-is_why_no_file NotAStore bytes = IsNoFile bytes × (HasMagic bytes → ⊥)
-is_why_no_file (OtherFormat other) bytes = IsNoFile bytes × HasMagic bytes × HasOtherFormat other bytes
-is_why_no_file (Decayed place) bytes = IsNoFile bytes × HasMagic bytes
-is_why_no_file (Disk e) bytes = ⊥
+is_why_no_file e bytes = IsNoFile bytes × IsFlawOf e bytes
 
 -- why a payload does not begin with a header
 abbrev pub is_why_headless : OpenError → List ℕ → Type 0
-is_why_headless (OtherFormat other) payload = (take 8 payload ≡ magic) × (from_le_bytes w32 (take 4 (drop 8 payload)) ≡ other) × (other ≡ format → ⊥)
-is_why_headless (Decayed place) payload = Unit {0}
+is_why_headless (OtherFormat other) payload = (take 8 payload ≡ magic) × (12 ≤ length payload) × (format_in payload ≡ other) × (other ≡ format → ⊥)
+is_why_headless (Decayed place) payload = (place ≡ 17) × IsCutShort payload
 is_why_headless _ payload = ⊥
 
 -- the first of these payloads begins with the header of this generation, and then has these bytes

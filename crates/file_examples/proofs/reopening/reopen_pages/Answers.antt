@@ -12,4 +12,4 @@ pub returns-clause-err : goal.returns-clause-err
 returns-clause-err g c =
     let pages = c.args.pages.now in
     let lasting = c.law_lasts.ensures.lasts.each (g.E.Disk.seen c.args.first) (g.E.Disk.seen c.args.second) c.requires.first c.requires.second in
-    err_weaker _ _ (λ e why. c.law_opens_again.ensures (asked_of pages.asked) pages.limits (stored_as pages) (g.E.Disk.seen c.args.first) (g.E.Disk.seen c.args.second) lasting e why) c.open.result c.open.ensures.err
+    err_weaker _ _ (λ x why. c.law_opens_again.ensures (asked_of pages.asked) pages.limits (stored_as pages) (g.E.Disk.seen c.args.first) (g.E.Disk.seen c.args.second) lasting x.error why) c.open.result c.open.ensures.err

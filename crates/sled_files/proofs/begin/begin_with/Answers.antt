@@ -9,7 +9,7 @@ use Rattle.sled_files.proofs.Beginning.{closed_or_not, block_for_first, begun_or
 use Rattle.sled_files.proofs.begin.begin_with.Goals as goal
 
 pub returns-clause-any_moment : goal.returns-clause-any_moment
-returns-clause-any_moment g c generation changes first =
+returns-clause-any_moment g c payload generation changes first =
     let file = g.D.Disk.seen c.args.disk.now in
     let mid = g.D.Disk.seen c.write_through.new.disk in
     let d = changed_all changes nothing_yet in

@@ -13,7 +13,7 @@ pub returns-clause-ok : goal.returns-clause-ok
 returns-clause-ok c =
     let whole : c.deref.result.now ≡ header c.args.generation ++ c.args.payload.now = c.deref.ensures.value ∙ c.in_ok-bytes.ensures.ok in
     let few : length (header c.args.generation ++ c.args.payload.now) < 2 ^ 64 = omega (arith, ap length whole, c.deref.ensures.len) in
-    ok_weaker (λ block. block.items ≡ behind_gate digest c.deref.result.now) (λ block. (changes : List Change) → Spells c.args.payload.now changes → AreOfStore changes (changed_all changes nothing_yet) → IsFirstBlock block.items c.args.generation changes)
-    (λ block is changes spells made. record { fits = c.ranges.generation.fits; payload = c.args.payload.now; spells = spells; made = made; few = few; bytes_are = is ∙ ap (behind_gate digest) whole })
+    ok_weaker (λ block. block.items ≡ behind_gate digest c.deref.result.now) (λ block. (changes : List Change) → Spells c.args.payload.now changes → AreOfStore changes (changed_all changes nothing_yet) → IsFirstBlock block.items c.args.payload.now c.args.generation changes)
+    (λ block is changes spells made. record { fits = c.ranges.generation.fits; spells = spells; made = made; few = few; bytes_are = is ∙ ap (behind_gate digest) whole })
     c.block_of.result
     c.block_of.ensures.ok

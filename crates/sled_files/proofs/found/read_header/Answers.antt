@@ -1,4 +1,4 @@
-use Rattle.std.proofs.Common.{rules, ◌≡◌, ◌-◌, ◌∙◌, sym, ap, arith, length, take, drop}
+use Rattle.std.proofs.Common.{rules, refl, inl, inr, ◌≡◌, ◌-◌, ◌∙◌, sym, ap, arith, length, take, drop}
 use Rattle.std.specs.Int.{w32, from_le_bytes}
 use Rattle.std.proofs.lemmas.List.{take_rest, length-drop}
 use Rattle.sled_log.proofs.ReadingLemmas.{AreBytes}
@@ -32,3 +32,27 @@ returns-clause-ok c =
     let number : c.from_le_bytes-format.result ≡ format = omega (arith, c.if-format-ne-FORMAT.false) in
     header_is c.args.payload.now (take (length c.args.payload.now - 8) (drop 8 c.args.payload.now)) c.in-Some.format.now c.in-Some.behind.now c.in-Some-split_first_chunk.generation.now c.in-Some-split_first_chunk.first.now c.from_le_bytes.result small
     (c.if-not-begins_with_magic.ensures.0 (search rules)) (take_rest c.args.payload.now 8) one.0 one.1 (omega (arith, one.2)) (sym c.from_le_bytes-format.ensures ∙ number) two.0 two.1 (omega (arith, two.2)) c.from_le_bytes.ensures
+
+pub returns-then-not-begins_with_magic-clause-cause : goal.returns-then-not-begins_with_magic-clause-cause
+returns-then-not-begins_with_magic-clause-cause c = (refl, λ magic. absurd (let h = c.if-not-begins_with_magic.ensures.1 magic in cc))
+
+pub returns-in_default-clause-cause : goal.returns-in_default-clause-cause
+returns-in_default-clause-cause c = (refl, λ magic. inl (omega (arith, c.in_default.ensures.cases, ap length (take_rest c.args.payload.now 8), length-drop 8 c.args.payload.now)))
+
+pub returns-then-format-ne-FORMAT-clause-cause : goal.returns-then-format-ne-FORMAT-clause-cause
+returns-then-format-ne-FORMAT-clause-cause c = (
+  c.if-not-begins_with_magic.ensures.0 (search rules),
+  omega (arith, c.in-Some.ensures.cases.2, ap length (take_rest c.args.payload.now 8), length-drop 8 c.args.payload.now),
+  sym (c.from_le_bytes-format.ensures ∙ ap (from_le_bytes w32) (c.in-Some.ensures.cases.0 ∙ ap (take 4) (take_rest c.args.payload.now 8))),
+  λ is. c.if-format-ne-FORMAT.true is,
+)
+
+pub returns-in_default-split_first_chunk-clause-cause : goal.returns-in_default-split_first_chunk-clause-cause
+returns-in_default-split_first_chunk-clause-cause c =
+    let number : c.from_le_bytes-format.result ≡ format = omega (arith, c.if-format-ne-FORMAT.false) in (
+      refl,
+      λ magic. inr (
+        sym (c.from_le_bytes-format.ensures ∙ ap (from_le_bytes w32) (c.in-Some.ensures.cases.0 ∙ ap (take 4) (take_rest c.args.payload.now 8))) ∙ number,
+        omega (arith, c.in_default-split_first_chunk.ensures.cases, c.in-Some.ensures.cases.2, ap length (take_rest c.args.payload.now 8), length-drop 8 c.args.payload.now),
+      ),
+    )

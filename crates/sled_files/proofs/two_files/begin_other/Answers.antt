@@ -11,3 +11,9 @@ returns-then-is_second-clause-any_moment g c = rw c.if-is_second.true c.begin_wi
 
 pub returns-else-is_second-clause-any_moment : goal.returns-else-is_second-clause-any_moment
 returns-else-is_second-clause-any_moment g c = rw c.if-is_second.false c.begin_with-else-is_second.ensures.any_moment
+
+pub returns-then-is_second-clause-stands : goal.returns-then-is_second-clause-stands
+returns-then-is_second-clause-stands g c = rw c.if-is_second.true c.begin_with.ensures.stands
+
+pub returns-else-is_second-clause-stands : goal.returns-else-is_second-clause-stands
+returns-else-is_second-clause-stands g c = rw c.if-is_second.false c.begin_with-else-is_second.ensures.stands

@@ -2,6 +2,7 @@ use Rattle.std.proofs.Common.{◌≡◌, ◌∙◌, inl, inr, ⊎_elim, refl, ap
 use Rattle.sled_store.specs.Store.{now}
 use Rattle.sled_pages.specs.Memory.{store_of}
 use Rattle.sled_files.specs.Stored.{Stored, stored_as}
+use Rattle.sled_files.specs.Lasting.{Limits, AreNoLower}
 use Rattle.sled_files.specs.theory.Snapshot.{Makes}
 use Rattle.sled_files.proofs.Over.{own_fault}
 use Rattle.sled_files.proofs.Added.{sound_refused}
@@ -10,10 +11,12 @@ use Rattle.sled_files.proofs.file_pages.FilePages.flush_anew.Goals as goal
 
 pub invariant_of-self : goal.invariant_of-self
 invariant_of-self g c =
-    let whole = subst (λ (v : Stored g.row.D.Denot). Makes (store_of v.pages) c.args.whole.now (whole_of v)) (sym c.self.view_is) c.requires.whole in
+    let raised : Limits = record { pids = c.args.pids; versions = c.args.versions } in
+    let whole = subst (λ (v : Stored g.row.D.Denot). Makes (store_of v.pages) c.args.whole.now (whole_of v raised)) (sym c.self.view_is) c.requires.whole in
+    let lower : AreNoLower (record { pids = c.self.inside.limit_pids; versions = c.self.inside.limit_versions }) raised = subst (λ (v : Stored g.row.D.Denot). AreNoLower v.limits raised) (sym c.self.view_is) (record { pids = c.requires.pids; versions = c.requires.versions }) in
     let out : (now (store_of c.self.inside.pages)).in_group ≡ false = ap (λ (v : Stored g.row.D.Denot). (now (stored_as v)).in_group) c.self.view_is ∙ c.requires.out in
     sound_refused _ c.begin_anew.new.files c.self.inside.asked c.begin_anew.new.faults c.self.invariant (⊎_elim (λ e. inl (e, refl)) (λ e. inr e) c.in-Err.ensures.err)
-    (moments_anew _ c.begin_anew.new.files c.args.whole.now c.self.invariant out whole c.begin_anew.ensures.first c.begin_anew.ensures.second c.begin_anew.ensures.over c.begin_anew.ensures.any_moment)
+    (moments_anew _ c.begin_anew.new.files c.args.whole.now c.self.invariant out raised lower c.ranges.versions.fits whole c.begin_anew.ensures.first c.begin_anew.ensures.second c.begin_anew.ensures.over c.begin_anew.ensures.any_moment)
 
 pub returns-in-Err-clause-err : goal.returns-in-Err-clause-err
 returns-in-Err-clause-err g c = rw (← c.self.view_is) (own_fault (store_of c.self.inside.pages) c.in-Err.ensures.fault)
@@ -23,19 +26,25 @@ returns-in-Err-clause-stays g c = rw (← c.self.view_is) (unchanged _ c.begin_a
 
 pub returns-in-Err-clause-any_moment : goal.returns-in-Err-clause-any_moment
 returns-in-Err-clause-any_moment g c =
-    let whole = subst (λ (v : Stored g.row.D.Denot). Makes (store_of v.pages) c.args.whole.now (whole_of v)) (sym c.self.view_is) c.requires.whole in
+    let raised : Limits = record { pids = c.args.pids; versions = c.args.versions } in
+    let whole = subst (λ (v : Stored g.row.D.Denot). Makes (store_of v.pages) c.args.whole.now (whole_of v raised)) (sym c.self.view_is) c.requires.whole in
+    let lower : AreNoLower (record { pids = c.self.inside.limit_pids; versions = c.self.inside.limit_versions }) raised = subst (λ (v : Stored g.row.D.Denot). AreNoLower v.limits raised) (sym c.self.view_is) (record { pids = c.requires.pids; versions = c.requires.versions }) in
     let out : (now (store_of c.self.inside.pages)).in_group ≡ false = ap (λ (v : Stored g.row.D.Denot). (now (stored_as v)).in_group) c.self.view_is ∙ c.requires.out in
-    rw (← c.self.view_is) (moments_anew _ c.begin_anew.new.files c.args.whole.now c.self.invariant out whole c.begin_anew.ensures.first c.begin_anew.ensures.second c.begin_anew.ensures.over c.begin_anew.ensures.any_moment)
+    rw (← c.self.view_is) (moments_anew _ c.begin_anew.new.files c.args.whole.now c.self.invariant out raised lower c.ranges.versions.fits whole c.begin_anew.ensures.first c.begin_anew.ensures.second c.begin_anew.ensures.over c.begin_anew.ensures.any_moment)
 
 pub invariant_of-self-2 : goal.invariant_of-self-2
 invariant_of-self-2 g c =
-    let whole = subst (λ (v : Stored g.row.D.Denot). Makes (store_of v.pages) c.args.whole.now (whole_of v)) (sym c.self.view_is) c.requires.whole in
+    let raised : Limits = record { pids = c.args.pids; versions = c.args.versions } in
+    let whole = subst (λ (v : Stored g.row.D.Denot). Makes (store_of v.pages) c.args.whole.now (whole_of v raised)) (sym c.self.view_is) c.requires.whole in
+    let lower : AreNoLower (record { pids = c.self.inside.limit_pids; versions = c.self.inside.limit_versions }) raised = subst (λ (v : Stored g.row.D.Denot). AreNoLower v.limits raised) (sym c.self.view_is) (record { pids = c.requires.pids; versions = c.requires.versions }) in
     let out : (now (store_of c.self.inside.pages)).in_group ≡ false = ap (λ (v : Stored g.row.D.Denot). (now (stored_as v)).in_group) c.self.view_is ∙ c.requires.out in
     rw (c.in_default.ensures.same, c.clear.ensures.items)
-    (sound_anew _ c.begin_anew.new.files c.args.whole.now c.self.invariant out whole c.flush_uncounted.new.self c.in_default.ensures.up c.in_default.ensures.ready c.flush_uncounted.ensures.ok)
+    (sound_anew _ c.begin_anew.new.files c.args.whole.now c.self.invariant out raised lower c.ranges.versions.fits whole c.flush_uncounted.new.self c.in_default.ensures.up c.in_default.ensures.ready c.flush_uncounted.ensures.ok)
 
 pub returns-clause-any_moment : goal.returns-clause-any_moment
 returns-clause-any_moment g c =
-    let whole = subst (λ (v : Stored g.row.D.Denot). Makes (store_of v.pages) c.args.whole.now (whole_of v)) (sym c.self.view_is) c.requires.whole in
+    let raised : Limits = record { pids = c.args.pids; versions = c.args.versions } in
+    let whole = subst (λ (v : Stored g.row.D.Denot). Makes (store_of v.pages) c.args.whole.now (whole_of v raised)) (sym c.self.view_is) c.requires.whole in
+    let lower : AreNoLower (record { pids = c.self.inside.limit_pids; versions = c.self.inside.limit_versions }) raised = subst (λ (v : Stored g.row.D.Denot). AreNoLower v.limits raised) (sym c.self.view_is) (record { pids = c.requires.pids; versions = c.requires.versions }) in
     let out : (now (store_of c.self.inside.pages)).in_group ≡ false = ap (λ (v : Stored g.row.D.Denot). (now (stored_as v)).in_group) c.self.view_is ∙ c.requires.out in
-    rw (← c.self.view_is) (moments_anew _ c.begin_anew.new.files c.args.whole.now c.self.invariant out whole c.begin_anew.ensures.first c.begin_anew.ensures.second c.begin_anew.ensures.over c.begin_anew.ensures.any_moment)
+    rw (← c.self.view_is) (moments_anew _ c.begin_anew.new.files c.args.whole.now c.self.invariant out raised lower c.ranges.versions.fits whole c.begin_anew.ensures.first c.begin_anew.ensures.second c.begin_anew.ensures.over c.begin_anew.ensures.any_moment)

@@ -1,7 +1,8 @@
 use Rattle.std.proofs.Common.{sym, subst}
 use Rattle.sled_files.specs.Stored.{Stored, stored_as}
 use Rattle.sled_files.specs.Opening.{LeavesWhileOpened}
-use Rattle.sled_files.proofs.Reopening.{stands_opened, within_opened, opens_to, recovers_each, begins_new, refused_openable, lasts_while}
+use Rattle.sled_files.proofs.Reopening.{stands_opened, within_opened, opens_to, recovers_each, begins_new, refused_openable, lasts_while, lasts_then}
+use Rattle.sled_files.proofs.Flawed.{told, flaw_unopened, opened_openable}
 use Rattle.sled_files.proofs.file_pages.FilePages.open.Goals as goal
 
 pub new-requires-clause-stands : goal.new-requires-clause-stands
@@ -20,10 +21,19 @@ pub returns-in-Ok-clause-begins : goal.returns-in-Ok-clause-begins
 returns-in-Ok-clause-begins g c = begins_new g.D.Disk.seen g.D.Disk.may_leave (g.D.Disk.seen c.args.first) (g.D.Disk.seen c.args.second) c.new.result.files (stored_as c.new.result) (returns-in-Ok-clause-opens g c)
 
 pub returns-in-Err-clause-refused : goal.returns-in-Err-clause-refused
-returns-in-Err-clause-refused g c = refused_openable (g.D.Disk.seen c.args.first) (g.D.Disk.seen c.args.second) c.in-Err.e c.in-Err.ensures.err
+returns-in-Err-clause-refused g c = refused_openable (g.D.Disk.seen c.args.first) (g.D.Disk.seen c.args.second) c.in-Err.refused.error c.in-Err.ensures.err
+
+pub returns-in-Err-clause-keeps : goal.returns-in-Err-clause-keeps
+returns-in-Err-clause-keeps g c = lasts_then c.args.first c.args.second c.in-Err.refused.first c.in-Err.refused.second c.in-Err.ensures.refused c.law_may_stay.ensures c.law_may_stay-2.ensures
 
 pub returns-in-Ok-clause-any_moment : goal.returns-in-Ok-clause-any_moment
-returns-in-Ok-clause-any_moment g c = subst (λ (f : Stored g.row.D.Denot). LeavesWhileOpened g.D.Disk.seen g.D.Disk.moment g.D.Disk.left_since g.D.Disk.may_leave c.args.first c.args.second f.files) (sym c.new.ensures) c.in-Ok.ensures.any_moment
+returns-in-Ok-clause-any_moment g c = subst (λ (f : Stored g.row.D.Denot). LeavesWhileOpened g.D.Disk.seen g.D.Disk.moment g.D.Disk.left_since g.D.Disk.may_leave c.args.first c.args.second f.files.first f.files.second) (sym c.new.ensures) c.in-Ok.ensures.any_moment
 
 pub returns-in-Ok-clause-lasts : goal.returns-in-Ok-clause-lasts
-returns-in-Ok-clause-lasts g c = lasts_while c.args.first c.args.second c.new.result.files (returns-in-Ok-clause-any_moment g c) c.law_may_stay.ensures c.law_may_stay-2.ensures
+returns-in-Ok-clause-lasts g c = lasts_while c.args.first c.args.second c.new.result.files.first c.new.result.files.second (returns-in-Ok-clause-any_moment g c) c.law_may_stay.ensures c.law_may_stay-2.ensures
+
+pub returns-in-Err-clause-told : goal.returns-in-Err-clause-told
+returns-in-Err-clause-told g c e is = told (g.D.Disk.seen c.args.first) (g.D.Disk.seen c.args.second) e c.in-Err.refused.error is c.in-Err.ensures.err
+
+pub returns-in-Ok-clause-sound : goal.returns-in-Ok-clause-sound
+returns-in-Ok-clause-sound g c e is = flaw_unopened (g.D.Disk.seen c.args.first) (g.D.Disk.seen c.args.second) e is (opened_openable (returns-in-Ok-clause-opens g c))

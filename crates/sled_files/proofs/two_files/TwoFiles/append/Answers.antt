@@ -12,7 +12,7 @@ pub returns-in_err-block-clause-any_moment : goal.returns-in_err-block-clause-an
 returns-in_err-block-clause-any_moment g c d changes ready spells added =
     let disk = g.D.Disk in
     let inside = c.self.inside in
-    let old : Files g.row.D.Denot = record { first = inside.first; second = inside.second; is_second = inside.is_second; gate = inside.gate; generation = inside.generation; failed = inside.failed } in
+    let old : Files g.row.D.Denot = record { first = inside.first; second = inside.second; is_second = inside.is_second; gate = inside.gate; snapshot = inside.snapshot; generation = inside.generation; failed = inside.failed } in
     let before : IsReady disk.seen disk.may_leave old d = subst (λ (f : Files g.row.D.Denot). IsReady disk.seen disk.may_leave f d) (sym c.self.view_is) ready in
     subst (λ (f : Files g.row.D.Denot). LeavesPairs disk.moment disk.left_since disk.may_leave f f (AreForEither d (changed_all changes d))) c.self.view_is (while_unasked disk.seen disk.moment disk.left_since disk.may_leave old d (changed_all changes d) c.laws_of.ensures.first c.laws_of.ensures.second before)
 
@@ -20,7 +20,7 @@ pub returns-then-saturating_sub-len-clause-any_moment : goal.returns-then-satura
 returns-then-saturating_sub-len-clause-any_moment g c d changes ready spells added =
     let disk = g.D.Disk in
     let inside = c.self.inside in
-    let old : Files g.row.D.Denot = record { first = inside.first; second = inside.second; is_second = inside.is_second; gate = inside.gate; generation = inside.generation; failed = inside.failed } in
+    let old : Files g.row.D.Denot = record { first = inside.first; second = inside.second; is_second = inside.is_second; gate = inside.gate; snapshot = inside.snapshot; generation = inside.generation; failed = inside.failed } in
     let before : IsReady disk.seen disk.may_leave old d = subst (λ (f : Files g.row.D.Denot). IsReady disk.seen disk.may_leave f d) (sym c.self.view_is) ready in
     subst (λ (f : Files g.row.D.Denot). LeavesPairs disk.moment disk.left_since disk.may_leave f f (AreForEither d (changed_all changes d))) c.self.view_is (while_unasked disk.seen disk.moment disk.left_since disk.may_leave old d (changed_all changes d) c.laws_of.ensures.first c.laws_of.ensures.second before)
 
@@ -28,8 +28,8 @@ pub returns-in_err-added-clause-any_moment : goal.returns-in_err-added-clause-an
 returns-in_err-added-clause-any_moment g c d changes ready spells added =
     let disk = g.D.Disk in
     let inside = c.self.inside in
-    let old : Files g.row.D.Denot = record { first = inside.first; second = inside.second; is_second = inside.is_second; gate = inside.gate; generation = inside.generation; failed = inside.failed } in
-    let new : Files g.row.D.Denot = record { first = c.append_to_one-added.new.first; second = c.append_to_one-added.new.second; is_second = inside.is_second; gate = inside.gate; generation = inside.generation; failed = true } in
+    let old : Files g.row.D.Denot = record { first = inside.first; second = inside.second; is_second = inside.is_second; gate = inside.gate; snapshot = inside.snapshot; generation = inside.generation; failed = inside.failed } in
+    let new : Files g.row.D.Denot = record { first = c.append_to_one-added.new.first; second = c.append_to_one-added.new.second; is_second = inside.is_second; gate = inside.gate; snapshot = inside.snapshot; generation = inside.generation; failed = true } in
     let before : IsReady disk.seen disk.may_leave old d = subst (λ (f : Files g.row.D.Denot). IsReady disk.seen disk.may_leave f d) (sym c.self.view_is) ready in
     let few : length c.args.payload.now < 2 ^ 64 = omega arith in
     let block = c.deref.result.now in
@@ -41,8 +41,8 @@ pub returns-clause-any_moment : goal.returns-clause-any_moment
 returns-clause-any_moment g c d changes ready spells added =
     let disk = g.D.Disk in
     let inside = c.self.inside in
-    let old : Files g.row.D.Denot = record { first = inside.first; second = inside.second; is_second = inside.is_second; gate = inside.gate; generation = inside.generation; failed = inside.failed } in
-    let new : Files g.row.D.Denot = record { first = c.append_to_one-added.new.first; second = c.append_to_one-added.new.second; is_second = inside.is_second; gate = inside.gate + c.len-2.result; generation = inside.generation; failed = false } in
+    let old : Files g.row.D.Denot = record { first = inside.first; second = inside.second; is_second = inside.is_second; gate = inside.gate; snapshot = inside.snapshot; generation = inside.generation; failed = inside.failed } in
+    let new : Files g.row.D.Denot = record { first = c.append_to_one-added.new.first; second = c.append_to_one-added.new.second; is_second = inside.is_second; gate = inside.gate + c.len-2.result; snapshot = inside.snapshot; generation = inside.generation; failed = false } in
     let before : IsReady disk.seen disk.may_leave old d = subst (λ (f : Files g.row.D.Denot). IsReady disk.seen disk.may_leave f d) (sym c.self.view_is) ready in
     let few : length c.args.payload.now < 2 ^ 64 = omega arith in
     let block = c.deref.result.now in
@@ -54,7 +54,7 @@ pub returns-clause-ready : goal.returns-clause-ready
 returns-clause-ready g c d changes ready spells added =
     let disk = g.D.Disk in
     let inside = c.self.inside in
-    let old : Files g.row.D.Denot = record { first = inside.first; second = inside.second; is_second = inside.is_second; gate = inside.gate; generation = inside.generation; failed = inside.failed } in
+    let old : Files g.row.D.Denot = record { first = inside.first; second = inside.second; is_second = inside.is_second; gate = inside.gate; snapshot = inside.snapshot; generation = inside.generation; failed = inside.failed } in
     let before : IsReady disk.seen disk.may_leave old d = subst (λ (f : Files g.row.D.Denot). IsReady disk.seen disk.may_leave f d) (sym c.self.view_is) ready in
     let few : length c.args.payload.now < 2 ^ 64 = omega arith in
     let block = c.deref.result.now in
@@ -62,4 +62,4 @@ returns-clause-ready g c d changes ready spells added =
     let longer = disk.seen (picked inside.is_second c.append_to_one-added.new.first c.append_to_one-added.new.second) in
     let place : inside.gate + length block ≡ inside.gate + c.len-2.result = omega (arith, c.len-2.ensures, ap length c.deref.ensures.value) in
     let log : IsLog digest longer (payloads before.stands.stands ++ c.args.payload.now ∷ []) (inside.gate + c.len-2.result) = subst (λ (n : ℕ). IsLog digest longer (payloads before.stands.stands ++ c.args.payload.now ∷ []) n) place (c.in_ok-added.ensures.next (block_for before.stands spells added few block is)) in
-    once_added disk.seen disk.moment disk.left_since disk.may_leave old c.append_to_one-added.new.first c.append_to_one-added.new.second (inside.gate + c.len-2.result) d (changed_all changes d) before c.append_to_one-added.ensures.other c.in_ok-added.ensures.durable (stands_after before.stands spells added few longer (inside.gate + c.len-2.result) log)
+    once_added disk.seen disk.moment disk.left_since disk.may_leave old c.append_to_one-added.new.first c.append_to_one-added.new.second (inside.gate + c.len-2.result) d (changed_all changes d) before c.append_to_one-added.ensures.other c.in_ok-added.ensures.durable (stands_after before.stands spells added few longer (inside.gate + c.len-2.result) log) before.begins
