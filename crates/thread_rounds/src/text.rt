@@ -148,7 +148,7 @@ impl Text {
 
     /// Adds what came of a call, and ends the line.
     pub fn outcome(&mut self, outcome: Outcome) {
-        let pushed = push_outcome(&mut self.bytes, Shown::Value, &outcome);
+        let pushed = push_outcome(&mut self.bytes, Shown::Number, &outcome);
         drop(outcome);
         if let Err(e) = pushed {
             drop(e);
