@@ -1,7 +1,7 @@
 """Faults that are planted in lines of `thread_rounds`, each of which the checker (rounds.py) has to refuse."""
 import re
 
-from rounds import UNREAD, check, image_of, words_of
+from rounds import UNREAD, Wrong, check, image_of, require, words_of
 
 # Two callers, one after the other.
 TWO_CALLERS = """id 1
@@ -50,7 +50,7 @@ class Lines:
         """Changes a call and its entry alike."""
         at = self.find(pattern)[0]
         for place in (self.entry_of(at), at):
-            assert old in self.lines[place]
+            require(old in self.lines[place], "there is no", old)
             self.lines[place] = self.lines[place].replace(old, new)
 
     def turn_image(self, at, turn):
@@ -105,11 +105,11 @@ def change_crashed(lines):
 
 
 def forget_flush(lines):
-    """What the crash left is what was there right before the last flush but one write."""
+    """What the crash left is what was there at the opening, before a flush."""
     flush = lines.find(r"entry \d+ flush = .*")[0]
     opened = lines.find(r"opened .*", flush)[0]
     before = [at for at in range(flush) if lines.lines[at].startswith("opened ")][-1]
-    assert lines.lines[opened] != lines.lines[before]
+    require(lines.lines[opened] != lines.lines[before], "the crash left nothing new")
     lines.lines[opened] = lines.lines[before]
 
 
@@ -212,8 +212,8 @@ def is_refused(text, fault):
     lines = Lines(text)
     try:
         fault(lines)
-    except StopIteration:
-        return False
+    except (StopIteration, IndexError, Wrong):
+        return False  # There is no place for it.
     wrong, _ = check("".join(line + "\n" for line in lines.lines))
     return wrong is not None and not wrong.startswith(UNREAD)
 

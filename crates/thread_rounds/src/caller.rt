@@ -6,15 +6,25 @@ use sled::{
     Batch, Call, Error, IVec, MemPages, Outcome, Reply, TransactionError, TransactionResult, Tree,
     abort,
 };
-use sled_machine::shared::{self, CallError, CallResult, NoGate, Question};
+use sled_machine::shared::{self, CallError, CallResult, Gate, Question};
 use sled_nodes::Result;
 use std::alloc::Global;
 use std::ops::Bound;
 use std::sync::Wait;
 use std::sync::ledger::Ledger;
+use std::thread::yield_now;
 
 /// A caller's way to a database whose merge operators add.
 pub type Way<L> = shared::Handle<MemPages, L, Adds>;
+
+// A gate at which others may run, so that more of their calls come between two steps.
+struct Yields;
+
+impl Gate for Yields {
+    fn between(&self) {
+        yield_now();
+    }
+}
 
 /// What a caller has beside its handle: its lines, a tree that it opened, and the slot of a call that it steps, or 0.
 #[derive(Drop)]
@@ -96,7 +106,7 @@ fn make<L: Ledger, R: Wait>(
     scene.before(text);
     text.call(tree, &call);
     if call.is_on_key() {
-        scene.ended(text, way.call(rt, tree, call, &NoGate));
+        scene.ended(text, way.call(rt, tree, call, &Yields));
     } else {
         drop(call);
         text.cut();
@@ -133,11 +143,11 @@ pub fn take<L: Ledger, R: Wait>(
     let tree = tree_of(scene, side, choice);
     scene.before(text);
     let answer = match choice >> 8 & 15 {
-        0..=6 => {
+        0..=7 => {
             text.tree(b" pop_min ", tree);
             way.pop_min(rt, tree).map(|pair| Reply::Pair(pair))
         }
-        7..=13 => {
+        8..=14 => {
             text.tree(b" pop_max ", tree);
             way.pop_max(rt, tree).map(|pair| Reply::Pair(pair))
         }

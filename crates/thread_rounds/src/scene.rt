@@ -51,13 +51,10 @@ impl Plan {
         scattered(scattered(self.seed).wrapping_add(number))
     }
 
-    /// The key that such a number chooses.
+    /// The key that such a number chooses: a letter and a digit, so that there are 260 at most.
     pub fn key(&self, choice: u64) -> [u8; 2] {
         let number = choice.checked_rem(self.keys).unwrap_or(0);
-        [
-            b'a'.wrapping_add((number / 10) as u8),
-            b'0'.wrapping_add((number % 10) as u8),
-        ]
+        [b'a' + (number / 10 % 26) as u8, b'0' + (number % 10) as u8]
     }
 }
 
