@@ -8,7 +8,7 @@ use sled::{
 };
 use sled_machine::shared::{self, CallError, CallResult, Gate, Question};
 use sled_nodes::Result;
-use std::alloc::Global;
+use std::alloc::{AllocError, Global};
 use std::ops::Bound;
 use std::sync::Wait;
 use std::sync::ledger::Ledger;
@@ -317,6 +317,39 @@ fn told_value(scene: &Scene, text: &mut Text, answer: Result<Option<IVec>>) {
     }
 }
 
+// The number that stands with so much more.
+fn added(
+    alloc: Global,
+    stood: Option<&[u8]>,
+    more: u64,
+) -> std::result::Result<Option<Vec<u8>>, AllocError> {
+    Ok(Some(add_to(alloc, stood, more)?))
+}
+
+// Adds to the number at a key, in one step. It tells the new number.
+fn update<L: Ledger, R: Wait>(
+    rt: &R,
+    alloc: Global,
+    way: &mut Way<L>,
+    tree: &Tree,
+    key: &[u8],
+    more: u64,
+) -> Result<Option<IVec>> {
+    way.update_and_fetch(rt, tree, key, |stood| added(alloc, stood, more))
+}
+
+// The same, but that it tells the number that stood.
+fn fetch_first<L: Ledger, R: Wait>(
+    rt: &R,
+    alloc: Global,
+    way: &mut Way<L>,
+    tree: &Tree,
+    key: &[u8],
+    more: u64,
+) -> Result<Option<IVec>> {
+    way.fetch_and_update(rt, tree, key, |stood| added(alloc, stood, more))
+}
+
 /// Adds to the number at a key, in one step. It tells the new number, or the one that stood.
 pub fn fetch<L: Ledger, R: Wait>(
     rt: &R,
@@ -327,30 +360,16 @@ pub fn fetch<L: Ledger, R: Wait>(
 ) {
     let Book { text, side, .. } = book;
     let tree = tree_of(scene, side, choice);
-    let (alloc, key, more): (Global, [u8; 2], u64) = (
-        scene.plan.alloc,
-        scene.plan.key(choice >> 8),
-        choice >> 50,
-    );
+    let (alloc, key, more) = (scene.plan.alloc, scene.plan.key(choice >> 8), choice >> 50);
+    let tells_new = choice >> 40 & 1 == 0;
     scene.before(text);
-    let answer = if choice >> 40 & 1 == 0 {
-        text.on(b" update ", tree, &key);
-        way.update_and_fetch(
-            rt,
-            tree,
-            &key,
-            |stood| Ok(Some(add_to(alloc, stood, more)?)),
-        )
-    } else {
-        text.on(b" fetch ", tree, &key);
-        way.fetch_and_update(
-            rt,
-            tree,
-            &key,
-            |stood| Ok(Some(add_to(alloc, stood, more)?)),
-        )
-    };
+    text.on(if tells_new { b" update " } else { b" fetch " }, tree, &key);
     text.number(b" ", more);
+    let answer = if tells_new {
+        update(rt, alloc, way, tree, &key, more)
+    } else {
+        fetch_first(rt, alloc, way, tree, &key, more)
+    };
     told_value(scene, text, answer);
 }
 
