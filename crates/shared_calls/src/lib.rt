@@ -3,13 +3,11 @@
 #![tactic(auto)]
 
 mod callers;
-mod crashing;
 mod gathering;
 mod handle;
 mod state;
 
 pub use callers::step_of_one;
-pub use crashing::flush_and_take;
 pub use gathering::gather_one;
 pub use handle::{call, read};
 pub use state::{step, whole};
