@@ -335,7 +335,7 @@ fn update<L: Ledger, R: Wait>(
     key: &[u8],
     more: u64,
 ) -> Result<Option<IVec>> {
-    way.update_and_fetch(rt, tree, key, |stood| added(alloc, stood, more))
+    way.update_and_fetch(rt, tree, key, move |stood| added(alloc, stood, more))
 }
 
 // The same, but that it tells the number that stood.
@@ -347,7 +347,7 @@ fn fetch_first<L: Ledger, R: Wait>(
     key: &[u8],
     more: u64,
 ) -> Result<Option<IVec>> {
-    way.fetch_and_update(rt, tree, key, |stood| added(alloc, stood, more))
+    way.fetch_and_update(rt, tree, key, move |stood| added(alloc, stood, more))
 }
 
 /// Adds to the number at a key, in one step. It tells the new number, or the one that stood.
