@@ -35,14 +35,32 @@ pub struct Ending {
     pub reclaims: bool,
 }
 
-// The call that a number chooses.
-fn make<L: Ledger, R: Wait>(rt: &R, scene: &Scene, way: &mut Way<L>, book: &mut Book, choice: u64) {
+// The call on a key, in a slot or at once, or the read that a number below 77 chooses.
+fn make_on_keys<L: Ledger, R: Wait>(
+    rt: &R,
+    scene: &Scene,
+    way: &mut Way<L>,
+    book: &mut Book,
+    choice: u64,
+) {
     match choice % 100 {
         0..=26 => point(rt, scene, way, book, choice),
         27..=54 => work(rt, scene, way, book, choice),
         55..=60 => meddle(rt, scene, way, book, choice),
         61..=74 => ask(rt, scene, way, book, choice),
-        75 | 76 => read_all(rt, scene, way, book, choice),
+        _ => read_all(rt, scene, way, book, choice),
+    }
+}
+
+// The other call that a number from 77 on chooses.
+fn make_whole<L: Ledger, R: Wait>(
+    rt: &R,
+    scene: &Scene,
+    way: &mut Way<L>,
+    book: &mut Book,
+    choice: u64,
+) {
+    match choice % 100 {
         77..=80 => take(rt, scene, way, book, choice),
         81..=83 => batch(rt, scene, way, book, choice),
         84 | 85 => group(rt, scene, way, book, choice),
@@ -52,6 +70,15 @@ fn make<L: Ledger, R: Wait>(rt: &R, scene: &Scene, way: &mut Way<L>, book: &mut 
         92 => drop_named(rt, scene, way, book, choice),
         93..=95 => fetch(rt, scene, way, book, choice),
         _ => transfer(rt, scene, way, book, choice),
+    }
+}
+
+// The call that a number chooses.
+fn make<L: Ledger, R: Wait>(rt: &R, scene: &Scene, way: &mut Way<L>, book: &mut Book, choice: u64) {
+    if choice % 100 < 77 {
+        make_on_keys(rt, scene, way, book, choice);
+    } else {
+        make_whole(rt, scene, way, book, choice);
     }
 }
 
