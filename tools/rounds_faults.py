@@ -1,0 +1,225 @@
+"""Faults that are planted in lines of `thread_rounds`, each of which the checker (rounds.py) has to refuse."""
+import re
+
+from rounds import UNREAD, Wrong, check, image_of, require, words_of
+
+# Two callers, one after the other.
+TWO_CALLERS = """id 1
+opened 1 __sled__default 0
+caller 1 kept
+1 insert __sled__default 1 a 1 = 2 value -
+caller 2 kept
+3 get __sled__default 1 a = 4 value 1
+gathered
+entry 1 insert __sled__default 1 a 1 = value -
+entry 2 get __sled__default 1 a = value 1
+left 1 __sled__default 1 a 1
+crash 9
+id 2
+opened 1 __sled__default 1 a 1
+"""
+# A value that no caller writes.
+OTHER = "%00%00%01%00%00%00%00%07"
+
+
+class Lines:
+    """Lines in which a fault is planted."""
+
+    def __init__(self, text):
+        self.lines = text.split("\n")[:-1]
+
+    def find(self, pattern, after=-1):
+        """The first line behind another one that matches, and what matched."""
+        return next((at, found) for at, line in enumerate(self.lines) if at > after and (found := re.fullmatch(pattern, line)))
+
+    def replace(self, pattern, new):
+        """Replaces the first line that matches."""
+        at, found = self.find(pattern)
+        self.lines[at] = found.expand(new)
+        return at
+
+    def drop(self, pattern):
+        del self.lines[self.find(pattern)[0]]
+
+    def entry_of(self, at):
+        """Where the entry of the call in a line is."""
+        call = re.fullmatch(r"\d+ (.* =) \d+ (.*)", self.lines[at])
+        return self.find(rf"entry \d+ {re.escape(f'{call[1]} {call[2]}')}", at)[0]
+
+    def turn_both(self, pattern, old, new):
+        """Changes a call and its entry alike."""
+        at = self.find(pattern)[0]
+        for place in (self.entry_of(at), at):
+            require(old in self.lines[place], "there is no", old)
+            self.lines[place] = self.lines[place].replace(old, new)
+
+    def turn_image(self, at, turn):
+        kind, *words = self.lines[at].split(" ")
+        image = image_of(words)
+        turn(image)
+        self.lines[at] = " ".join([kind, *words_of(image)])
+
+
+def change_reply(lines):
+    lines.turn_both(r"\d+ insert .* = \d+ value -", "value -", f"value {OTHER}")
+
+
+def change_entry(lines):
+    lines.replace(r"(entry .* insert .* = value) -", rf"\1 {OTHER}")
+
+
+def change_answer(lines):
+    lines.replace(r"(\d+ insert .* = \d+ value) -", rf"\1 {OTHER}")
+
+
+def move_entry(lines):
+    at = lines.find(r"entry \d+ insert .*")[0]
+    lines.lines[at], lines.lines[at + 1] = lines.lines[at + 1], lines.lines[at]
+
+
+def drop_entry(lines):
+    lines.drop(r"entry \d+ get .*")
+
+
+def double_entry(lines):
+    at = lines.find(r"entry \d+ get .*")[0]
+    lines.lines.insert(at, lines.lines[at])
+
+
+def drop_call(lines):
+    lines.drop(r"\d+ get .* value .*")
+
+
+def give_away(lines):
+    lines.replace(r"entry 1 (get .*)", r"entry 2 \1")
+
+
+def drop_pair(lines):
+    at = lines.find(r"left 1 __sled__default [1-9].*")[0]
+    lines.turn_image(at, lambda image: image["__sled__default"].popitem())
+
+
+def change_crashed(lines):
+    at = lines.find(r"opened 1 __sled__default [1-9].*")[0]
+    lines.turn_image(at, lambda image: image["__sled__default"].update({[*image["__sled__default"]][0]: OTHER}))
+
+
+def forget_flush(lines):
+    """What the crash left is what was there at the opening, before a flush."""
+    flush = lines.find(r"entry \d+ flush = .*")[0]
+    opened = lines.find(r"opened .*", flush)[0]
+    before = [at for at in range(flush) if lines.lines[at].startswith("opened ")][-1]
+    require(lines.lines[opened] != lines.lines[before], "the crash left nothing new")
+    lines.lines[opened] = lines.lines[before]
+
+
+def repeat_id(lines):
+    at, first = lines.find(r"\d+ id = \d+ number (\d+)")
+    second = lines.find(r"\d+ id = \d+ number (\d+)", at)[1]
+    lines.turn_both(rf"\d+ id = \d+ number {second[1]}", f"number {second[1]}", f"number {first[1]}")
+
+
+def repeat_id_after_crash(lines):
+    at, last = lines.find(r"entry \d+ id = number (\d+)")
+    lines.lines[lines.find(r"id \d+", at)[0]] = f"id {last[1]}"
+
+
+# A pair of a scan, and the next one, in steps one right behind the other.
+PAIR = r"(\d+ step (\d+) = \d+) pair (\S+) (\S+)"
+
+
+def two_pairs(lines):
+    at = -1
+    while True:
+        at, one = lines.find(PAIR, at)
+        other = re.fullmatch(PAIR, lines.lines[at + 1])
+        if other and one[2] == other[2]:
+            return at, one, other
+
+
+def skip_pair(lines):
+    at = two_pairs(lines)[0]
+    del lines.lines[at]
+
+
+def change_pair(lines):
+    lines.replace(PAIR, rf"\1 pair \3 {OTHER}")
+
+
+def repeat_pair(lines):
+    at, one, other = two_pairs(lines)
+    lines.lines[at + 1] = f"{other[1]} pair {one[3]} {one[4]}"
+
+
+def swap_pairs(lines):
+    at, one, other = two_pairs(lines)
+    lines.lines[at : at + 2] = [f"{one[1]} pair {other[3]} {other[4]}", f"{other[1]} pair {one[3]} {one[4]}"]
+
+
+def lose_slot(lines):
+    lines.replace(r"(\d+ step \d+ = \d+) moved", r"\1 no slot")
+
+
+def end_slot_twice(lines):
+    at, found = lines.find(r"(\d+ step (\d+) = \d+) moved")
+    lines.lines[at] = f"{found[1]} end"
+
+
+def refuse_call(lines):
+    at = lines.find(r"\d+ get .* value .*")[0]
+    del lines.lines[lines.entry_of(at)]
+    lines.lines[at] = re.sub("value .*", "refused E1", lines.lines[at])
+
+
+def read_another(lines):
+    """A transaction read what was not there, and wrote that."""
+    at, found = lines.find(r"\d+ transfer \S+ \d+ \S+ \S+ \S+ = \d+ value (\S+)")
+    entry = lines.find(rf"entry \d+ group 1 .* {re.escape(found[1])}.*", at)[0]
+    for place in (at, entry):
+        lines.lines[place] = lines.lines[place].replace(found[1], OTHER)
+
+
+def abandon(lines):
+    """A transaction wrote nothing though there was a value."""
+    at, found = lines.find(r"(\d+ transfer .* = \d+) value (\S+)")
+    del lines.lines[lines.find(rf"entry \d+ group 1 .* {re.escape(found[2])}.*", at)[0]]
+    lines.lines[at] = f"{found[1]} abandoned"
+
+
+def read_before(lines):
+    """A read told what was there before a write that had ended."""
+    lines.replace(r"(3 get .*) 1", r"\1 -")
+    lines.replace(r"(entry 2 .*) 1", r"\1 -")
+    at = lines.find("entry 1 .*")[0]
+    lines.lines[at], lines.lines[at + 1] = lines.lines[at + 1], lines.lines[at]
+
+
+def turn_clock(lines):
+    lines.replace(r"3 (get .*) = 4 (.*)", r"4 \1 = 3 \2")
+
+
+def lose_handle(lines):
+    lines.replace("caller 2 kept", "caller 2 lost")
+
+
+# Faults in lines that were printed, and those in the lines of two callers.
+PRINTED = [change_reply, change_entry, change_answer, move_entry, drop_entry, double_entry, drop_call, give_away, drop_pair, change_crashed, forget_flush, repeat_id, repeat_id_after_crash, skip_pair, change_pair, repeat_pair, swap_pairs, lose_slot, end_slot_twice, refuse_call, read_another, abandon]
+BESIDE = [read_before, turn_clock, lose_handle]
+
+
+def is_refused(text, fault):
+    """Whether lines are refused once the fault is in them, and not since they cannot be read."""
+    lines = Lines(text)
+    try:
+        fault(lines)
+    except (StopIteration, IndexError, Wrong):
+        return False  # There is no place for it.
+    wrong, _ = check("".join(line + "\n" for line in lines.lines))
+    return wrong is not None and not wrong.startswith(UNREAD)
+
+
+def planted(text):
+    """Of each fault, by its name, whether the checker refuses it; and of none whether it accepts the lines."""
+    refused = {"none, in lines that were printed": check(text)[0] is None, "none, in those of two callers": check(TWO_CALLERS)[0] is None}
+    refused |= {fault.__name__: is_refused(text, fault) for fault in PRINTED}
+    return refused | {fault.__name__: is_refused(TWO_CALLERS, fault) for fault in BESIDE}
