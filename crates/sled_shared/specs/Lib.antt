@@ -3,6 +3,7 @@ pub mod Openings
 pub mod Orders
 pub mod Reads
 pub mod Made
+pub mod Stood
 pub mod Values
 pub mod WholeMade
 pub mod History
@@ -14,6 +15,7 @@ pub mod WholeNotes
 pub mod Replies
 pub mod Fetches
 pub mod Transactions
+pub mod RangePages
 pub mod Gathered
 pub mod Again
 pub mod theory
