@@ -10,7 +10,7 @@ pub mod Leading
 pub mod WholeAdds
 pub mod Fetching
 pub mod Stands
-pub mod Grouping
+pub mod GroupStates
 pub mod Transacting
 pub mod Listing
 pub mod SameContents

@@ -119,7 +119,7 @@ module _ {P M A E W : Type 0} (store : P → Store) (meant : M → Merge) (so : 
   ]
 
   pub ended_failed : (e : TransactionError E) → ran_as (so d) (Err e) → AddsTransaction (IsOnce store meant so) batches_of has (Err e) made made
-  ended_failed (Abort e) r = record { noted = []; notes = ((maps_of (db_state store meant d), d, refl, r), refl); adds = sym (append-nil made) }
+  ended_failed (Abort e) r = record { noted = []; notes = ((maps_of (db_state store meant d), (d, refl, r)), refl); adds = sym (append-nil made) }
   ended_failed (Storage e) r = record { noted = []; notes = inl refl; adds = sym (append-nil made) }
 
 pub adds_closed : {P M A E W : Type 0} (store : P → Store) (meant : M → Merge) (so : DbValue P M → Result (Commit A W) (TransactionError E) → Type 0) (batches_of : W → List (Tree × Writes)) (has : Bool) (e : Error) (made : List MadeValue)

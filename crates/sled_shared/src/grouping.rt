@@ -188,7 +188,7 @@ pub(crate) fn decided(outcome: Outcome) -> Result<()>
 }
 
 // Makes a group.
-#[tactic(auto, using(crate::proofs::Grouping::group_made, crate::proofs::Grouping::group_refused))]
+#[tactic(auto, using(crate::proofs::GroupStates::group_made, crate::proofs::GroupStates::group_refused))]
 fn make_now<P: Pages, M: MergeOperator>(
     machine: &mut Machine<P, M>,
     group: Vec<(Tree, Batch)>,

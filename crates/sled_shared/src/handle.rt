@@ -69,8 +69,8 @@ impl<P: Pages, L: Ledger, M> Handle<P, L, M> {
         self.me.number
     }
 
-    /// What this caller made, in order: each of its calls on a key and of its whole calls that was decided, with its reply, the parts of
-    /// those that were refused after some, and each of its reads, with what it told.
+    /// What this caller made, in order. It has each of its calls on a key and of its whole calls that was decided, with its reply, and the
+    /// parts of those that were refused after some. It has each of its reads, with what it told, and each of its transactions.
     ///
     /// ```
     /// let count = handle.made().len();
@@ -166,10 +166,12 @@ impl<P: Pages, L: Ledger, M: MergeOperator> Handle<P, L, M> {
         fetched
     }
 
-    /// Sets the value at a key to what the closure makes of the value that stands there, or takes the key out where it answers `None`, and
-    /// answers the new value; all in one step under the lock, so nobody writes between. It comes to the end of this caller's list as the swap
-    /// of the one value for the other. Refused as a read and a swap are, and with `NoMemory` where the closure tells want of memory; then
-    /// nothing is written, and nothing comes to the list. The closure is called while the lock is held: it must make no call on this database.
+    /// Sets the value at a key to what the closure makes of the value that stands there, or takes the key out where it answers `None`. It
+    /// answers the new value. It is one step under the lock, so nobody writes between. It comes to the end of this caller's list as the swap of
+    /// the one value for the other.
+    ///
+    /// Refused as a read and a swap are, and with `NoMemory` where the closure tells want of memory; then nothing is written, and nothing comes
+    /// to the list. The closure is called while the lock is held: it must make no call on this database.
     ///
     /// ```
     /// // The value is taken out, whatever it is.

@@ -154,7 +154,8 @@ impl RangePages {
     /// ```
     /// let mut pages = RangePages::new(alloc, &tree, Bound::Unbounded, Bound::Unbounded, false, 10)?;
     /// while let Some(page) = pages.next_page(rt, &mut handle) {
-    ///     for (key, value) in page?.as_slice() {
+    ///     let page = page?;
+    ///     for (key, value) in page.as_slice() {
     ///         let both = (key.as_ref(), value.as_ref());
     ///     }
     /// }

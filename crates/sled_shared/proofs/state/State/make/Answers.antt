@@ -4,8 +4,8 @@ use Rattle.sled_model.specs.Collections.{contents_of}
 use Rattle.sled_shared.specs.Made.{entry_value, entry_values}
 use Rattle.sled_shared.specs.Notes.{entries_of}
 use Rattle.sled_shared.specs.theory.Noting.{first_noted}
-use Rattle.sled_shared.proofs.Grouping.{grouped_state}
-use Rattle.sled_shared.proofs.grouping.State.make.Goals as goal
+use Rattle.sled_shared.proofs.GroupStates.{grouped_state}
+use Rattle.sled_shared.proofs.state.State.make.Goals as goal
 
 pub invariant_of-self : goal.invariant_of-self
 invariant_of-self g c =

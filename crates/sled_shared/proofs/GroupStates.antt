@@ -72,7 +72,7 @@ module _ {P M : Type 0} (store : P → Store) (number : P → ℕ) (meant : M �
 
       made : makes_as h.crashes.last v (maps_of B)
       made = subst (λ m. makes_as m v (maps_of B)) (sym (led store number meant a b opening history h.crashes (tested_open A (trees_of_batches group.items) decides.free)))
-          (refl, refl, (makes (configuration_of store number meant a) (Group group) g.reply B g.step.step.maps decides).1)
+          (let m = makes (configuration_of store number meant a) (Group group) g.reply B g.step.step.maps decides in (refl, (refl, m.1, m.2)))
 
       left : AreCrashMaps (store b.db.pages) (h.crashes.left ++ maps_of B ∷ [])
       left = subst (λ x. AreCrashMaps (store b.db.pages) (h.crashes.left ++ x)) decides.added (g.step.step.keeps h.crashes.left h.crashes.leaves)
