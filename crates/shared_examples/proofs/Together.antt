@@ -81,7 +81,7 @@ module _ (tree : Tree) (key : Key) where
 
   sole_raises : (o : Option (Tree × Key × Option Key × Key)) → is_sole_raise tree key o → AllByRecursion IsRaise (swapped_alone tree.name key o)
   sole_raises None p = tt
-  sole_raises (Some s) p = raised_at s.0 s.1 s.2.0 (Some s.2.1) p.2 (is_at tree.name key s.0 s.1)
+  sole_raises (Some s) p = raised_at s.0 s.1 s.2 (Some s.3) p.2 (is_at tree.name key s.0 s.1)
 
   part_raises : (m : MadeValue) → is_part tree key m → AllByRecursion IsRaise (swapped_by tree.name key m)
   part_raises (PointMade t (Get k) reply) p = tt

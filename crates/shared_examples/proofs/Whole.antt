@@ -48,7 +48,7 @@ one_more n times = omega arith
 module _ (tree : Tree) (key : Key) where
   sole_counts : (o : Option (Tree × Key × Option Key × Key)) → is_sole_raise tree key o → 1 ≡ length (swapped_alone tree.name key o)
   sole_counts None p = absurd p
-  sole_counts (Some s) p = sym (ap (λ b. length {A = Option Key × Option Key} (cond b ((s.2.0, Some s.2.1) ∷ []) [])) (at_itself tree.name key s.0 s.1 (ap (λ (t : Tree). t.name) p.0) p.1))
+  sole_counts (Some s) p = sym (ap (λ b. length {A = Option Key × Option Key} (cond b ((s.2, Some s.3) ∷ []) [])) (at_itself tree.name key s.0 s.1 (ap (λ (t : Tree). t.name) p.0) p.1))
 
   counts : (m : MadeValue) → is_part tree key m → cond (has_written m) 1 0 ≡ length (swapped_by tree.name key m)
   counts (PointMade t (Get k) reply) p = refl

@@ -40,7 +40,7 @@ IsSwapAt tree key m = ⊥
 
 abbrev pub swapped_alone : Key → Key → Option (Tree × Key × Option Key × Key) → List (Option Key × Option Key)
 swapped_alone tree key None = []
-swapped_alone tree key (Some s) = if is_at tree key s.0 s.1 then ((s.2.0, Some s.2.1) ∷ []) else []
+swapped_alone tree key (Some s) = if is_at tree key s.0 s.1 then ((s.2, Some s.3) ∷ []) else []
 
 -- a swap at the key that succeeded: the value that it found, and the one that it wrote
 abbrev pub swapped_by : Key → Key → MadeValue → List (Option Key × Option Key)
@@ -84,7 +84,7 @@ SharesLaw = (tree key : Key) (history : List EntryValue) (given : ℕ) (callers 
 
 abbrev pub is_sole_raise : Tree → Key → Option (Tree × Key × Option Key × Key) → Type 0
 is_sole_raise tree key None = ⊥
-is_sole_raise tree key (Some s) = (s.0 ≡ tree) × (s.1 ≡ key) × IsRaise (s.2.0, Some s.2.1)
+is_sole_raise tree key (Some s) = (s.0 ≡ tree) × (s.1 ≡ key) × IsRaise (s.2, Some s.3)
 
 -- a part of a raise: a read of the key, or a swap of a number there for the one above it, whatever they replied
 abbrev pub is_part : Tree → Key → MadeValue → Type 0

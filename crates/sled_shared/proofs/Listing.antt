@@ -1,5 +1,7 @@
 -- The tests of a list of trees.
-use Rattle.std.proofs.Common.{◌≡◌, ◌∙◌, ℕ, ◌<◌, true, if◌then◌else◌, List, [], ◌∷◌, ◌++◌, length, map, take, get_or, suc, Bor, Option, Some, None, All, sym, refl, ap}
+use Rattle.std.proofs.Common.{◌≡◌, ◌∙◌, ℕ, ◌+◌, ◌<◌, true, if◌then◌else◌, List, [], ◌∷◌, ◌++◌, length, map, take, get_or, suc, Bor, Option, Some, None, All, sym, refl, ap, arith}
+use Rattle.std.proofs.Math.Seq.{take-suc}
+use Rattle.std.proofs.lemmas.List.{map-append}
 use Rattle.std.proofs.lemmas.List.Elements.{All-head, All-tail}
 use Rattle.std.specs.Str.{bytes_eq}
 use Rattle.sled_model.specs.Refusal.{IsClosed, IsForeign, IsDropped, must_refuse_of, first_of, foreign_test, dropped_test, is_number}
@@ -25,3 +27,19 @@ none_dropped s (t ∷ ts) h = ap (λ b. if b then dropped_test s (trees_of_list 
 pub list_passes : (s : State) (ts : List (Bor Tree)) → s.is_open ≡ true → All (LentPasses s) ts → must_refuse_of s (trees_of_list ts) ≡ None
 list_passes s ts opens h = none_first (if s.is_open then None else Some IsClosed) (first_of (foreign_test s.name (trees_of_list ts)) (dropped_test s (trees_of_list ts))) (ap (λ b. if b then None else Some IsClosed) opens)
     (none_first (foreign_test s.name (trees_of_list ts)) (dropped_test s (trees_of_list ts)) (none_foreign s ts h) (none_dropped s ts h))
+
+-- one root more
+one_more : (n : ℕ) → n + 1 ≡ suc n
+one_more n = omega arith
+
+pub roots_more : (root_of : Tree → Option ℕ) (ts : List (Bor Tree)) (i : ℕ) (t : Bor Tree) (roots new : List ℕ) (root : ℕ) → i < length ts → t ≡ get_or ts i t → root_of t.now ≡ Some root → new ≡ roots ++ root ∷ []
+    → map root_of (trees_of_list (take i ts)) ≡ map Some roots → map root_of (trees_of_list (take (i + 1) ts)) ≡ map Some new
+roots_more root_of ts i t roots new root less at is so e =
+    ap (λ n. map root_of (trees_of_list (take n ts))) (one_more i)
+    ∙ ap (λ l. map root_of (trees_of_list l)) (take-suc ts i t less ∙ ap (λ x. take i ts ++ x ∷ []) (sym at))
+    ∙ ap (map root_of) (map-append (λ (x : Bor Tree). x.now) (take i ts) (t ∷ []))
+    ∙ map-append root_of (trees_of_list (take i ts)) (t.now ∷ [])
+    ∙ ap (λ l. l ++ root_of t.now ∷ []) e
+    ∙ ap (λ o. map Some roots ++ o ∷ []) is
+    ∙ sym (map-append Some roots (root ∷ []))
+    ∙ sym (ap (map Some) so)

@@ -129,10 +129,10 @@ adds_closed store meant so batches_of has e made = record { noted = []; notes = 
 -- ---- reads inside
 
 -- what is shown over pages that are lent is shown over the pages
-tree_lent : {P : Type 0} → TransactionalTree (Lent P) → TransactionalTree P
+abbrev tree_lent : {P : Type 0} → TransactionalTree (Lent P) → TransactionalTree P
 tree_lent t = record { alloc = t.alloc; pages = t.pages.now.pages; root = t.root; overlay = t.overlay; greatest_id = t.greatest_id; mark = t.mark; flushes = t.flushes }
 
-trees_lent : {P : Type 0} → TransactionalTrees (Lent P) → TransactionalTrees P
+abbrev trees_lent : {P : Type 0} → TransactionalTrees (Lent P) → TransactionalTrees P
 trees_lent t = record { alloc = t.alloc; pages = t.pages.now.pages; roots = t.roots; overlays = t.overlays; greatest_id = t.greatest_id; mark = t.mark; flushes = t.flushes }
 
 pub shows_inside : {P M : Type 0} (store : P → Store) (meant : M → Merge) → ShowsInsideLaw store meant

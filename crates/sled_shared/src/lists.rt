@@ -14,6 +14,7 @@ use crate::caller::Caller;
 use crate::handle::Handle;
 use crate::state::State;
 use crate::transactions::{commit, root_of};
+use crate::whole_tests::is_open;
 use lent_pages::{Lent, run_on_list};
 use sled::{TransactionAnswer, TransactionError, TransactionResult, TransactionalTrees};
 use sled_batch::Batch;
@@ -39,12 +40,22 @@ fn has_foreign<P: Pages, M: MergeOperator>(machine: &Machine<P, M>, trees: &[&Tr
     false
 }
 
-// The tests of each tree.
+// The tests of a tree.
+fn check_one<P: Pages, M: MergeOperator>(machine: &Machine<P, M>, tree: &Tree) -> Result<()>
+    ensures { OnOk result (must_refuse_of (db_state P.store M.meant machine.now.db) (tree.now ∷ []) ≡ None) }
+{
+    match machine.db().check(tree) {
+        Ok(()) => Ok(()),
+        Err(e) => Err(e),
+    }
+}
+
+// .. of each tree.
 fn check_each<P: Pages, M: MergeOperator>(machine: &Machine<P, M>, trees: &[&Tree]) -> Result<()>
     ensures { OnOk result (All (λ t. must_refuse_of (db_state P.store M.meant machine.now.db) (t.now ∷ []) ≡ None) trees.now) }
 {
     for tree in trees {
-        if let Err(e) = machine.db().check(tree) {
+        if let Err(e) = check_one(machine, tree) {
             return Err(e);
         }
     }
@@ -52,17 +63,19 @@ fn check_each<P: Pages, M: MergeOperator>(machine: &Machine<P, M>, trees: &[&Tre
 }
 
 // The tests that come before a transaction of several trees, each of all of them.
-#[tactic(auto, using(crate::proofs::Listing::list_passes))]
 fn check_list<P: Pages, M: MergeOperator>(machine: &Machine<P, M>, trees: &[&Tree]) -> Result<()>
     ensures { OnOk result (must_refuse_of (db_state P.store M.meant machine.now.db) (trees_of_list trees.now) ≡ None) }
 {
-    if machine.db().pages().in_group() {
+    if !is_open(machine) {
         return Err(Error::Closed);
     }
     if has_foreign(machine, trees) {
         return Err(Error::Unsupported(TREES_OF_SEVERAL_DATABASES));
     }
-    check_each(machine, trees)
+    match check_each(machine, trees) {
+        Ok(()) => Ok(()),
+        Err(e) => Err(e),
+    }
 }
 
 // The roots of trees that pass the tests.
@@ -74,7 +87,13 @@ fn roots_of<P: Pages, M: MergeOperator>(
 {
     let mut roots = Vec::new(machine.db().allocator());
     for tree in trees {
-        roots.push(root_of(machine, tree)?)?;
+        match root_of(machine, tree) {
+            Ok(root) => roots.push(root)?,
+            Err(e) => {
+                drop(roots);
+                return Err(e);
+            }
+        }
     }
     Ok(roots)
 }
