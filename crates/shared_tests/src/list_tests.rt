@@ -4,7 +4,7 @@ ghost use Rattle.std.specs.Prelude.{◌≡◌};
 use crate::beside::{Fresh, Way, new_database, require};
 use sled::{TransactionError, TransactionResult, abort};
 use sled_machine::shared::{Blank, Db, Made, RangePages};
-use sled_machine::{Outcome, Reply, Tree, Whole};
+use sled_machine::{Outcome, Reply, Tree, Whole, shared};
 use sled_nodes::Error;
 use std::alloc::Global;
 use std::marker::Brand;
@@ -177,7 +177,7 @@ fn walk_beside<L: Ledger, R: Wait + Abort>(
         );
     }
     let before = one.made().len();
-    let mut up = RangePages::new(
+    let mut up = shared::RangePages::new(
         alloc,
         tree,
         Bound::Unbounded,
@@ -207,7 +207,7 @@ fn walk_beside<L: Ledger, R: Wait + Abort>(
         one.made().len() == before.wrapping_add(3),
         "each page is noted",
     );
-    let mut down = RangePages::new(
+    let mut down = shared::RangePages::new(
         alloc,
         tree,
         Bound::Excluded(&[0]),

@@ -29,13 +29,10 @@ list_passes s ts opens h = none_first (if s.is_open then None else Some IsClosed
     (none_first (foreign_test s.name (trees_of_list ts)) (dropped_test s (trees_of_list ts)) (none_foreign s ts h) (none_dropped s ts h))
 
 -- one root more
-one_more : (n : ℕ) → n + 1 ≡ suc n
-one_more n = omega arith
-
 pub roots_more : (root_of : Tree → Option ℕ) (ts : List (Bor Tree)) (i : ℕ) (t : Bor Tree) (roots new : List ℕ) (root : ℕ) → i < length ts → t ≡ get_or ts i t → root_of t.now ≡ Some root → new ≡ roots ++ root ∷ []
     → map root_of (trees_of_list (take i ts)) ≡ map Some roots → map root_of (trees_of_list (take (i + 1) ts)) ≡ map Some new
 roots_more root_of ts i t roots new root less at is so e =
-    ap (λ n. map root_of (trees_of_list (take n ts))) (one_more i)
+    ap (λ n. map root_of (trees_of_list (take n ts))) (let e : i + 1 ≡ suc i = omega arith in e)
     ∙ ap (λ l. map root_of (trees_of_list l)) (take-suc ts i t less ∙ ap (λ x. take i ts ++ x ∷ []) (sym at))
     ∙ ap (map root_of) (map-append (λ (x : Bor Tree). x.now) (take i ts) (t ∷ []))
     ∙ map-append root_of (trees_of_list (take i ts)) (t.now ∷ [])

@@ -5,12 +5,13 @@ use Rattle.std.proofs.lemmas.List.Elements.{All-nil, All-cons, All-head, All-tai
 use Rattle.std.specs.FinMap.Entries.{is_sorted, below_all, is_sorted-where_key}
 use Rattle.std.specs.Ordering.{is_lt}
 use Rattle.std.specs.declared.ops.Bound.{Bound}
-use Rattle.sled_nodes.proofs.Basics.{first_true, second_true, both_true}
+use Rattle.sled_nodes.proofs.Basics.{first_true, second_true, of_true, true_of}
 use Rattle.sled_nodes.specs.Order.{Key, key_cmp}
 use Rattle.tree_reads.specs.Ranges.{pairs_within}
 use Rattle.sled_model.specs.Maps.{Map}
 use Rattle.sled_shared.specs.Orders.{in_order}
-use Rattle.sled_shared.specs.Reads.{IsPage, IsPageOf, IsPart, is_within, page_of}
+use Rattle.sled_shared.specs.Reads.{IsPageOf, IsPart, is_within, page_of}
+use Rattle.sled_shared.specs.theory.Orders.{IsPage}
 use Rattle.sled_shared.specs.declared.read.Answer.{Answer}
 use Rattle.sled_shared.specs.declared.read.Answer.TheVariants as told
 
@@ -61,13 +62,6 @@ part_of : {back : Bool} {before after : List Pair} (C : List Pair → Type 0) �
 part_of {back = true} C b a = a
 part_of {back = false} C b a = b
 
-of_t : (b : Bool) → T b → b ≡ true
-of_t true h = refl
-of_t false h = absurd h
-
-to_t : (b : Bool) → b ≡ true → T b
-to_t b e = subst T (sym e) tt
-
 few : (back : Bool) (most : ℕ) (all : List Pair) → length (take most (in_order back all)) ≤ most
 few back most all = let l = length-take most (in_order back all) in omega (arith, l)
 
@@ -76,7 +70,7 @@ page_part lo hi back most map s =
     let all = pairs_within lo hi map in
     let p = parted back most all in
     let within = kept (λ (e : Pair). is_within lo hi e.0) map in
-    let sorted : is_sorted key_cmp all ≡ true = of_t (is_sorted key_cmp all) (is_sorted-where_key key_cmp (is_within lo hi) map (to_t (is_sorted key_cmp map) s)) in
+    let sorted : is_sorted key_cmp all ≡ true = true_of (is_sorted key_cmp all) (is_sorted-where_key key_cmp (is_within lo hi) map (of_true (is_sorted key_cmp map) s)) in
     record {
       few = few back most all;
       within = subst (All (λ (e : Pair). is_within lo hi e.0 ≡ true)) (sym p.2) (let w = subst (All (λ (e : Pair). is_within lo hi e.0 ≡ true)) p.3 within in part_of {back = back} (All (λ (e : Pair). is_within lo hi e.0 ≡ true)) (all_left _ p.0 p.1 w) (all_right _ p.0 p.1 w));

@@ -45,13 +45,10 @@ writes_more : (bs : List (Tree × Writes)) (b : Tree × Writes) → writes_of (b
 writes_more [] b = append-nil (writes_on b.0 b.1)
 writes_more (c ∷ bs) b = ap (λ l. writes_on c.0 c.1 ++ l) (writes_more bs b) ∙ sym (append_assoc (writes_on c.0 c.1) (writes_of bs) (writes_on b.0 b.1))
 
-one_more : (n : ℕ) → n + 1 ≡ suc n
-one_more n = omega arith
-
 pub stood_more : (maps : Maps) (group : List (Tree × Writes)) (i : ℕ) (b : Tree × Writes) (stood new : List (Option Key)) → i < length group → b ≡ get_or group i b → stood ≡ stood_in maps (take i group) → new ≡ stood ++ map (stands_at maps) (writes_on b.0 b.1)
     → new ≡ stood_in maps (take (i + 1) group)
 stood_more maps group i b stood new less at so is =
     is
     ∙ ap (λ l. l ++ map (stands_at maps) (writes_on b.0 b.1)) so
     ∙ sym (map-append (stands_at maps) (writes_of (take i group)) (writes_on b.0 b.1))
-    ∙ ap (map (stands_at maps)) (sym (writes_more (take i group) b) ∙ ap (λ c. writes_of (take i group ++ c ∷ [])) at ∙ sym (ap writes_of (take-suc group i b less)) ∙ ap (λ n. writes_of (take n group)) (sym (one_more i)))
+    ∙ ap (map (stands_at maps)) (sym (writes_more (take i group) b) ∙ ap (λ c. writes_of (take i group ++ c ∷ [])) at ∙ sym (ap writes_of (take-suc group i b less)) ∙ ap (λ n. writes_of (take n group)) (let e : suc i ≡ i + 1 = omega arith in e))

@@ -71,9 +71,6 @@ IsPair answer = (pair : Option (Key × Key)) × (answer ≡ Pair pair)
 abbrev pub IsCount : Answer → Type 0
 IsCount answer = (count : ℕ) × (answer ≡ Count count)
 
-abbrev pub IsPage : Answer → Type 0
-IsPage answer = (pairs : List (Key × Key)) × (answer ≡ Pairs pairs)
-
 -- the key lies within two bounds
 abbrev pub is_within : Bound Key → Bound Key → Key → Bool
 is_within lo hi key = is_from lo key && is_up_to hi key

@@ -3,8 +3,9 @@
 ghost use Rattle.std.specs.Prelude.{◌≡◌, ◌++◌, ◌∷◌, [], IfOk, OnErr};
 ghost use Rattle.sled_nodes.specs.Among.{bound_of};
 ghost use Rattle.sled_shared.specs.Made.{ReadMade};
-ghost use Rattle.sled_shared.specs.Reads.{IsAnswerTo, IsCount, IsFlag, IsPage, IsPair, IsPart, IsValue};
+ghost use Rattle.sled_shared.specs.Reads.{IsAnswerTo, IsCount, IsFlag, IsPair, IsPart, IsValue};
 ghost use Rattle.sled_shared.specs.declared.read.Answer.TheVariants as told;
+ghost use Rattle.sled_shared.specs.theory.Orders.{IsPage};
 ghost use Rattle.sled_shared.specs.declared.read.Question.TheVariants as asks;
 ghost use Rattle.sled_shared.specs.declared.read.Read.TheVariants as read;
 
