@@ -21,5 +21,5 @@ returns g c =
       next = c.run_on_list-ended.new.greatest_id;
       runs = subst (λ p. RunsLent (TransactsAll (store_lent store) g.F.Fn result_of c.args.f c.in-Ok.roots.items) (store p) (store p).mark c.run_on_list-ended.result c.run_on_list-ended.new.greatest_id) pages
           (subst (λ m. RunsLent (TransactsAll (store_lent store) g.F.Fn result_of c.args.f c.in-Ok.roots.items) (store c.pages-pages.result.now) m c.run_on_list-ended.result c.run_on_list-ended.new.greatest_id) c.mark-greatest_id.ensures
-          (subst (λ rs. RunsLent (TransactsAll (store_lent store) g.F.Fn result_of c.args.f rs) (store c.pages-pages.result.now) c.mark-greatest_id.result c.run_on_list-ended.result c.run_on_list-ended.new.greatest_id) c.as_slice.ensures c.run_on_list-ended.ensures));
+          (subst (λ rs. RunsLent (TransactsAll (store_lent store) g.F.Fn result_of c.args.f rs) (store c.pages-pages.result.now) c.mark-greatest_id.result c.run_on_list-ended.result c.run_on_list-ended.new.greatest_id) c.as_slice.ensures.value c.run_on_list-ended.ensures));
     })
