@@ -21,11 +21,11 @@ Pair = Key × Key
 -- what is kept passes the test
 kept : {X : Type 0} (f : X → Bool) (xs : List X) → All (λ x. f x ≡ true) (filter f xs)
 kept f [] = All-nil (λ x. f x ≡ true)
-kept f (x ∷ xs) = go (f x) refl
+kept f (x ∷ xs) = go (f x) refl (kept f xs)
   where
-    go : (b : Bool) → f x ≡ b → All (λ x. f x ≡ true) (if b then x ∷ filter f xs else filter f xs)
-    go true e = All-cons (λ x. f x ≡ true) x (filter f xs) e (kept f xs)
-    go false e = kept f xs
+    go : (b : Bool) → f x ≡ b → All (λ x. f x ≡ true) (filter f xs) → All (λ x. f x ≡ true) (if b then x ∷ filter f xs else filter f xs)
+    go true e rest = All-cons (λ x. f x ≡ true) x (filter f xs) e rest
+    go false e rest = rest
 
 -- both parts of a list
 all_left : {X : Type 0} (C : X → Type 0) (xs ys : List X) → All C (xs ++ ys) → All C xs
@@ -58,9 +58,9 @@ parted true most all = (
   sym (reverse-reverse all) ∙ ap reverse (sym (take-append-drop most (reverse all))) ∙ reverse-append (take most (reverse all)) (drop most (reverse all)),
 )
 
-part_of : {back : Bool} {before after : List Pair} (C : List Pair → Type 0) → C before → C after → C (if back then after else before)
-part_of {back = true} C b a = a
-part_of {back = false} C b a = b
+part_of : (back : Bool) {before after : List Pair} (C : List Pair → Type 0) → C before → C after → C (if back then after else before)
+part_of true C b a = a
+part_of false C b a = b
 
 few : (back : Bool) (most : ℕ) (all : List Pair) → length (take most (in_order back all)) ≤ most
 few back most all = let l = length-take most (in_order back all) in omega (arith, l)
@@ -73,12 +73,12 @@ page_part lo hi back most map s =
     let sorted : is_sorted key_cmp all ≡ true = true_of (is_sorted key_cmp all) (is_sorted-where_key key_cmp (is_within lo hi) map (of_true (is_sorted key_cmp map) s)) in
     record {
       few = few back most all;
-      within = subst (All (λ (e : Pair). is_within lo hi e.0 ≡ true)) (sym p.2) (let w = subst (All (λ (e : Pair). is_within lo hi e.0 ≡ true)) p.3 within in part_of {back = back} (All (λ (e : Pair). is_within lo hi e.0 ≡ true)) (all_left _ p.0 p.1 w) (all_right _ p.0 p.1 w));
-      order = subst (λ l. is_sorted key_cmp l ≡ true) (sym p.2) (let w = subst (λ l. is_sorted key_cmp l ≡ true) p.3 sorted in part_of {back = back} (λ l. is_sorted key_cmp l ≡ true) (sorted_left p.0 p.1 w) (sorted_right p.0 p.1 w));
+      within = subst (All (λ (e : Pair). is_within lo hi e.0 ≡ true)) (sym p.2) (let w = subst (All (λ (e : Pair). is_within lo hi e.0 ≡ true)) p.3 within in part_of back (All (λ (e : Pair). is_within lo hi e.0 ≡ true)) (all_left _ p.0 p.1 w) (all_right _ p.0 p.1 w));
+      order = subst (λ l. is_sorted key_cmp l ≡ true) (sym p.2) (let w = subst (λ l. is_sorted key_cmp l ≡ true) p.3 sorted in part_of back (λ l. is_sorted key_cmp l ≡ true) (sorted_left p.0 p.1 w) (sorted_right p.0 p.1 w));
     }
 
 -- what was told
-pairs_told : Answer → List Pair
+abbrev pairs_told : Answer → List Pair
 pairs_told (told.Pairs pairs) = pairs
 pairs_told other = []
 
