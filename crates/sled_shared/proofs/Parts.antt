@@ -73,7 +73,7 @@ page_part lo hi back most map s =
     let sorted : is_sorted key_cmp all ≡ true = true_of (is_sorted key_cmp all) (is_sorted-where_key key_cmp (is_within lo hi) map (of_true (is_sorted key_cmp map) s)) in
     record {
       few = few back most all;
-      within = subst (All (λ (e : Pair). is_within lo hi e.0 ≡ true)) (sym p.2) (let w = subst (All (λ (e : Pair). is_within lo hi e.0 ≡ true)) p.3 within in part_of back (All (λ (e : Pair). is_within lo hi e.0 ≡ true)) (all_left _ p.0 p.1 w) (all_right _ p.0 p.1 w));
+      within = subst (All (λ (e : Pair). is_within lo hi e.0 ≡ true)) (sym p.2) (let w = subst (All (λ (e : Pair). is_within lo hi e.0 ≡ true)) p.3 within in part_of back (All (λ (e : Pair). is_within lo hi e.0 ≡ true)) (all_left (λ (e : Pair). is_within lo hi e.0 ≡ true) p.0 p.1 w) (all_right (λ (e : Pair). is_within lo hi e.0 ≡ true) p.0 p.1 w));
       order = subst (λ l. is_sorted key_cmp l ≡ true) (sym p.2) (let w = subst (λ l. is_sorted key_cmp l ≡ true) p.3 sorted in part_of back (λ l. is_sorted key_cmp l ≡ true) (sorted_left p.0 p.1 w) (sorted_right p.0 p.1 w));
     }
 
