@@ -15,3 +15,5 @@ pub mod Paging
 pub mod PageReads
 pub mod ReadMakes
 pub mod Replying
+pub mod Scanning
+pub mod Called

@@ -3,6 +3,7 @@ pub mod Openings
 pub mod Orders
 pub mod Reads
 pub mod Made
+pub mod Scans
 pub mod Values
 pub mod WholeMade
 pub mod History
@@ -10,6 +11,7 @@ pub mod Crashes
 pub mod Sound
 pub mod Steps
 pub mod Notes
+pub mod Called
 pub mod WholeNotes
 pub mod Replies
 pub mod Fetches

@@ -27,6 +27,7 @@
 mod again;
 mod answers;
 mod call_error;
+mod called;
 mod caller;
 mod compare;
 mod db;
@@ -41,6 +42,7 @@ mod noting;
 mod pages;
 mod read;
 mod reading;
+mod scans;
 mod state;
 mod state_reads;
 mod steps;
@@ -56,6 +58,7 @@ pub use entry::{Entry, Made};
 pub use handle::{Gate, Handle, NoGate};
 pub use lent_pages::Lent;
 pub use read::{Answer, Question, Read};
+pub use scans::{ScanNote, Scanned};
 pub use state::State;
 pub use told::{Collections, Names, Pairs};
 // an unopened ledger, which `Db::new` takes

@@ -1,0 +1,24 @@
+-- What scans did, noted in order.
+use Rattle.std.proofs.Common.{◌≡◌, ◌≤◌, ℕ, List, [], ◌∷◌, ◌++◌, append-nil, append_assoc, sym, subst, arith}
+use Rattle.sled_shared.specs.Scans.{ScansValue, NotesScan, AreNoted, AreNotKept, Stops, AreInOrder, NoneMore, OneMore, noted_at}
+use Rattle.sled_shared.specs.declared.scans.Scanned.{Scanned}
+use Rattle.sled_shared.specs.declared.scans.ScanNote.{ScanNote}
+
+-- what was noted so far was noted at no greater length either
+pub still_in_order : {a b c : ℕ} {notes : List ScanNote} → AreInOrder a notes b → b ≤ c → AreInOrder a notes c
+still_in_order (NoneMore l) m = NoneMore (omega arith)
+still_in_order (OneMore l rest) m = OneMore l (still_in_order rest m)
+
+one_behind : {a b : ℕ} {notes : List ScanNote} (slot : ℕ) (d : Scanned) → AreInOrder a notes b → AreInOrder a (notes ++ record { slot = slot; at = b; did = d } ∷ []) b
+one_behind slot d (NoneMore l) = OneMore l (NoneMore (omega arith))
+one_behind slot d (OneMore l rest) = OneMore l (one_behind slot d rest)
+
+all_behind : {a b : ℕ} {notes : List ScanNote} (slot : ℕ) (all : List Scanned) → AreInOrder a notes b → AreInOrder a (notes ++ noted_at slot b all) b
+all_behind {a = a} {b = b} {notes = notes} slot [] r = subst (λ l. AreInOrder a l b) (sym (append-nil notes)) r
+all_behind {a = a} {b = b} {notes = notes} slot (d ∷ ds) r = subst (λ l. AreInOrder a l b) (append_assoc notes (record { slot = slot; at = b; did = d } ∷ []) (noted_at slot b ds)) (all_behind slot ds (one_behind slot d r))
+
+-- what is noted now is noted at the greatest length
+pub noted_in_order : (old new : ScansValue) (slot n : ℕ) (all : List Scanned) → NotesScan old (noted_at slot n all) new → AreInOrder 0 old.notes n → AreInOrder 0 new.notes n
+noted_in_order old new slot n all (AreNoted k e) r = subst (λ (s : ScansValue). AreInOrder 0 s.notes n) (sym e) (all_behind slot all r)
+noted_in_order old new slot n all (AreNotKept k e) r = subst (λ (s : ScansValue). AreInOrder 0 s.notes n) (sym e) r
+noted_in_order old new slot n all (Stops k l e) r = subst (λ (s : ScansValue). AreInOrder 0 s.notes n) (sym e) r
