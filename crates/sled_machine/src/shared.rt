@@ -2,5 +2,5 @@
 
 pub use sled_shared::{
     Answer, Blank, CallError, CallResult, Caller, Collections, Db, Entry, Gate, Handle, Lent, Made,
-    Names, NoGate, Pairs, Question, Read, State, reply_of,
+    Names, NoGate, Pairs, Question, Read, ScanNote, Scanned, State, reply_of,
 };

@@ -1,8 +1,12 @@
 -- What scans did, noted in order.
-use Rattle.std.proofs.Common.{◌≡◌, ◌≤◌, ℕ, List, [], ◌∷◌, ◌++◌, append-nil, append_assoc, sym, subst, arith}
+use Rattle.std.proofs.Common.{◌≡◌, ◌≤◌, ℕ, List, [], ◌∷◌, ◌++◌, append-nil, append_assoc, length, Result, Ok, Err, IfOk, OnErr, sym, ap, subst, arith}
+use Rattle.std.proofs.lemmas.List.{length-append, length-map}
+use Rattle.sled_nodes.specs.declared.error.Error.{Error}
+use Rattle.sled_shared.specs.Made.{EntryValue, entry_value, entry_values}
 use Rattle.sled_shared.specs.Scans.{ScansValue, NotesScan, AreNoted, AreNotKept, Stops, AreInOrder, NoneMore, OneMore, noted_at}
 use Rattle.sled_shared.specs.declared.scans.Scanned.{Scanned}
 use Rattle.sled_shared.specs.declared.scans.ScanNote.{ScanNote}
+use Rattle.sled_shared.specs.declared.entry.Entry.{Entry}
 
 -- what was noted so far was noted at no greater length either
 pub still_in_order : {a b c : ℕ} {notes : List ScanNote} → AreInOrder a notes b → b ≤ c → AreInOrder a notes c
@@ -22,3 +26,16 @@ pub noted_in_order : (old new : ScansValue) (slot n : ℕ) (all : List Scanned) 
 noted_in_order old new slot n all (AreNoted k e) r = subst (λ (s : ScansValue). AreInOrder 0 s.notes n) (sym e) (all_behind slot all r)
 noted_in_order old new slot n all (AreNotKept k e) r = subst (λ (s : ScansValue). AreInOrder 0 s.notes n) (sym e) r
 noted_in_order old new slot n all (Stops k l e) r = subst (λ (s : ScansValue). AreInOrder 0 s.notes n) (sym e) r
+
+pub begun_in_order : (r : Result ℕ Error) (old new : ScansValue) (n : ℕ) (all : List Scanned) → IfOk r (λ slot. NotesScan old (noted_at slot n all) new) → OnErr r (new ≡ old) → AreInOrder 0 old.notes n → AreInOrder 0 new.notes n
+begun_in_order (Ok slot) old new n all ok err r = noted_in_order old new slot n all ok r
+begun_in_order (Err e) old new n all ok err r = subst (λ (s : ScansValue). AreInOrder 0 s.notes n) (sym err) r
+
+-- .. and the history grows
+pub longer_in_order : (notes : List ScanNote) (old new : List Entry) (more : List EntryValue) → entry_values new ≡ entry_values old ++ more → AreInOrder 0 notes (length old) → AreInOrder 0 notes (length new)
+longer_in_order notes old new more e r =
+    let one = length-map old entry_value in
+    let other = length-map new entry_value in
+    let sum = length-append (entry_values old) more in
+    let same = ap length e in
+    still_in_order r (omega arith)

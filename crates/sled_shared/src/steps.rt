@@ -13,6 +13,7 @@ ghost use Rattle.sled_shared.specs.Replies.{RepliesTo};
 ghost use Rattle.sled_shared.specs.Scans.{AreInOrder, NotesScan, begun_of, noted_at, scanned_of};
 ghost use Rattle.sled_shared.specs.Sound.{HasCrashMaps, HasHistory, HasLegalHistory, HasRisingIds};
 ghost use Rattle.sled_shared.specs.Steps.{SlotStep};
+ghost use Rattle.sled_shared.specs.theory.Fetching.{StaysStill, SwapsNow};
 ghost use Rattle.sled_shared.specs.theory.Noting.{job_pair};
 ghost use Rattle.sled_shared.specs.WholeNotes.{AddsWhole, NotesWhole};
 
@@ -172,6 +173,10 @@ impl<P: Pages, L: Ledger, M: MergeOperator> State<P, L, M> {
         ensures ok { IfOk result (λ both. Fetches F.FnMut f tree.now key.now both.0 both.1 me.old.made me.new.made) }
         ensures err { OnErr result (me.new.made ≡ me.old.made) }
         ensures number { me.new.number ≡ me.old.number }
+        ensures swaps { IfOk result (λ both. SwapsNow P.store M.meant self.old.machine tree.now key.now both.0 both.1 self.new.machine) }
+        ensures still { OnErr result (StaysStill P.store M.meant self.old.machine self.new.machine) }
+        ensures same { self.new.machine ≡ record (self.old.machine) { db = self.new.machine.db } }
+        ensures scans { self.new.scans ≡ self.old.scans }
     {
         let Caller {
             number,
