@@ -16,4 +16,4 @@ pub mod PageReads
 pub mod ReadMakes
 pub mod Replying
 pub mod Scanning
-pub mod Called
+pub mod Copied

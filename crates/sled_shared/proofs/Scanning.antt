@@ -1,5 +1,5 @@
 -- What scans did, noted in order.
-use Rattle.std.proofs.Common.{◌≡◌, ◌≤◌, ℕ, List, [], ◌∷◌, ◌++◌, append-nil, append_assoc, length, Result, Ok, Err, IfOk, OnErr, sym, ap, subst, arith}
+use Rattle.std.proofs.Common.{◌≡◌, ◌≢◌, ◌∙◌, ◌≤◌, ℕ, true, false, List, [], ◌∷◌, ◌++◌, append-nil, append_assoc, length, Result, Ok, Err, IfOk, OnErr, refl, sym, ap, subst, arith}
 use Rattle.std.proofs.lemmas.List.{length-append, length-map}
 use Rattle.sled_nodes.specs.declared.error.Error.{Error}
 use Rattle.sled_shared.specs.Made.{EntryValue, entry_value, entry_values}
@@ -39,3 +39,14 @@ longer_in_order notes old new more e r =
     let sum = length-append (entry_values old) more in
     let same = ap length e in
     still_in_order r (omega arith)
+
+-- what was noted, told by the parts of the list
+pub are_noted : (old new : ScansValue) (notes : List ScanNote) → old.keeps ≡ true → new.keeps ≡ true → new.notes ≡ old.notes ++ notes → NotesScan old notes new
+are_noted old new notes k e f = AreNoted k (ap (λ b. record { keeps = b; notes = new.notes }) e ∙ ap (λ n. record { keeps = true; notes = n }) f)
+
+pub stops : (old new : ScansValue) (notes : List ScanNote) → old.keeps ≡ true → notes ≢ [] → new.keeps ≡ false → new.notes ≡ old.notes → NotesScan old notes new
+stops old new notes k some e f = Stops k some (ap (λ b. record { keeps = b; notes = new.notes }) e ∙ ap (λ n. record { keeps = false; notes = n }) f)
+
+none_noted : (slot n : ℕ) (all : List Scanned) → all ≢ [] → noted_at slot n all ≢ []
+none_noted slot n [] some e = some refl
+none_noted slot n (d ∷ ds) some e = cc

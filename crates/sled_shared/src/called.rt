@@ -1,5 +1,5 @@
 //! Steps of a call whose copies come along: they are made once, before it begins, and a step that does not decide the call makes none.
-ghost use Rattle.std.specs.Prelude.{◌≡◌, ◌++◌, ◌×◌, IfOk, IfNone, IfSome, Some};
+ghost use Rattle.std.specs.Prelude.{◌≡◌, ◌++◌, IfOk, IfNone, IfSome, Some};
 ghost use Rattle.std.specs.Option.{option_map};
 ghost use Rattle.sled_model.specs.State.{IsOnKey};
 ghost use Rattle.sled_calls.specs.Values.{slots_of, job_of_call};
@@ -45,7 +45,7 @@ fn taken_on(outcome: Outcome, slot: Slot, left: Option<Jobs>) -> Stepped
 impl<P: Pages, L: Ledger, M: MergeOperator> State<P, L, M> {
     // One step of this call on a key, which has the slot. It is noted as a bare step is, but of the copies that come along. Those are left
     // where it is not decided.
-    #[tactic(auto, using(crate::proofs::Called::on_key_here, crate::proofs::Called::noted_here))]
+    #[tactic(auto, using(crate::proofs::Copied::on_key_here, crate::proofs::Copied::noted_here))]
     fn step_copied(&mut self, me: &mut Caller<L>, slot: Slot, jobs: Jobs) -> (Outcome, Option<Jobs>)
         requires here { option_map job_of_call (slots_of self.old.machine.flights slot) ≡ Some (job_pair jobs.0.tree jobs.0.call) }
         requires second { jobs.1 ≡ jobs.0 }
@@ -95,7 +95,7 @@ impl<P: Pages, L: Ledger, M: MergeOperator> State<P, L, M> {
     }
 
     // Begins this call on a key, and makes its first step.
-    #[tactic(auto, using(crate::proofs::Called::begun_here))]
+    #[tactic(auto, using(crate::proofs::Copied::begun_here))]
     fn begin_on(&mut self, me: &mut Caller<L>, tree: &Tree, call: Call, jobs: Jobs) -> Stepped
         requires copies { AreCopies tree.now call jobs }
         requires key { IsOnKey call }

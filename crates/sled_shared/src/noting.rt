@@ -112,7 +112,7 @@ fn twice(jobs: Jobs, one: Reply, two: Reply) -> (Made, Made)
 }
 
 // A step of a call on a key, whose job comes twice; what is to be noted of it, twice; and the jobs, where they are not noted.
-#[tactic(auto, using(crate::proofs::Called::kept_ends))]
+#[tactic(auto, using(crate::proofs::Copied::kept_ends))]
 fn step_of_jobs<P: Pages, M: MergeOperator>(
     machine: &mut Machine<P, M>,
     slot: Slot,

@@ -47,7 +47,7 @@ impl Model for Scans {
 }
 
 // A scan that begins.
-fn begun(tree: &Tree, call: &Call) -> Result<Scanned>
+fn scan_of(tree: &Tree, call: &Call) -> Result<Scanned>
     ensures { IfOk result (λ did. did ≡ Begun tree.now call.now) }
 {
     let tree = tree.clone()?;
@@ -61,7 +61,7 @@ fn begun(tree: &Tree, call: &Call) -> Result<Scanned>
 }
 
 // What a step of a slot that came out so was of a scan.
-fn scanned(outcome: &Outcome) -> Result<Option<Scanned>>
+fn did_at(outcome: &Outcome) -> Result<Option<Scanned>>
     ensures ok { IfOk result (λ did. did_of did ≡ scanned_of outcome.now) }
     ensures err { OnErr result (scanned_of outcome.now ≢ []) }
 {
@@ -94,7 +94,7 @@ impl Scans {
         if !self.keeps || call.is_on_key() {
             return Ok(None);
         }
-        match begun(tree, call) {
+        match scan_of(tree, call) {
             Ok(did) => Ok(Some(did)),
             Err(e) => Err(e),
         }
@@ -154,7 +154,7 @@ impl Scans {
         if !self.keeps {
             return;
         }
-        let did = scanned(outcome);
+        let did = did_at(outcome);
         self.note(slot, at, did);
     }
 }

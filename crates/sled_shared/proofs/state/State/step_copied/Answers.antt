@@ -7,7 +7,7 @@ use Rattle.sled_shared.specs.Sound.{IsState}
 use Rattle.sled_shared.specs.Values.{CallerValue, StateValue}
 use Rattle.sled_shared.specs.theory.Noting.{first_noted}
 use Rattle.sled_model.specs.Collections.{contents_of}
-use Rattle.sled_shared.proofs.Called.{noted_here, on_key_here}
+use Rattle.sled_shared.proofs.Copied.{noted_here, on_key_here}
 use Rattle.sled_shared.proofs.Ids.{step_risen}
 use Rattle.sled_shared.proofs.Leading.{step_leaves, legal_of, leads_of}
 use Rattle.sled_shared.proofs.Scanning.{longer_in_order}
