@@ -45,7 +45,6 @@ fn taken_on(outcome: Outcome, slot: Slot, left: Option<Jobs>) -> Stepped
 impl<P: Pages, L: Ledger, M: MergeOperator> State<P, L, M> {
     // One step of this call on a key, which has the slot. It is noted as a bare step is, but of the copies that come along. Those are left
     // where it is not decided.
-    #[tactic(auto, using(crate::proofs::Copied::on_key_here, crate::proofs::Copied::noted_here))]
     fn step_copied(&mut self, me: &mut Caller<L>, slot: Slot, jobs: Jobs) -> (Outcome, Option<Jobs>)
         requires here { option_map job_of_call (slots_of self.old.machine.flights slot) ≡ Some (job_pair jobs.0.tree jobs.0.call) }
         requires second { jobs.1 ≡ jobs.0 }
@@ -95,7 +94,6 @@ impl<P: Pages, L: Ledger, M: MergeOperator> State<P, L, M> {
     }
 
     // Begins this call on a key, and makes its first step.
-    #[tactic(auto, using(crate::proofs::Copied::begun_here))]
     fn begin_on(&mut self, me: &mut Caller<L>, tree: &Tree, call: Call, jobs: Jobs) -> Stepped
         requires copies { AreCopies tree.now call jobs }
         requires key { IsOnKey call }

@@ -1,13 +1,10 @@
-use Rattle.std.proofs.Common.{◌≡◌, ◌∙◌, ◌++◌, ap, subst}
+use Rattle.std.proofs.Common.{◌∙◌, ◌++◌, ap}
 use Rattle.std.proofs.lemmas.List.{length-map}
-use Rattle.sled_calls.specs.Values.{slots_of}
-use Rattle.sled_shared.specs.Made.{entry_value, entry_values, made_values}
-use Rattle.sled_shared.specs.Notes.{entries_of, noted_in, noted_of}
+use Rattle.sled_shared.specs.Made.{entry_value, entry_values}
+use Rattle.sled_shared.specs.Notes.{entries_of}
 use Rattle.sled_shared.specs.Sound.{IsState}
-use Rattle.sled_shared.specs.Values.{CallerValue, StateValue}
 use Rattle.sled_shared.specs.theory.Noting.{first_noted}
 use Rattle.sled_model.specs.Collections.{contents_of}
-use Rattle.sled_shared.proofs.Copied.{noted_here, on_key_here}
 use Rattle.sled_shared.proofs.Ids.{step_risen}
 use Rattle.sled_shared.proofs.Leading.{step_leaves, legal_of, leads_of}
 use Rattle.sled_shared.proofs.Scanning.{longer_in_order}
