@@ -11,7 +11,6 @@ pub mod Crashes
 pub mod Sound
 pub mod Steps
 pub mod Notes
-pub mod Called
 pub mod WholeNotes
 pub mod Replies
 pub mod Fetches

@@ -4,3 +4,4 @@ pub mod Transacting
 pub mod Reading
 pub mod Orders
 pub mod Scanning
+pub mod Copied

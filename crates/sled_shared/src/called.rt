@@ -1,9 +1,9 @@
 //! Steps of a call whose copies come along: they are made once, before it begins, and a step that does not decide the call makes none.
-ghost use Rattle.std.specs.Prelude.{◌≡◌, ◌++◌, IfOk, IfNone, IfSome, Some};
+ghost use Rattle.std.specs.Prelude.{◌≡◌, ◌++◌, IfNone, IfSome, Some};
 ghost use Rattle.std.specs.Option.{option_map};
 ghost use Rattle.sled_model.specs.State.{IsOnKey};
 ghost use Rattle.sled_calls.specs.Values.{slots_of, job_of_call};
-ghost use Rattle.sled_shared.specs.Called.{AddsStepped, AreCopies, TakesOn};
+ghost use Rattle.sled_shared.specs.theory.Copied.{AddsStepped, AreCopies, TakesOn};
 ghost use Rattle.sled_shared.specs.Notes.{IsEnd, entries_of, noted_of};
 ghost use Rattle.sled_shared.specs.Steps.{SlotStep};
 ghost use Rattle.sled_shared.specs.theory.Noting.{job_pair};

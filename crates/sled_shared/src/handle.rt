@@ -5,7 +5,7 @@ ghost use Rattle.sled_model.specs.State.{IsOnKey};
 ghost use Rattle.sled_model.specs.declared.call.Call.{Call};
 ghost use Rattle.sled_model.specs.declared.call.Call.TheVariants.{Get, Insert, Remove, CompareAndSwap, Merge};
 ghost use Rattle.sled_nodes.specs.Order.{Key};
-ghost use Rattle.sled_shared.specs.Called.{AddsStepped, AreCopies};
+ghost use Rattle.sled_shared.specs.theory.Copied.{AddsStepped, AreCopies};
 ghost use Rattle.sled_shared.specs.Fetches.{Fetches};
 ghost use Rattle.sled_shared.specs.Made.{made_values};
 ghost use Rattle.sled_shared.specs.Notes.{AddsStep, IsEnd, IsGivenUp, noted_of};

@@ -3,7 +3,7 @@ ghost use Rattle.std.specs.Prelude.{◌≡◌, ◌<◌, ◌+◌, ◌++◌, ◌�
 ghost use Rattle.std.specs.Option.{option_map};
 ghost use Rattle.sled_calls.specs.Values.{slots_of, job_of_call};
 ghost use Rattle.sled_shared.specs.Made.{PointMade, made_value, made_values, entry_values};
-ghost use Rattle.sled_shared.specs.Called.{AreCopies};
+ghost use Rattle.sled_shared.specs.theory.Copied.{AreCopies};
 ghost use Rattle.sled_shared.specs.Notes.{IsEnd, entries_of, noted_in};
 ghost use Rattle.sled_shared.specs.Steps.{SlotStep};
 ghost use Rattle.sled_shared.specs.theory.Noting.{first_noted, is_on_key_in, second_noted};

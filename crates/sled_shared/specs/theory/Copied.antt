@@ -1,4 +1,4 @@
--- A call whose copies come along, until they are noted.
+-- Of Notes, for proofs. A call whose copies come along, until they are noted.
 use Rattle.std.specs.Prelude.{◌≡◌, ℕ, List, [], ◌++◌, Option, Some}
 use Rattle.sled_model.specs.declared.call.Call.{Call}
 use Rattle.sled_model.specs.declared.tree.Tree.{Tree}
