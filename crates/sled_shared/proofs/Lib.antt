@@ -19,3 +19,5 @@ pub mod PageReads
 pub mod Parts
 pub mod ReadMakes
 pub mod Replying
+pub mod Scanning
+pub mod Copied
