@@ -6,8 +6,10 @@ mod callers;
 mod gathering;
 mod handle;
 mod state;
+mod transactions;
 
 pub use callers::step_of_one;
 pub use gathering::gather_one;
 pub use handle::{call, read};
 pub use state::{step, whole};
+pub use transactions::{transaction_all, transaction_of_one};

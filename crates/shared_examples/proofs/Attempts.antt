@@ -61,7 +61,7 @@ raises_read tree key o made more adds = record { added = noted_of o tree (Get ke
 
 -- a swap for the next number
 module _ (tree : Tree) (key : Key) (stood : Option Key) (n : ℕ) (next : n ≡ number_in stood + 1) (fits : n < 2 ^ 64) where
-  read_back : number_in (Some (to_be_bytes w64 n)) ≡ n
+  pub read_back : number_in (Some (to_be_bytes w64 n)) ≡ n
   read_back = from_be_bytes-to_be_bytes_8 n fits
 
   swap_parts : (o : Outcome) → AllByRecursion (is_part tree key) (noted_of o tree (CompareAndSwap key stood (Some (to_be_bytes w64 n))))

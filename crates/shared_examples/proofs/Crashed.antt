@@ -7,7 +7,7 @@ use Rattle.sled_model.specs.declared.tree.Tree.{Tree}
 use Rattle.tree_laws.proofs.Pairs.{each_append}
 use Rattle.sled_shared.specs.Crashes.{LeadsThrough, LeadsNoMore, LeadsOneMore, through_as, left_by}
 use Rattle.sled_shared.specs.History.{makes_as, NoEntries, OneEntry}
-use Rattle.sled_shared.specs.Made.{MadeValue, PointMade, WholeMade, EntryValue}
+use Rattle.sled_shared.specs.Made.{MadeValue, PointMade, WholeMade, TransactionMade, EntryValue}
 use Rattle.sled_shared.specs.Wholes.{Flush}
 use Rattle.example_parts.specs.Counters.{number_in}
 use Rattle.shared_examples.specs.Places.{value_at, made_in}
@@ -67,6 +67,9 @@ module _ (tree : Tree) (key : Key) where
       → AllByRecursion (StandsBetween tree key low (at m)) (left_by v through left)
   after_one low a m (PointMade t call reply) through left made led good l all =
       let up = rises a m (PointMade t call reply) made good in
+      subst (λ x. AllByRecursion (StandsBetween tree key low (at m)) (left ++ x)) (sym led) (each_append (StandsBetween tree key low (at m)) left (m ∷ []) (higher low (at a) (at m) left up all) (stands low m (up_to low (at a) (at m) l up)))
+  after_one low a m (TransactionMade batches stood) through left made led good l all =
+      let up = rises a m (TransactionMade batches stood) made good in
       subst (λ x. AllByRecursion (StandsBetween tree key low (at m)) (left ++ x)) (sym led) (each_append (StandsBetween tree key low (at m)) left (m ∷ []) (higher low (at a) (at m) left up all) (stands low m (up_to low (at a) (at m) l up)))
   after_one low a m v through left made led (inl part) l all = absurd part
   after_one low a m v through left made led (inr f) l all = after_flush low a m v through left f led (up_to low (at a) (at m) l (rises a m v made (inr f)))

@@ -10,7 +10,7 @@ use Rattle.sled_model.specs.declared.call.Call.TheVariants.{Get}
 use Rattle.sled_model.specs.declared.decision.Decision.{Decision}
 use Rattle.sled_model.specs.declared.reply.Reply.{Reply}
 use Rattle.sled_model.specs.declared.tree.Tree.{Tree}
-use Rattle.sled_shared.specs.Made.{PointMade, WholeMade, PartsMade, ReadMade}
+use Rattle.sled_shared.specs.Made.{PointMade, WholeMade, PartsMade, ReadMade, TransactionMade}
 use Rattle.sled_shared.specs.WholeMade.{map_popped, maps_opened}
 use Rattle.sled_shared.specs.Wholes.{WholeValue, Flush, PopMin, PopMax, Clear, Group, OpenTree, DropTree, GenerateId, Import, Watch, Next, Unsubscribe}
 use Rattle.shared_examples.specs.Places.{found_in, value_at, Leaves, point_passes, whole_passes, LeavesLaw}
@@ -51,3 +51,4 @@ leaves tree key (PointMade t call reply) h = point_leaves tree key t call reply 
 leaves tree key (WholeMade whole reply) h = whole_leaves tree key whole reply h
 leaves tree key (PartsMade whole number) h = absurd h
 leaves tree key (ReadMade read) h = λ old new p. ap (λ (m : Maps). value_at m tree key) p.1
+leaves tree key (TransactionMade batches stood) h = absurd h

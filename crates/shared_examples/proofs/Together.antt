@@ -1,5 +1,5 @@
 -- Callers that make nothing but raises.
-use Rattle.std.proofs.Common.{◌≡◌, ◌⊎◌, ◌∙◌, ℕ, ◌+◌, Bool, true, false, cond, nat_eq, List, [], ◌∷◌, map, filter, All, count_by, Option, Ok, sym, refl, ap, subst, inl, inr, arith}
+use Rattle.std.proofs.Common.{◌≡◌, ◌⊎◌, ◌∙◌, ℕ, ◌+◌, Bool, true, false, cond, nat_eq, List, [], ◌∷◌, map, filter, All, count_by, Option, Some, None, Ok, sym, refl, ap, subst, inl, inr, arith}
 use Rattle.std.specs.List.{AllByRecursion}
 use Rattle.std.proofs.lemmas.Bool.{eqb-true, eq-eqb}
 use Rattle.std.proofs.lemmas.List.Sums.{sum_by-cons}
@@ -12,11 +12,11 @@ use Rattle.sled_model.specs.declared.tree.Tree.{Tree}
 use Rattle.tree_laws.proofs.Pairs.{each_append}
 use Rattle.sled_shared.specs.Gathered.{IsGiven, IsMadeIn, IsOfGiven}
 use Rattle.sled_shared.specs.History.{made_by}
-use Rattle.sled_shared.specs.Made.{MadeValue, PointMade, EntryValue}
+use Rattle.sled_shared.specs.Made.{MadeValue, PointMade, TransactionMade, EntryValue}
 use Rattle.sled_shared.specs.Values.{CallerValue}
 use Rattle.example_parts.specs.Counters.{number_in}
 use Rattle.shared_examples.specs.Places.{value_at, made_in, is_at, Leaves}
-use Rattle.shared_examples.specs.Raising.{IsSwapAt, swapped_by, swapped, IsRaise, is_part, RaisedLaw}
+use Rattle.shared_examples.specs.Raising.{IsSwapAt, is_sole_at, is_sole_raise, sole_swap, swapped_alone, swapped_by, swapped, IsRaise, is_part, RaisedLaw}
 use Rattle.shared_examples.proofs.Leaving.{leaves}
 use Rattle.shared_examples.proofs.Sharing.{first_of_all, rest_of_all, shares_law}
 use Rattle.shared_examples.proofs.Swapping.{raises_law}
@@ -61,9 +61,14 @@ module _ (P : MadeValue → Type 0) where
 -- ---- parts of raises
 
 module _ (tree : Tree) (key : Key) where
+  sole_at : (o : Option (Tree × Key × Option Key × Key)) → is_sole_raise tree key o → is_sole_at tree.name key o
+  sole_at None p = absurd p
+  sole_at (Some s) p = (ap (λ (t : Tree). t.name) p.0, p.1)
+
   pub part_swaps : (m : MadeValue) → is_part tree key m → IsSwapAt tree.name key m ⊎ Leaves tree.name key m
   part_swaps (PointMade t (Get k) reply) p = inr (leaves tree.name key (PointMade t (Get k) reply) tt)
   part_swaps (PointMade t (CompareAndSwap k old new) reply) p = inl (ap (λ (t : Tree). t.name) p.0, p.1)
+  part_swaps (TransactionMade batches stood) p = inl (sole_at (sole_swap batches stood) p)
   part_swaps m p = absurd p
 
   raised_at : (t : Tree) (k : Key) (old new : Option Key) → IsRaise (old, new) → (b : Bool) → AllByRecursion IsRaise (cond b ((old, new) ∷ []) [])
@@ -74,9 +79,14 @@ module _ (tree : Tree) (key : Key) where
   swap_raises t k old new (Swapped (Ok done)) r = raised_at t k old new r (is_at tree.name key t k)
   swap_raises t k old new reply r = tt
 
+  sole_raises : (o : Option (Tree × Key × Option Key × Key)) → is_sole_raise tree key o → AllByRecursion IsRaise (swapped_alone tree.name key o)
+  sole_raises None p = tt
+  sole_raises (Some s) p = raised_at s.0 s.1 s.2 (Some s.3) p.2 (is_at tree.name key s.0 s.1)
+
   part_raises : (m : MadeValue) → is_part tree key m → AllByRecursion IsRaise (swapped_by tree.name key m)
   part_raises (PointMade t (Get k) reply) p = tt
   part_raises (PointMade t (CompareAndSwap k old new) reply) p = swap_raises t k old new reply p.2
+  part_raises (TransactionMade batches stood) p = sole_raises (sole_swap batches stood) p
   part_raises m p = absurd p
 
   parts_swap : (made : List MadeValue) → AllByRecursion (is_part tree key) made → AllByRecursion (λ m. IsSwapAt tree.name key m ⊎ Leaves tree.name key m) made

@@ -1,5 +1,5 @@
 -- From the sharing of a database to the number that stands at the end.
-use Rattle.std.proofs.Common.{◌≡◌, ◌∙◌, ℕ, suc, ◌+◌, ◌*◌, cond, length, length-append, List, [], ◌∷◌, ◌++◌, append-nil, append_assoc, All, count_by, sum_by, Option, Ok, sym, refl, ap, subst, arith}
+use Rattle.std.proofs.Common.{◌≡◌, ◌∙◌, ℕ, suc, ◌+◌, ◌*◌, cond, length, length-append, List, [], ◌∷◌, ◌++◌, append-nil, append_assoc, All, count_by, sum_by, Option, Some, None, Ok, sym, refl, ap, subst, arith}
 use Rattle.std.specs.List.{AllByRecursion}
 use Rattle.std.proofs.lemmas.List.Sums.{sum_by-cons}
 use Rattle.sled_nodes.specs.Order.{Key}
@@ -11,12 +11,12 @@ use Rattle.sled_model.specs.declared.tree.Tree.{Tree}
 use Rattle.tree_laws.proofs.Pairs.{each_append}
 use Rattle.sled_shared.specs.Gathered.{EachOnce, IsMadeIn, IsOfGiven}
 use Rattle.sled_shared.specs.History.{maps_from}
-use Rattle.sled_shared.specs.Made.{MadeValue, PointMade, EntryValue}
+use Rattle.sled_shared.specs.Made.{MadeValue, PointMade, TransactionMade, EntryValue}
 use Rattle.sled_shared.specs.Sound.{HasLegalHistory, IsOpen, maps_now}
 use Rattle.sled_shared.specs.Values.{CallerValue, StateValue}
 use Rattle.example_parts.specs.Counters.{number_in}
 use Rattle.shared_examples.specs.Places.{value_at}
-use Rattle.shared_examples.specs.Raising.{swapped, swapped_by, is_part, swaps_of, OnlyRaises, Raises, RaisesOn, has_written, HasWritten, StandsHigher}
+use Rattle.shared_examples.specs.Raising.{is_sole_raise, sole_swap, swapped, swapped_alone, swapped_by, is_part, swaps_of, OnlyRaises, Raises, RaisesOn, has_written, HasWritten, StandsHigher}
 use Rattle.shared_examples.proofs.Keys.{at_itself}
 use Rattle.shared_examples.proofs.Sharing.{first_of_all, rest_of_all}
 use Rattle.shared_examples.proofs.Together.{raised_law}
@@ -46,10 +46,15 @@ one_more : (n times : ℕ) → times + n * times ≡ suc n * times
 one_more n times = omega arith
 
 module _ (tree : Tree) (key : Key) where
+  sole_counts : (o : Option (Tree × Key × Option Key × Key)) → is_sole_raise tree key o → 1 ≡ length (swapped_alone tree.name key o)
+  sole_counts None p = absurd p
+  sole_counts (Some s) p = sym (ap (λ b. length {A = Option Key × Option Key} (cond b ((s.2, Some s.3) ∷ []) [])) (at_itself tree.name key s.0 s.1 (ap (λ (t : Tree). t.name) p.0) p.1))
+
   counts : (m : MadeValue) → is_part tree key m → cond (has_written m) 1 0 ≡ length (swapped_by tree.name key m)
   counts (PointMade t (Get k) reply) p = refl
   counts (PointMade t (CompareAndSwap k old new) (Swapped (Ok done))) p = sym (ap (λ b. length {A = Option Key × Option Key} (cond b ((old, new) ∷ []) [])) (at_itself tree.name key t k (ap (λ (t : Tree). t.name) p.0) p.1))
   counts (PointMade t (CompareAndSwap k old new) reply) p = refl
+  counts (TransactionMade batches stood) p = sole_counts (sole_swap batches stood) p
   counts m p = absurd p
 
   counted : (made : List MadeValue) → AllByRecursion (is_part tree key) made → count_by has_written made ≡ length (swapped tree.name key made)

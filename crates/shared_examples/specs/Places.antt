@@ -1,21 +1,16 @@
 -- What stands at a key of a tree, and what leaves it there.
-use Rattle.std.specs.Prelude.{◌≡◌, ◌≢◌, ◌⊎◌, ◌&&◌, Bool, List, map, Option, Some, None}
-use Rattle.std.specs.FinMap.Entries.{find}
+use Rattle.std.specs.Prelude.{◌≡◌, ◌≢◌, ◌⊎◌, ◌&&◌, Bool, List, map, Option}
 use Rattle.std.specs.Str.{bytes_eq}
-use Rattle.sled_nodes.specs.Order.{Key, key_cmp}
+use Rattle.sled_nodes.specs.Order.{Key}
 use Rattle.sled_model.specs.Answer.{key_of}
-use Rattle.sled_model.specs.Maps.{Map, Maps}
+use Rattle.sled_model.specs.Maps.{Maps}
 use Rattle.sled_model.specs.declared.call.Call.{Call}
 use Rattle.sled_model.specs.declared.call.Call.TheVariants.{Get}
 use Rattle.sled_model.specs.declared.tree.Tree.{Tree}
 use Rattle.sled_shared.specs.History.{makes_as}
-use Rattle.sled_shared.specs.Made.{MadeValue, PointMade, WholeMade, PartsMade, ReadMade, EntryValue}
+use Rattle.sled_shared.specs.Made.{MadeValue, PointMade, WholeMade, PartsMade, ReadMade, TransactionMade, EntryValue}
+pub use Rattle.sled_shared.specs.Stood.{found_in}
 use Rattle.sled_shared.specs.Wholes.{WholeValue, Flush, PopMin, PopMax, Clear, Group, OpenTree, DropTree, GenerateId, Import, Watch, Next, Unsubscribe}
-
--- the value at a key of a map, if there are the map and the key
-abbrev pub found_in : Option Map → Key → Option Key
-found_in None key = None
-found_in (Some map) key = find key_cmp key map
 
 -- the value at a key of the tree of this name
 abbrev pub value_at : Maps → Key → Key → Option Key
@@ -53,12 +48,13 @@ whole_passes tree (Watch t prefix) = Unit {0}
 whole_passes tree (Next subscriber) = Unit {0}
 whole_passes tree (Unsubscribe subscriber) = Unit {0}
 
--- a call that passes the key by. Of groups and imports, and of calls that were refused after some parts, none is said to
+-- a call that passes the key by. Of groups, transactions and imports, and of calls that were refused after some parts, none is said to
 abbrev pub passes_by : Key → Key → MadeValue → Type 0
 passes_by tree key (PointMade t call reply) = point_passes tree key t call
 passes_by tree key (WholeMade whole reply) = whole_passes tree whole
 passes_by tree key (PartsMade whole number) = ⊥
 passes_by tree key (ReadMade read) = Unit {0}
+passes_by tree key (TransactionMade batches stood) = ⊥
 
 -- what passes a key by leaves what stands there
 abbrev pub LeavesLaw : Type 0

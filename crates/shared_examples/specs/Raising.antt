@@ -3,6 +3,7 @@ use Rattle.std.specs.Prelude.{◌≡◌, ◌⊎◌, ℕ, ◌+◌, ◌≤◌, len
 use Rattle.std.specs.List.{AllByRecursion}
 use Rattle.std.specs.Option.{option_to_list}
 use Rattle.sled_nodes.specs.Order.{Key}
+use Rattle.sled_batch.specs.Batch.{Writes}
 use Rattle.sled_store.specs.Store.{Store}
 use Rattle.sled_model.specs.Maps.{Maps}
 use Rattle.sled_model.specs.declared.call.Call.TheVariants.{Get, CompareAndSwap}
@@ -13,7 +14,7 @@ use Rattle.sled_model.specs.declared.tree.Tree.{Tree}
 use Rattle.sled_shared.specs.Crashes.{LeadsThrough}
 use Rattle.sled_shared.specs.Gathered.{IsMadeIn, IsOfGiven, EachOnce}
 use Rattle.sled_shared.specs.History.{IsLegal, maps_from}
-use Rattle.sled_shared.specs.Made.{MadeValue, PointMade, WholeMade, EntryValue}
+use Rattle.sled_shared.specs.Made.{MadeValue, PointMade, WholeMade, TransactionMade, EntryValue}
 use Rattle.sled_shared.specs.Sound.{maps_now}
 use Rattle.sled_shared.specs.Values.{CallerValue, StateValue}
 use Rattle.sled_shared.specs.Wholes.{Flush}
@@ -22,14 +23,29 @@ use Rattle.shared_examples.specs.Places.{value_at, made_in, is_at, Leaves}
 use Rattle.shared_examples.specs.declared.raising.Raised.{Raised}
 use Rattle.shared_examples.specs.declared.raising.Raised.TheVariants.{To, Overtaken}
 
+-- A transaction that sets one key, and writes nothing else, is a swap that succeeded: its tree, the key, what stood there, and the value
+abbrev pub sole_swap : List (Tree × Writes) → List (Option Key) → Option (Tree × Key × Option Key × Key)
+sole_swap ((tree, (key, Some value) ∷ []) ∷ []) (stood ∷ []) = Some (tree, key, stood, value)
+sole_swap batches stood = None
+
+abbrev pub is_sole_at : Key → Key → Option (Tree × Key × Option Key × Key) → Type 0
+is_sole_at tree key None = ⊥
+is_sole_at tree key (Some s) = (s.0.name ≡ tree) × (s.1 ≡ key)
+
 -- a swap at the key, whatever it replied
 abbrev pub IsSwapAt : Key → Key → MadeValue → Type 0
 IsSwapAt tree key (PointMade t (CompareAndSwap k old new) reply) = (t.name ≡ tree) × (k ≡ key)
+IsSwapAt tree key (TransactionMade batches stood) = is_sole_at tree key (sole_swap batches stood)
 IsSwapAt tree key m = ⊥
+
+abbrev pub swapped_alone : Key → Key → Option (Tree × Key × Option Key × Key) → List (Option Key × Option Key)
+swapped_alone tree key None = []
+swapped_alone tree key (Some s) = if is_at tree key s.0 s.1 then ((s.2, Some s.3) ∷ []) else []
 
 -- a swap at the key that succeeded: the value that it found, and the one that it wrote
 abbrev pub swapped_by : Key → Key → MadeValue → List (Option Key × Option Key)
 swapped_by tree key (PointMade t (CompareAndSwap k old new) (Swapped (Ok done))) = if is_at tree key t k then ((old, new) ∷ []) else []
+swapped_by tree key (TransactionMade batches stood) = swapped_alone tree key (sole_swap batches stood)
 swapped_by tree key m = []
 
 -- the swaps at the key that succeeded, in order
@@ -66,10 +82,15 @@ abbrev pub SharesLaw : Type 0
 SharesLaw = (tree key : Key) (history : List EntryValue) (given : ℕ) (callers : List CallerValue) → All (IsMadeIn history) callers → EachOnce given callers → All (IsOfGiven given) history
     → length (swapped tree key (made_in history)) ≡ sum_by (swaps_of tree key) callers
 
+abbrev pub is_sole_raise : Tree → Key → Option (Tree × Key × Option Key × Key) → Type 0
+is_sole_raise tree key None = ⊥
+is_sole_raise tree key (Some s) = (s.0 ≡ tree) × (s.1 ≡ key) × IsRaise (s.2, Some s.3)
+
 -- a part of a raise: a read of the key, or a swap of a number there for the one above it, whatever they replied
 abbrev pub is_part : Tree → Key → MadeValue → Type 0
 is_part tree key (PointMade t (Get k) reply) = (t ≡ tree) × (k ≡ key)
 is_part tree key (PointMade t (CompareAndSwap k old new) reply) = (t ≡ tree) × (k ≡ key) × IsRaise (old, new)
+is_part tree key (TransactionMade batches stood) = is_sole_raise tree key (sole_swap batches stood)
 is_part tree key m = ⊥
 
 -- a caller made nothing but parts of raises
@@ -116,9 +137,10 @@ pub record RaisesOn (tree : Tree) (key : Key) (made more : List MadeValue) : Typ
   pub adds : more ≡ made ++ added
   pub parts : AllByRecursion (is_part tree key) added
 
--- a swap that succeeded
+-- a swap that succeeded, or a transaction
 abbrev pub has_written : MadeValue → Bool
 has_written (PointMade tree (CompareAndSwap key old new) (Swapped (Ok done))) = true
+has_written (TransactionMade batches stood) = true
 has_written m = false
 
 -- so many swaps of a caller succeeded

@@ -8,12 +8,14 @@
 //! history they say of what the threads did.
 #![tactic(auto)]
 
+mod adding;
 mod counting;
 mod places;
 mod queueing;
 mod raising;
 mod way;
 
+pub use adding::{UsedUp, raise_at_once};
 pub use counting::{add_one, law_merges};
 pub use places::law_leaves;
 pub use queueing::{law_queue, push, take};

@@ -9,13 +9,16 @@ ghost use Rattle.sled_nodes.specs.Order.{Key};
 ghost use Rattle.sled_model.specs.declared.tree.Tree.{Tree};
 ghost use Rattle.sled_shared.specs.Made.{made_value, made_values};
 ghost use Rattle.sled_shared.specs.Sound.{IsOpen};
-ghost use Rattle.shared_examples.specs.Raising.{HasWritten, OnlyRaises, RaisesOn, StandsHigher, has_written};
+ghost use Rattle.shared_examples.specs.Raising.{HasWritten, OnlyRaises, Raises, RaisesOn, StandsHigher, has_written, raised_to};
 
+use crate::adding::raise_at_once;
 use crate::raising::{Raised, raise};
-use sled::{Db, MemPages};
+use sled::{Db, MemPages, TransactionError};
 use sled_machine::shared;
 use sled_machine::shared::{Blank, Handle, Made, State};
-use sled_model::{Call, MergeOperator, Reply, Tree};
+use sled_model::{Call, MergeOperator, Outcome, Reply, Tree};
+use sled_nodes::Error;
+use sled_nodes::texts::NUMBERS_USED_UP;
 use sled_store::Pages;
 use std::alloc::{AllocError, Global};
 use std::sync::Wait;
@@ -25,6 +28,29 @@ use std::thread::{Threads, map_vec};
 // Each time in vain another caller wrote between.
 const ATTEMPTS: u64 = 1_000_000;
 
+// Raises the number by one, as a transaction or by a read and a swap.
+fn raise_one<L: Ledger, M: MergeOperator>(
+    rt: &impl Wait,
+    alloc: Global,
+    handle: &mut Handle<MemPages, L, M>,
+    tree: &Tree,
+    key: &[u8],
+    at_once: bool,
+) -> Raised
+    ensures { Raises tree.now key.now (raised_to result) handle.old.made handle.new.made }
+{
+    if !at_once {
+        return raise(rt, alloc, handle, tree, key, ATTEMPTS);
+    }
+    match raise_at_once(rt, handle, tree, key) {
+        Ok(number) => Raised::To(number),
+        Err(TransactionError::Storage(e)) => Raised::Stopped(Outcome::Refused(e)),
+        Err(TransactionError::Abort(_)) => Raised::Stopped(Outcome::Refused(Error::Unsupported(
+            NUMBERS_USED_UP,
+        ))),
+    }
+}
+
 // Raises the number so often, or until a raise comes to nothing.
 fn raise_on<L: Ledger, M: MergeOperator>(
     rt: &impl Wait,
@@ -33,11 +59,12 @@ fn raise_on<L: Ledger, M: MergeOperator>(
     tree: &Tree,
     key: &[u8],
     times: u64,
+    at_once: bool,
 )
     ensures { RaisesOn tree.now key.now handle.old.made handle.new.made }
 {
     for _ in 0..times {
-        match raise(rt, alloc, handle, tree, key, ATTEMPTS) {
+        match raise_one(rt, alloc, handle, tree, key, at_once) {
             Raised::To(_) => (),
             other => {
                 drop(other);
@@ -55,12 +82,13 @@ fn work<L: Ledger, M: MergeOperator>(
     tree: &Tree,
     key: &[u8],
     times: u64,
+    at_once: bool,
 ) -> Handle<MemPages, L, M>
     requires { handle.made ≡ [] }
     ensures { OnlyRaises tree.now key.now result }
 {
     let mut handle = handle;
-    raise_on(rt, alloc, &mut handle, tree, key, times);
+    raise_on(rt, alloc, &mut handle, tree, key, times, at_once);
     handle
 }
 
@@ -84,13 +112,14 @@ fn handles_of<L: Ledger, M: MergeOperator>(
     Ok(handles)
 }
 
-// Whether this is a swap that succeeded.
+// Whether this is a swap that succeeded, or a transaction.
 fn has_written(made: &Made) -> bool
     ensures { result ≡ has_written (made_value made.now) }
 {
     matches!(
         made,
         Made::Point(_, Call::CompareAndSwap(_, _, _), Reply::Swapped(Ok(())))
+            | Made::Transaction(_, _)
     )
 }
 
@@ -137,6 +166,7 @@ fn work_beside<L: Ledger + Send + Sync, M: MergeOperator + Send, R: Threads + Wa
     tree: &Tree,
     key: &[u8],
     times: u64,
+    at_once: bool,
 ) -> Result<Vec<Handle<MemPages, L, M>>, AllocError>
     requires { All (λ h. h.made ≡ []) handles.items }
     ensures { IfOk result (λ hs. All (OnlyRaises tree.now key.now) hs.items) }
@@ -147,7 +177,7 @@ fn work_beside<L: Ledger + Send + Sync, M: MergeOperator + Send, R: Threads + Wa
         &|handle: Handle<MemPages, L, M>| -> Handle<MemPages, L, M>
             requires { handle.made ≡ [] }
             ensures { OnlyRaises tree.entry.now key.entry.now result }
-        { work(rt, alloc, handle, tree, key, times) },
+        { work(rt, alloc, handle, tree, key, times, at_once) },
     )
 }
 
@@ -195,6 +225,7 @@ fn raised_beside<L: Ledger + Send + Sync, M: MergeOperator + Send, R: Threads + 
     tree: &Tree,
     key: &[u8],
     times: u64,
+    at_once: bool,
 ) -> Result<State<MemPages, L, M>, Option<State<MemPages, L, M>>>
     requires none { shared.given ≡ 0 }
     requires before { shared.before ≡ 0 }
@@ -206,19 +237,21 @@ fn raised_beside<L: Ledger + Send + Sync, M: MergeOperator + Send, R: Threads + 
     let Ok(handles) = handles_of(alloc, &mut shared, callers) else {
         return Err(shared.reclaim(rt).ok());
     };
-    let Ok(handles) = work_beside(rt, alloc, handles, tree, key, times) else {
+    let Ok(handles) = work_beside(rt, alloc, handles, tree, key, times, at_once) else {
         return Err(shared.reclaim(rt).ok());
     };
     taken(rt, shared, handles, times)
 }
 
-/// Shares a database, lets so many callers raise the number at a key so often each, beside each other in threads, and takes the database back. Where
-/// it answers `Ok` the number stands higher by just as many raises as all make together than it stood in the database at first: none was lost. Else
-/// some raise came to nothing, and the state is given back, if it can be.
+/// Shares a database, lets so many callers raise the number at a key so often each, beside each other in threads, and takes the database back.
+/// A raise is a transaction, `at_once`, or else a read and a swap.
+///
+/// Where it answers `Ok` the number stands higher by just as many raises as all make together than it stood in the database at first: none was
+/// lost. Else some raise came to nothing, and the state is given back, if it can be.
 ///
 /// ```text
 /// let blank = sled_machine::shared::Blank::new(5); // For four callers.
-/// let came = raise_together::<std::marker::Brand, _, _>(rt, alloc, db, blank, 4, &tree, b"visits", 100);
+/// let came = raise_together::<std::marker::Brand, _, _>(rt, alloc, db, blank, 4, &tree, b"visits", 100, true);
 /// ```
 pub fn raise_together<L: Ledger + Send + Sync, M: MergeOperator + Send, R: Threads + Wait + Sync>(
     rt: &R,
@@ -229,6 +262,7 @@ pub fn raise_together<L: Ledger + Send + Sync, M: MergeOperator + Send, R: Threa
     tree: &Tree,
     key: &[u8],
     times: u64,
+    at_once: bool,
 ) -> Result<State<MemPages, L, M>, Option<State<MemPages, L, M>>>
     requires name { blank.name ≡ L.name }
     requires parts { blank.parts ≡ L.parts }
@@ -238,7 +272,7 @@ pub fn raise_together<L: Ledger + Send + Sync, M: MergeOperator + Send, R: Threa
     ensures raised { IfOk result (StandsHigher store_of tree.now key.now (callers * times)) }
 {
     match shared::Db::<MemPages, L, M>::new(rt, alloc, db, blank, callers) {
-        Ok(shared) => raised_beside(rt, alloc, shared, callers, tree, key, times),
+        Ok(shared) => raised_beside(rt, alloc, shared, callers, tree, key, times, at_once),
         Err(failed) => {
             drop(failed);
             Err(None)

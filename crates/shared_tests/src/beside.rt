@@ -114,20 +114,26 @@ fn new_scene(alloc: Global, tree: Tree, moves: u64) -> Scene {
     }
 }
 
-// The database, shared by so many callers.
+// The database, shared by so many callers, and whether what scans do is noted.
 fn share<L: Ledger, R: Wait + Abort>(
     rt: &R,
     alloc: Global,
     db: Fresh,
     blank: Blank,
     callers: u64,
+    notes_scans: bool,
 ) -> Shared<L>
 where
     requires name { blank.name ≡ L.name }
     requires parts { blank.parts ≡ L.parts }
     requires each { blank.parts ≡ callers + 1 }
 {
-    match shared::Db::<MemPages, L, Adds>::new(rt, alloc, db, blank, callers) {
+    let shared = if notes_scans {
+        shared::Db::<MemPages, L, Adds>::new_noting_scans(rt, alloc, db, blank, callers)
+    } else {
+        shared::Db::<MemPages, L, Adds>::new(rt, alloc, db, blank, callers)
+    };
+    match shared {
         Ok(shared) => shared,
         Err(_) => panic!(rt; "not shared"),
     }
@@ -287,6 +293,9 @@ fn look<L: Ledger, R: Abort>(rt: &R, scene: &Scene, trial: &Trial<'_>, state: Ga
         begin_and_abandon(rt, scene, &mut state);
     }
     let map = remade(rt, scene, trial, &state);
+    let length = state.history().len() as u64;
+    let scanned = trial.has_scans(state.keeps_scans(), state.scans(), length);
+    require(rt, scanned, "what scans did");
     let flushed = has_flush(state.history());
     let machine = state.machine();
     let same = is_left_so(rt, machine, &map);
@@ -311,7 +320,7 @@ where
     requires parts { blank.parts ≡ L.parts }
     requires each { blank.parts ≡ callers + 1 }
 {
-    let mut shared = share::<L, R>(rt, scene.alloc, db, blank, callers);
+    let mut shared = share::<L, R>(rt, scene.alloc, db, blank, callers, trial.scanned.is_some());
     let mut handles = handles_of(rt, scene.alloc, &mut shared, callers);
     work_beside(rt, scene, trial, handles.as_mut_slice());
     let state = gathered_late(rt, shared, handles);
@@ -363,7 +372,7 @@ where
     requires parts { blank.parts ≡ L.parts }
     requires each { blank.parts ≡ 3 }
 {
-    let mut shared = share::<L, R>(rt, scene.alloc, db, blank, 2);
+    let mut shared = share::<L, R>(rt, scene.alloc, db, blank, 2, trial.scanned.is_some());
     let mut handles = handles_of(rt, scene.alloc, &mut shared, 2);
     let (Some(one), Some(other)) = (handles.pop(), handles.pop()) else {
         panic!(rt; "no handle")

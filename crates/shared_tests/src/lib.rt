@@ -31,6 +31,8 @@ mod handover_tests;
 #[cfg(test)]
 mod lagging_tests;
 #[cfg(test)]
+mod list_tests;
+#[cfg(test)]
 mod naming;
 #[cfg(test)]
 mod queue_tests;

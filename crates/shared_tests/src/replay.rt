@@ -124,6 +124,37 @@ fn makes_whole<R: Abort>(rt: &R, map: &mut Plain, whole: &Whole, reply: &Reply) 
     }
 }
 
+// Whether these stand at the keys of all batches, in the order of their writes.
+fn stand(map: &Plain, batches: &[(Tree, Batch)], stood: &[Option<IVec>]) -> bool {
+    let mut place = 0usize;
+    for (_, batch) in batches {
+        for (key, _) in batch.writes().iter() {
+            let same = match stood.get(place) {
+                Some(Some(value)) => map.get(key).is_some_and(|there| there == value),
+                Some(None) => !map.contains_key(key),
+                None => false,
+            };
+            if !same {
+                return false;
+            }
+            place = place.wrapping_add(1);
+        }
+    }
+    place == stood.len()
+}
+
+// Makes the writes of a transaction. Whether these stood there before.
+fn transacts<R: Abort>(
+    rt: &R,
+    map: &mut Plain,
+    batches: &[(Tree, Batch)],
+    stood: &[Option<IVec>],
+) -> bool {
+    let same = stand(map, batches, stood);
+    write(rt, map, batches);
+    same
+}
+
 fn makes_made<R: Abort>(rt: &R, map: &mut Plain, made: &Made) -> bool {
     match made {
         Made::Point(_, call, reply) => makes(rt, map, call, reply),
@@ -134,6 +165,12 @@ fn makes_made<R: Abort>(rt: &R, map: &mut Plain, made: &Made) -> bool {
         }
         Made::Parts(_, _) => false,
         Made::Read(read) => reads(map, read),
+        Made::Transaction(batches, stood) => transacts(
+            rt,
+            map,
+            batches.as_slice(),
+            stood.as_slice(),
+        ),
     }
 }
 

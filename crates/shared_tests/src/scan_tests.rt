@@ -1,5 +1,5 @@
-//! A scan that two threads step: the first takes one pair of it, and the second the others. And one of several leaves. Nothing is noted of
-//! them.
+//! A scan that two threads step: the first takes one pair of it, and the second the others. And one of several leaves. Neither comes to the
+//! history, and what they did is in the list of scans.
 use crate::asking::{Ask, Told};
 use crate::beside::try_out;
 use crate::trial::{EMPTY, Start, TWO_CALLERS, Trial, Wanted};
@@ -28,6 +28,7 @@ const TRIAL: Trial<'static> = Trial {
     first: &FIRST,
     others: &SECOND,
     wanted: Wanted::Calls(0, &[]),
+    scanned: Some(2),
     ..TWO_CALLERS
 };
 
@@ -49,6 +50,7 @@ const LONG: Trial<'static> = Trial {
     callers: 1,
     first: &ALL,
     wanted: Wanted::Calls(PAIRS as usize, &[]),
+    scanned: Some(PAIRS as usize),
     ..TWO_CALLERS
 };
 

@@ -67,7 +67,7 @@ fn is_decided(outcome: Outcome) -> bool {
 }
 
 fn is_group(entry: &Entry, by: u64) -> bool {
-    entry.by == by && matches!(&entry.made, Made::Whole(Whole::Group(_), Reply::Done))
+    entry.by == by && matches!(&entry.made, Made::Transaction(_, _))
 }
 
 fn is_flush(entry: &Entry, by: u64) -> bool {

@@ -3,7 +3,7 @@ use crate::asking::{Told, noted};
 use crate::beside::Scene;
 use crate::caller::Caller;
 use crate::turns::{Turn, take_turns};
-use sled_machine::shared::{Entry, Made};
+use sled_machine::shared::{Entry, Made, ScanNote, Scanned};
 use std::sync::atomic::Ordering;
 
 // The name of the tree that is there from the beginning.
@@ -53,6 +53,8 @@ pub struct Trial<'a> {
     /// So many moves of a call are the first caller's, where it hands one over.
     pub moves: u64,
     pub wanted: Wanted<'a>,
+    /// One scan gives so many pairs, to its end, and what scans do is noted; or it is not.
+    pub scanned: Option<usize>,
 }
 
 /// Two callers of a database with nothing in it, who do nothing, and whatever the history has then.
@@ -63,6 +65,7 @@ pub const TWO_CALLERS: Trial<'static> = Trial {
     others: &[],
     moves: 0,
     wanted: Wanted::Any,
+    scanned: None,
 };
 
 // Whether the history has an entry of this caller that tells this.
@@ -104,7 +107,30 @@ fn ends_with_drop(history: &[Entry]) -> bool {
     }
 }
 
+// Whether these are what one scan did: it began, gave so many pairs, and ended, all when the history had as many entries.
+fn are_of_one_scan(notes: &[ScanNote], pairs: usize, length: u64) -> bool {
+    for (k, note) in notes.iter().enumerate() {
+        let is_there = match &note.did {
+            Scanned::Begun(_, _) => k == 0,
+            Scanned::Gave(_, _) => k > 0 && k <= pairs,
+            Scanned::Ended => k == pairs.wrapping_add(1),
+        };
+        if !is_there || note.at != length {
+            return false;
+        }
+    }
+    notes.len() == pairs.wrapping_add(2)
+}
+
 impl Trial<'_> {
+    /// Whether what scans did is noted where it should be.
+    pub fn has_scans(&self, keeps: bool, notes: &[ScanNote], length: u64) -> bool {
+        match self.scanned {
+            Some(pairs) => keeps && are_of_one_scan(notes, pairs, length),
+            None => !keeps && notes.is_empty(),
+        }
+    }
+
     /// What the caller of this number does.
     pub fn work<C: Caller>(&self, scene: &Scene, number: u64, caller: &mut C) {
         let turns = if number == 1 { self.first } else { self.others };

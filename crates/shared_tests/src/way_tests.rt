@@ -39,6 +39,7 @@ fn raised<L: Ledger + Send + Sync, R: Threads + Wait + Abort + Sync>(
     alloc: Global,
     db: Fresh,
     blank: Blank,
+    at_once: bool,
 )
 where
     requires name { blank.name ≡ L.name }
@@ -46,7 +47,9 @@ where
     requires each { blank.parts ≡ 4 }
 {
     let tree = db.default_tree().expect(rt, "a tree");
-    match raise_together::<L, _, R>(rt, alloc, db, blank, CALLERS, &tree, b"hits", TIMES) {
+    match raise_together::<L, _, R>(
+        rt, alloc, db, blank, CALLERS, &tree, b"hits", TIMES, at_once,
+    ) {
         Ok(state) => look(rt, state, &tree),
         Err(_) => panic!(rt; "not raised"),
     }
@@ -54,11 +57,16 @@ where
 }
 
 // Three threads raise a number of a new database.
-fn raise_all<R: Threads + Wait + Abort + Sync>(rt: &R, alloc: Global) {
-    raised::<Brand, R>(rt, alloc, new_database(rt, alloc), Blank::new(4));
+fn raise_all<R: Threads + Wait + Abort + Sync>(rt: &R, alloc: Global, at_once: bool) {
+    raised::<Brand, R>(rt, alloc, new_database(rt, alloc), Blank::new(4), at_once);
 }
 
 #[test]
 fn a_number_is_raised_by_all(rt: HostRuntime) {
-    raise_all(&rt, rt.alloc());
+    raise_all(&rt, rt.alloc(), false);
+}
+
+#[test]
+fn a_number_is_raised_by_transactions(rt: HostRuntime) {
+    raise_all(&rt, rt.alloc(), true);
 }

@@ -2,5 +2,6 @@
 
 pub use sled_shared::{
     Answer, Blank, CallError, CallResult, Caller, Collections, Db, Entry, Gate, Handle, Lent, Made,
-    Names, NoGate, Pairs, Question, Read, State, reply_of,
+    Names, NoGate, Pairs, Question, RangePages, Read, ScanNote, Scanned, State, law_shows_inside,
+    reply_of,
 };

@@ -6,6 +6,7 @@ use Rattle.std.specs.Option.{option_eq}
 use Rattle.std.specs.Str.{bytes_eq}
 use Rattle.sled_nodes.proofs.Basics.{false_true, both_true}
 use Rattle.sled_nodes.specs.Order.{Key}
+use Rattle.sled_batch.specs.Batch.{Writes}
 use Rattle.sled_store.specs.theory.Facts.{same_name}
 use Rattle.std.specs.declared.ops.Bound.{Bound}
 use Rattle.sled_model.specs.Collections.{Content, content_of, contents_of}
@@ -13,11 +14,12 @@ use Rattle.sled_model.specs.declared.call.Call.{Call}
 use Rattle.sled_model.specs.declared.call.Whole.{Whole}
 use Rattle.sled_model.specs.declared.call.Whole.TheVariants.{Flush, PopMin, PopMax, Clear, Group, OpenTree, DropTree, GenerateId, Import, Watch, Next, Unsubscribe}
 use Rattle.sled_model.specs.declared.reply.Reply.{Reply}
+use Rattle.sled_model.specs.declared.tree.Tree.{Tree}
 use Rattle.sled_model.specs.contracts.call.CallPartialEq.TheImpl as call
 use Rattle.sled_model.specs.contracts.call.WholePartialEq.TheImpl as whole
 use Rattle.sled_model.specs.contracts.reply.ReplyPartialEq.TheImpl as reply
 use Rattle.sled_model.specs.contracts.tree.TreePartialEq.TheImpl as tree
-use Rattle.sled_shared.specs.Made.{PointMade, WholeMade, PartsMade, ReadMade, made_value, whole_value}
+use Rattle.sled_shared.specs.Made.{PointMade, WholeMade, PartsMade, ReadMade, TransactionMade, made_value, whole_value}
 use Rattle.sled_shared.specs.contracts.entry.MadePartialEq.TheImpl as made
 use Rattle.sled_shared.specs.contracts.read.AnswerPartialEq.TheImpl as answer
 use Rattle.sled_shared.specs.contracts.read.QuestionPartialEq.TheImpl as question
@@ -30,7 +32,7 @@ use Rattle.sled_shared.specs.declared.read.Read.{Read}
 use Rattle.sled_shared.specs.declared.read.Read.TheVariants as reads
 use Rattle.sled_shared.proofs.SameContents.{same_content}
 use Rattle.sled_shared.specs.declared.entry.Made.{Made}
-use Rattle.sled_shared.specs.declared.entry.Made.TheVariants.{Point, Whole as Wholly, Parts, Read as Reading}
+use Rattle.sled_shared.specs.declared.entry.Made.TheVariants.{Point, Whole as Wholly, Parts, Read as Reading, Transaction}
 use Rattle.sled_shared.specs.Wholes as value
 
 abbrev Sound : {X : Type 0} → (X → X → Bool) → Type 0
@@ -154,6 +156,17 @@ reads_same (reads.Names x) (reads.Names y) e = ap reads.Names (lists_same bytes_
 reads_same (reads.Export x) (reads.Export y) e = ap reads.Export (lists_same same_content exports_same x y e)
 reads_same a b e = false_true e
 
+values_same : Sound (pointwise (option_eq bytes_eq))
+values_same xs ys e = lists_same (option_eq bytes_eq) (options_same bytes_eq same_name) xs ys e
+
+batches_same : (xs ys : List (Tree × Writes)) → pointwise (λ (p q : Tree × Writes). tree.ghosts.eq p.0 q.0 && pointwise (λ (p q : Key × Option Key). bytes_eq p.0 q.0 && option_eq bytes_eq p.1 q.1) p.1 q.1) xs ys ≡ true → xs ≡ ys
+batches_same xs ys e = lists_same _ (tuples_same _ _ trees_same writes_same) xs ys e
+
+groups_same : (xs ys : Vec (Tree × Writes)) (vs ws : Vec (Option Key)) → made.ghosts.eq (Transaction xs vs) (Transaction ys ws) ≡ true → made_value (Transaction xs vs) ≡ made_value (Transaction ys ws)
+groups_same xs ys vs ws e =
+    let both = both_true (pointwise (λ (p q : Tree × Writes). tree.ghosts.eq p.0 q.0 && pointwise (λ (p q : Key × Option Key). bytes_eq p.0 q.0 && option_eq bytes_eq p.1 q.1) p.1 q.1) xs.items ys.items) (pointwise (option_eq bytes_eq) vs.items ws.items) e in
+    ap (λ z. TransactionMade z vs.items) (batches_same xs.items ys.items both.0) ∙ ap (λ z. TransactionMade ys.items z) (values_same vs.items ws.items both.1)
+
 pub mades_same : (a b : Made) → made.ghosts.eq a b ≡ true → made_value a ≡ made_value b
 mades_same (Point t c r) (Point u d s) e =
     let both = both_true (tree.ghosts.eq t u) (call.ghosts.eq c d && reply.ghosts.eq r s) e in
@@ -162,4 +175,5 @@ mades_same (Point t c r) (Point u d s) e =
 mades_same (Wholly w r) (Wholly x s) e = let both = both_true (whole.ghosts.eq w x) (reply.ghosts.eq r s) e in ap (λ z. WholeMade z r) (wholes_same w x both.0) ∙ ap (λ z. WholeMade (whole_value x) z) (replies_same r s both.1)
 mades_same (Parts w n) (Parts x m) e = let both = both_true (whole.ghosts.eq w x) (nat_eq n m) e in ap (λ z. PartsMade z n) (wholes_same w x both.0) ∙ ap (λ z. PartsMade (whole_value x) z) (eqb-true n m both.1)
 mades_same (Reading a) (Reading b) e = ap ReadMade (reads_same a b e)
+mades_same (Transaction xs vs) (Transaction ys ws) e = groups_same xs ys vs ws e
 mades_same a b e = false_true e

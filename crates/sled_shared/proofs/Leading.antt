@@ -50,7 +50,7 @@ use Rattle.sled_calls.specs.Values.{MachineValue, configuration_of, slots_of}
 use Rattle.sled_calls.proofs.Runs.{extended}
 use Rattle.sled_shared.specs.Crashes.{TakesThrough, TakesNoMore, TakesOneMore, MakesThrough, MakesNoMore, MakesOneMore, whole_through, through_as, left_by_whole, left_by, LeadsThrough, LeadsNoMore, LeadsOneMore}
 use Rattle.sled_shared.specs.History.{MakesPoint, makes_as, IsLegal, NoEntries, OneEntry, maps_from}
-use Rattle.sled_shared.specs.Made.{EntryValue, MadeValue, PointMade, WholeMade, PartsMade, ReadMade, whole_value}
+use Rattle.sled_shared.specs.Made.{EntryValue, MadeValue, PointMade, WholeMade, PartsMade, ReadMade, TransactionMade, whole_value}
 use Rattle.sled_shared.specs.Notes.{entries_of, noted_as, noted_in}
 use Rattle.sled_shared.specs.Sound.{IsOpen, maps_now, Leads, CrashLeaves, IsState}
 use Rattle.sled_shared.specs.WholeMade.{map_with, TakesLeast, TakesNone, TakesOne, MakesParts, makes_whole_as}
@@ -138,6 +138,7 @@ through_end (PartsMade (value.Clear tree) number) a m through left t e = takes_e
 through_end (PartsMade (value.Import all) number) a m through left t e = makes_end t.makes left e
 through_end (PartsMade other number) a m through left t e = absurd t
 through_end (ReadMade read) a m through left t e = (left, ap (λ l. left ++ l) t)
+through_end (TransactionMade batches stood) a m through left t e = (left, ap (λ l. left ++ l) t)
 
 pub leads_end : {a b : Maps} {left last : List Maps} {es : List EntryValue} → LeadsThrough a left es b last → Ends left a → Ends last b
 leads_end LeadsNoMore e = e

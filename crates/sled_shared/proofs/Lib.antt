@@ -9,9 +9,15 @@ pub mod WholeTests
 pub mod Leading
 pub mod WholeAdds
 pub mod Fetching
+pub mod Stands
+pub mod GroupStates
 pub mod Transacting
+pub mod Listing
 pub mod SameContents
 pub mod Paging
 pub mod PageReads
+pub mod Parts
 pub mod ReadMakes
 pub mod Replying
+pub mod Scanning
+pub mod Copied

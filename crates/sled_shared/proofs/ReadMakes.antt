@@ -1,7 +1,8 @@
 -- Reads of a state: what they tell is so, and they keep what holds of it.
 use Rattle.std.proofs.Common.{◌≡◌, ◌∙◌, ℕ, true, false, List, [], ◌∷◌, ◌++◌, length, not, Option, Some, None, option_map, is_some, Result, Ok, Err, IfOk, sym, refl, ap, subst, inl, inr}
 use Rattle.sled_nodes.proofs.Basics.{false_true}
-use Rattle.sled_nodes.specs.Order.{Key}
+use Rattle.sled_nodes.specs.Order.{Key, key_cmp}
+use Rattle.std.specs.FinMap.Entries.{is_sorted}
 use Rattle.sled_nodes.specs.declared.error.Error.{Error}
 use Rattle.sled_store.specs.In.{In}
 use Rattle.sled_store.specs.Store.{Store, now}
@@ -14,13 +15,13 @@ use Rattle.sled_model.specs.declared.tree.Tree.{Tree}
 use Rattle.sled.proofs.Grouped.{tested_open}
 use Rattle.sled.specs.Names.{AreNames}
 use Rattle.sled.specs.Reads.{ReadsMap}
-use Rattle.sled.specs.Sound.{IsDb}
+use Rattle.sled.specs.Sound.{IsDb, MapsAscend}
 use Rattle.sled.specs.Values.{DbValue, db_state}
 use Rattle.sled_calls.specs.Values.{MachineValue}
 use Rattle.sled_calls.proofs.Rising.{at_most}
 use Rattle.sled_shared.specs.Made.{EntryValue, MadeValue, ReadMade}
 use Rattle.sled_shared.specs.Notes.{entries_of}
-use Rattle.sled_shared.specs.Reads.{answers_as, reads_as, AnswersIn, NamesIn, IsAnswerTo}
+use Rattle.sled_shared.specs.Reads.{answers_as, page_of, reads_as, AnswersIn, NamesIn, IsAnswerTo}
 use Rattle.sled_shared.specs.Sound.{CrashLeaves, IsOpen, IsState, maps_now}
 use Rattle.sled_shared.specs.declared.read.Answer.{Answer}
 use Rattle.sled_shared.specs.declared.read.Question.{Question}
@@ -32,6 +33,7 @@ use Rattle.sled_shared.proofs.Ids.{longer_rises}
 use Rattle.sled_shared.proofs.Leading.{adds, rests, once_more, legal_of, leads_of}
 use Rattle.sled_shared.proofs.Legal.{maps_same}
 use Rattle.sled_shared.proofs.Opening.{opened}
+use Rattle.sled_shared.proofs.Parts.{page_part}
 use Rattle.sled_shared.proofs.WholeMakes.{there_map}
 
 -- ---- what is told is so
@@ -74,19 +76,19 @@ module _ {P M : Type 0} (store : P → Store) (meant : M → Merge) (m : Machine
       opens_as e = ap not e
 
 -- the kind of an answer
-kind_as : (map : Map) (question : Question) (answer : Answer) → answers_as map question answer → IsAnswerTo question answer
-kind_as map (asks.Get key) answer a = (_, a)
-kind_as map (asks.ContainsKey key) answer a = (_, a)
-kind_as map asks.First answer a = (a.0, a.2)
-kind_as map asks.Last answer a = (a.0, a.2)
-kind_as map (asks.GetLt key) answer a = (a.0, a.2)
-kind_as map (asks.GetGt key) answer a = (a.0, a.2)
-kind_as map asks.Len answer a = (_, a)
-kind_as map asks.IsEmpty answer a = (a.0, a.2)
-kind_as map (asks.Page lo hi back most) answer a = (_, a)
+kind_as : (map : Map) → is_sorted key_cmp map ≡ true → (question : Question) (answer : Answer) → answers_as map question answer → IsAnswerTo question answer
+kind_as map s (asks.Get key) answer a = (_, a)
+kind_as map s (asks.ContainsKey key) answer a = (_, a)
+kind_as map s asks.First answer a = (a.0, a.2)
+kind_as map s asks.Last answer a = (a.0, a.2)
+kind_as map s (asks.GetLt key) answer a = (a.0, a.2)
+kind_as map s (asks.GetGt key) answer a = (a.0, a.2)
+kind_as map s asks.Len answer a = (_, a)
+kind_as map s asks.IsEmpty answer a = (a.0, a.2)
+kind_as map s (asks.Page lo hi back most) answer a = record { pairs = page_of lo hi back most map; is = a; part = page_part lo hi back most map s }
 
-pub is_answer : {P M : Type 0} (store : P → Store) (meant : M → Merge) (d : DbValue P M) (tree : Tree) (question : Question) (answer : Answer) → ReadsMap store meant d tree (λ map. answers_as map question answer) → IsAnswerTo question answer
-is_answer store meant d tree question answer r = kind_as r.named.map question answer r.is
+pub is_answer : {P M : Type 0} (store : P → Store) (meant : M → Merge) (d : DbValue P M) (tree : Tree) (question : Question) (answer : Answer) → MapsAscend (maps_of (db_state store meant d)) → ReadsMap store meant d tree (λ map. answers_as map question answer) → IsAnswerTo question answer
+is_answer store meant d tree question answer ascend r = kind_as r.named.map (ascend.is tree.name r.named.map (there_map (db_state store meant d) tree.name r.named r.there)) question answer r.is
 
 -- what is noted of a read
 pub notes_read : {P M X : Type 0} (store : P → Store) (m : MachineValue P M) (reads : X → Read) (x : X) (noted : List MadeValue) → ReadsNow store m (reads x) → noted ≡ ReadMade (reads x) ∷ [] → NotesRead store m noted

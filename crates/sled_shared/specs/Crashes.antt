@@ -8,7 +8,7 @@ use Rattle.sled_model.specs.Imports.{Part, parts_of}
 use Rattle.sled_model.specs.declared.call.Call.TheVariants.{Remove}
 use Rattle.sled.specs.Parts.{told_parts}
 use Rattle.sled_shared.specs.History.{makes_as}
-use Rattle.sled_shared.specs.Made.{MadeValue, PointMade, WholeMade, PartsMade, ReadMade, EntryValue}
+use Rattle.sled_shared.specs.Made.{MadeValue, PointMade, WholeMade, PartsMade, ReadMade, TransactionMade, EntryValue}
 use Rattle.sled_shared.specs.WholeMade.{map_with, makes_part_as}
 use Rattle.sled_shared.specs.Wholes.{WholeValue, Flush, PopMin, PopMax, Clear, Group, OpenTree, DropTree, GenerateId, Import, Watch, Next, Unsubscribe}
 
@@ -68,6 +68,7 @@ through_as old (PointMade tree call reply) through new = through ≡ new ∷ []
 through_as old (WholeMade whole reply) through new = whole_through old whole through new
 through_as old (PartsMade whole number) through new = parts_through old whole number through new
 through_as old (ReadMade read) through new = through ≡ new ∷ []
+through_as old (TransactionMade batches stood) through new = through ≡ new ∷ []
 
 -- What a crash may leave after an entry, which might leave these before it: they go on by those that it led through. A flush leaves those
 -- after it alone
@@ -90,6 +91,7 @@ left_by (PointMade tree call reply) through left = left ++ through
 left_by (WholeMade whole reply) through left = left_by_whole whole through left
 left_by (PartsMade whole number) through left = left ++ through
 left_by (ReadMade read) through left = left ++ through
+left_by (TransactionMade batches stood) through left = left ++ through
 
 -- From the old maps on, where a crash might leave the first list, each entry is what its call makes there, the maps after the last are the
 -- new ones, and a crash may leave the second list

@@ -9,12 +9,13 @@ use Rattle.sled_model.specs.declared.call.Call.{Call}
 use Rattle.sled_model.specs.declared.call.Call.TheVariants.{Merge}
 use Rattle.sled_model.specs.declared.decision.Decision.{Decision}
 use Rattle.sled_model.specs.declared.reply.Reply.{Reply}
-use Rattle.sled_model.specs.declared.reply.Reply.TheVariants.{Number}
+use Rattle.sled_model.specs.declared.reply.Reply.TheVariants.{Number, Done}
 use Rattle.sled_model.specs.declared.tree.Tree.{Tree}
 use Rattle.sled_shared.specs.Wholes.{WholeValue, Flush, PopMin, PopMax, Clear, Group, OpenTree, DropTree, GenerateId, Import, Watch, Next, Unsubscribe}
-use Rattle.sled_shared.specs.Made.{MadeValue, PointMade, WholeMade, PartsMade, ReadMade, EntryValue}
+use Rattle.sled_shared.specs.Made.{MadeValue, PointMade, WholeMade, PartsMade, ReadMade, TransactionMade, EntryValue}
 pub use Rattle.sled_shared.specs.Openings.{maps_from}
 use Rattle.sled_shared.specs.Reads.{reads_as}
+use Rattle.sled_shared.specs.Stood.{stood_in}
 use Rattle.sled_shared.specs.WholeMade.{makes_whole_as, makes_parts_as}
 
 -- What a call may come to where this value stands: a merge writes what its reply tells, and all others come to what they do by whatever
@@ -32,12 +33,13 @@ pub record MakesPoint (old : Maps) (tree : Tree) (call : Call) (reply : Reply) (
   pub replies : reply ≡ decision.reply
   pub is : new ≡ put_name old tree.name (Some (map_after decision.effect (key_of call) map))
 
--- what was made at these maps leaves those
+-- what was made at these maps leaves those. A transaction is the group that it wrote, and at the keys of its writes stood what it tells
 abbrev pub makes_as : Maps → MadeValue → Maps → Type 0
 makes_as old (PointMade tree call reply) new = MakesPoint old tree call reply new
 makes_as old (WholeMade whole reply) new = makes_whole_as old whole reply new
 makes_as old (PartsMade whole number) new = makes_parts_as old whole number new
 makes_as old (ReadMade read) new = reads_as old read × (new ≡ old)
+makes_as old (TransactionMade batches stood) new = (stood ≡ stood_in old batches) × makes_whole_as old (Group batches) Done new
 
 -- From the old maps on each entry is what its call makes there, and the maps after the last are the new ones
 pub data IsLegal : Maps → List EntryValue → Maps → Type 0 where
@@ -66,6 +68,7 @@ id_made (PointMade tree call reply) = []
 id_made (WholeMade whole reply) = id_given whole reply
 id_made (PartsMade whole number) = []
 id_made (ReadMade read) = []
+id_made (TransactionMade batches stood) = []
 
 -- the ids that were given, in order
 abbrev pub ids_made : List EntryValue → List ℕ

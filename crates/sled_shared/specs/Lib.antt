@@ -3,6 +3,8 @@ pub mod Openings
 pub mod Orders
 pub mod Reads
 pub mod Made
+pub mod Stood
+pub mod Scans
 pub mod Values
 pub mod WholeMade
 pub mod History
@@ -14,6 +16,7 @@ pub mod WholeNotes
 pub mod Replies
 pub mod Fetches
 pub mod Transactions
+pub mod RangePages
 pub mod Gathered
 pub mod Again
 pub mod theory
@@ -22,6 +25,7 @@ pub use Rattle.sled_store.specs as sled_store
 pub use Rattle.sled_batch.specs as sled_batch
 pub use Rattle.sled_model.specs as sled_model
 pub use Rattle.tree_laws.specs as tree_laws
+pub use Rattle.sled_tree.specs as sled_tree
 pub use Rattle.tree_reads.specs as tree_reads
 pub use Rattle.tree_pages.specs as tree_pages
 pub use Rattle.tree_transactions.specs as tree_transactions

@@ -1,5 +1,7 @@
 -- What callers made, as contracts see it.
-use Rattle.std.specs.Prelude.{ℕ, List, map}
+use Rattle.std.specs.Prelude.{ℕ, List, Option, map}
+use Rattle.sled_nodes.specs.Order.{Key}
+use Rattle.sled_batch.specs.Batch.{Writes}
 use Rattle.sled_model.specs.Collections.{contents_of}
 use Rattle.sled_model.specs.declared.call.Call.{Call}
 use Rattle.sled_model.specs.declared.call.Whole.{Whole}
@@ -14,12 +16,14 @@ use Rattle.sled_shared.specs.declared.entry.Made.TheVariants as made
 use Rattle.sled_shared.specs.declared.read.Read.{Read}
 
 -- What was made: a call on a key of a tree that was decided, with its reply; a whole call that was decided, with its reply; so many
--- parts of a whole call that was refused after them; or a read, with what it told
+-- parts of a whole call that was refused after them; a read, with what it told; or what a transaction wrote, with what stood before at the key
+-- of each of its writes
 pub data MadeValue : Type 0 where
   PointMade : (tree : Tree) (call : Call) (reply : Reply) → MadeValue
   WholeMade : (whole : WholeValue) (reply : Reply) → MadeValue
   PartsMade : (whole : WholeValue) (number : ℕ) → MadeValue
   ReadMade : (read : Read) → MadeValue
+  TransactionMade : (batches : List (Tree × Writes)) (stood : List (Option Key)) → MadeValue
 
 -- .. and the number of the caller whose step decided it
 pub record EntryValue : Type 0 where
@@ -45,6 +49,7 @@ made_value (made.Point tree call reply) = PointMade tree call reply
 made_value (made.Whole whole reply) = WholeMade (whole_value whole) reply
 made_value (made.Parts whole number) = PartsMade (whole_value whole) number
 made_value (made.Read read) = ReadMade read
+made_value (made.Transaction batches stood) = TransactionMade batches.items stood.items
 
 abbrev pub entry_value : Entry → EntryValue
 entry_value e = record { by = e.by; made = made_value e.made }

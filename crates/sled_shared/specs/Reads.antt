@@ -1,9 +1,10 @@
 -- What reads under one lock tell.
-use Rattle.std.specs.Prelude.{◌≡◌, ◌↔◌, ℕ, Bool, true, IsTrue, List, [], length, take, Option, Some, is_some}
-use Rattle.std.specs.FinMap.Entries.{find}
+use Rattle.std.specs.Prelude.{◌≡◌, ◌↔◌, ℕ, ◌≤◌, ◌-◌, nat_lt, nat_eq, Bool, true, false, ◌&&◌, ◌||◌, IsTrue, All, List, [], length, take, slice_get, Option, Some, None, is_some}
+use Rattle.std.specs.Option.{option_map}
+use Rattle.std.specs.FinMap.Entries.{find, is_sorted}
 use Rattle.std.specs.declared.ops.Bound.{Bound}
 use Rattle.std.specs.declared.ops.Bound.TheVariants.{Excluded, Unbounded}
-use Rattle.sled_nodes.specs.Among.{IsSuccessor, IsPredecessor}
+use Rattle.sled_nodes.specs.Among.{IsSuccessor, IsPredecessor, is_from, is_up_to}
 use Rattle.sled_nodes.specs.Order.{Key, key_cmp}
 use Rattle.sled_store.specs.In.{In}
 use Rattle.sled_model.specs.Maps.{Map, Maps}
@@ -70,8 +71,21 @@ IsPair answer = (pair : Option (Key × Key)) × (answer ≡ Pair pair)
 abbrev pub IsCount : Answer → Type 0
 IsCount answer = (count : ℕ) × (answer ≡ Count count)
 
-abbrev pub IsPage : Answer → Type 0
-IsPage answer = (pairs : List (Key × Key)) × (answer ≡ Pairs pairs)
+-- the key lies within two bounds
+abbrev pub is_within : Bound Key → Bound Key → Key → Bool
+is_within lo hi key = is_from lo key && is_up_to hi key
+
+-- a part of a range: so many pairs at the most, whose keys lie within the bounds and rise or, back, fall
+pub record IsPart (lo hi : Bound Key) (back : Bool) (most : ℕ) (pairs : List (Key × Key)) : Type 0 where
+  pub few : length pairs ≤ most
+  pub within : All (λ p. is_within lo hi p.0 ≡ true) (in_order back pairs)
+  pub order : is_sorted key_cmp (in_order back pairs) ≡ true
+
+-- .. is answered
+pub record IsPageOf (lo hi : Bound Key) (back : Bool) (most : ℕ) (answer : Answer) : Type 0 where
+  pub pairs : List (Key × Key)
+  pub is : answer ≡ Pairs pairs
+  pub part : IsPart lo hi back most pairs
 
 -- the kind of answer that a question has
 abbrev pub IsAnswerTo : Question → Answer → Type 0
@@ -83,4 +97,4 @@ IsAnswerTo (GetLt key) answer = IsPair answer
 IsAnswerTo (GetGt key) answer = IsPair answer
 IsAnswerTo Len answer = IsCount answer
 IsAnswerTo IsEmpty answer = IsFlag answer
-IsAnswerTo (Page lo hi back most) answer = IsPage answer
+IsAnswerTo (Page lo hi back most) answer = IsPageOf lo hi back most answer

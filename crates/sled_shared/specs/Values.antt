@@ -3,12 +3,14 @@ use Rattle.std.specs.Prelude.{ℕ, List}
 use Rattle.sled_model.specs.Collections.{Content}
 use Rattle.sled_calls.specs.Values.{MachineValue}
 use Rattle.sled_shared.specs.Made.{MadeValue, EntryValue}
+use Rattle.sled_shared.specs.Scans.{ScansValue}
 
--- the machine, the collections that its database began with, and what was made since, in order
+-- the machine, the collections that its database began with, what was made since, in order, and what scans did
 pub record StateValue (P M : Type 0) : Type 0 where
   pub machine : MachineValue P M
   pub opening : List Content
   pub history : List EntryValue
+  pub scans : ScansValue
 
 -- a caller: its number, and what it made, in order
 pub record CallerValue : Type 0 where

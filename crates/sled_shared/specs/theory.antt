@@ -3,3 +3,5 @@ pub mod Fetching
 pub mod Transacting
 pub mod Reading
 pub mod Orders
+pub mod Scanning
+pub mod Copied

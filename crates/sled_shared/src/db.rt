@@ -10,6 +10,7 @@ ghost use Rattle.sled_shared.specs.Gathered.{RefusesHandle};
 
 use crate::caller::Caller;
 use crate::handle::Handle;
+use crate::scans::Scans;
 use crate::state::State;
 use sled::Db as Owned;
 use sled_calls::Machine;
@@ -100,11 +101,13 @@ fn first_state<P: Pages, L: Ledger, M: MergeOperator>(
     db: Owned<P, M>,
     opening: Arc<Vec<Collection>>,
     calls: Book<L>,
+    scans: Scans,
 ) -> State<P, L, M>
     requires sound { IsDb P.store db }
     requires open { (now (P.store db.pages)).in_group ≡ false }
     requires opening { contents_of opening.value.items ≡ collections (trees_of (now (P.store db.pages))) db.trees }
     requires none { calls.total ≡ 0 }
+    requires no_scans { scans.notes ≡ [] }
 {
     let machine = Machine::new(db);
     State {
@@ -112,6 +115,7 @@ fn first_state<P: Pages, L: Ledger, M: MergeOperator>(
         opening,
         history: Vec::new(alloc),
         calls,
+        scans,
     }
 }
 
@@ -130,6 +134,50 @@ impl<P: Pages, L: Ledger, M: MergeOperator> Db<P, L, M> {
         db: Owned<P, M>,
         blank: Blank,
         callers: u64,
+    ) -> std::result::Result<Db<P, L, M>, (Owned<P, M>, Error)>
+        requires name { blank.name ≡ L.name }
+        requires parts { blank.parts ≡ L.parts }
+        requires each { blank.parts ≡ callers + 1 }
+        ensures ok { IfOk result (λ shared. shared ≡ record { callers = callers; given = 0; before = 0; opening = collections (trees_of (now (P.store db.pages))) db.trees }) }
+        ensures open { OnOk result ((now (P.store db.pages)).in_group ≡ false) }
+        ensures same { IfErr result (λ e. e.0 ≡ db) }
+        ensures err { IfErr result (λ e. RefusesExport (P.store db.pages) e.1) }
+    {
+        Self::share(rt, alloc, db, blank, callers, false)
+    }
+
+    /// Shares a database as `new` does, but that what scans do is noted too, in a list of its own: [`State::scans`].
+    ///
+    /// ```text
+    /// let blank = sled_shared::Blank::new(3); // For two callers.
+    /// let shared = sled_shared::Db::<MemPages, std::marker::Brand>::new_noting_scans(rt, alloc, db, blank, 2);
+    /// ```
+    pub fn new_noting_scans(
+        rt: &impl Wait,
+        alloc: Global,
+        db: Owned<P, M>,
+        blank: Blank,
+        callers: u64,
+    ) -> std::result::Result<Db<P, L, M>, (Owned<P, M>, Error)>
+        requires name { blank.name ≡ L.name }
+        requires parts { blank.parts ≡ L.parts }
+        requires each { blank.parts ≡ callers + 1 }
+        ensures ok { IfOk result (λ shared. shared ≡ record { callers = callers; given = 0; before = 0; opening = collections (trees_of (now (P.store db.pages))) db.trees }) }
+        ensures open { OnOk result ((now (P.store db.pages)).in_group ≡ false) }
+        ensures same { IfErr result (λ e. e.0 ≡ db) }
+        ensures err { IfErr result (λ e. RefusesExport (P.store db.pages) e.1) }
+    {
+        Self::share(rt, alloc, db, blank, callers, true)
+    }
+
+    // The same, and whether what scans do is noted.
+    fn share(
+        rt: &impl Wait,
+        alloc: Global,
+        db: Owned<P, M>,
+        blank: Blank,
+        callers: u64,
+        keeps_scans: bool,
     ) -> std::result::Result<Db<P, L, M>, (Owned<P, M>, Error)>
         requires name { blank.name ≡ L.name }
         requires parts { blank.parts ≡ L.parts }
@@ -159,7 +207,8 @@ impl<P: Pages, L: Ledger, M: MergeOperator> Db<P, L, M> {
         };
         db.audit();
         let (calls, rest) = blank.open::<L>();
-        fill(rt, &lock, first_state(alloc, db, opening, calls));
+        let scans = Scans::new(alloc, keeps_scans);
+        fill(rt, &lock, first_state(alloc, db, opening, calls, scans));
         Ok(Db {
             lock,
             callers,

@@ -1,9 +1,11 @@
 //! What callers made.
 use crate::read::Read;
+use sled_batch::Batch;
 use sled_model::{Call, Reply, Tree, Whole};
+use sled_nodes::IVec;
 
-/// What a caller made: a call that was decided, with its reply, parts of one that was refused after them, or a read, with what it told. Two
-/// are equal where they are the same call with the same reply, or as many parts of it.
+/// What a caller made: a call that was decided, with its reply, parts of one that was refused after them, a read, with what it told, or a
+/// transaction. Two are equal where they are the same call with the same reply, or as many parts of it.
 #[derive(Drop, PartialEq, Eq)]
 pub enum Made {
     /// A call on a key of a tree.
@@ -15,6 +17,8 @@ pub enum Made {
     Parts(Whole, u64),
     /// A read under one lock, which changed nothing.
     Read(Read),
+    /// The writes of a transaction, made as a group, and what stood before at the key of each of them, in their order.
+    Transaction(Vec<(Tree, Batch)>, Vec<Option<IVec>>),
 }
 
 /// What was made, and who made it.

@@ -152,6 +152,7 @@ fn swap_now<P: Pages, M: MergeOperator>(
     ensures value { IfOk result (λ made. made ≡ option_map (λ v. v.items) new) }
     ensures ok { OnOk result (SwapsNow P.store M.meant machine.old tree.now key.now stood.now (option_map (λ v. v.items) new) machine.new) }
     ensures err { OnErr result (StaysStill P.store M.meant machine.old machine.new) }
+    ensures same { machine.new ≡ record (machine.old) { db = machine.new.db } }
 {
     let mut new = new;
     machine.update_and_fetch(
@@ -180,6 +181,7 @@ where
     ensures ok { IfOk result.0 (λ both. SwapsNow P.store M.meant machine.old tree.now key.now both.0 both.1 machine.new) }
     ensures noted { IfOk result.0 (λ both. first_noted result.1 ≡ swap_made tree.now key.now both.0 both.1 ∷ []) }
     ensures err { OnErr result.0 (StaysStill P.store M.meant machine.old machine.new) }
+    ensures same { machine.new ≡ record (machine.old) { db = machine.new.db } }
     ensures none { OnErr result.0 (first_noted result.1 ≡ []) }
     ensures again { second_noted result.1 ≡ first_noted result.1 }
     ensures history { history.new.items ≡ history.old.items }

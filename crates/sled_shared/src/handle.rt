@@ -5,16 +5,19 @@ ghost use Rattle.sled_model.specs.State.{IsOnKey};
 ghost use Rattle.sled_model.specs.declared.call.Call.{Call};
 ghost use Rattle.sled_model.specs.declared.call.Call.TheVariants.{Get, Insert, Remove, CompareAndSwap, Merge};
 ghost use Rattle.sled_nodes.specs.Order.{Key};
+ghost use Rattle.sled_shared.specs.theory.Copied.{AddsStepped, AreCopies};
 ghost use Rattle.sled_shared.specs.Fetches.{Fetches};
 ghost use Rattle.sled_shared.specs.Made.{made_values};
 ghost use Rattle.sled_shared.specs.Notes.{AddsStep, IsEnd, IsGivenUp, noted_of};
 ghost use Rattle.sled_shared.specs.Replies.{RepliesTo};
 ghost use Rattle.sled_shared.specs.WholeNotes.{AddsWhole};
 
+use crate::called::{Stepped, begin_on, step_on};
 use crate::caller::Caller;
 use crate::entry::Made;
+use crate::noting::{Jobs, copies_of};
 use crate::state::State;
-use crate::steps::{abandon_in, begin_in, fetch_adding, step_adding, step_of, whole_adding};
+use crate::steps::{abandon_in, begin_in, fetch_adding, step_adding, whole_adding};
 use sled_model::{Call, MergeOperator, Outcome, Slot, Tree, Whole};
 use sled_nodes::{IVec, Result};
 use sled_store::Pages;
@@ -69,8 +72,8 @@ impl<P: Pages, L: Ledger, M> Handle<P, L, M> {
         self.me.number
     }
 
-    /// What this caller made, in order: each of its calls on a key and of its whole calls that was decided, with its reply, the parts of
-    /// those that were refused after some, and each of its reads, with what it told.
+    /// What this caller made, in order. It has each of its calls on a key and of its whole calls that was decided, with its reply, and the
+    /// parts of those that were refused after some. It has each of its reads, with what it told, and each of its transactions.
     ///
     /// ```
     /// let count = handle.made().len();
@@ -166,10 +169,12 @@ impl<P: Pages, L: Ledger, M: MergeOperator> Handle<P, L, M> {
         fetched
     }
 
-    /// Sets the value at a key to what the closure makes of the value that stands there, or takes the key out where it answers `None`, and
-    /// answers the new value; all in one step under the lock, so nobody writes between. It comes to the end of this caller's list as the swap
-    /// of the one value for the other. Refused as a read and a swap are, and with `NoMemory` where the closure tells want of memory; then
-    /// nothing is written, and nothing comes to the list. The closure is called while the lock is held: it must make no call on this database.
+    /// Sets the value at a key to what the closure makes of the value that stands there, or takes the key out where it answers `None`. It
+    /// answers the new value. It is one step under the lock, so nobody writes between. It comes to the end of this caller's list as the swap of
+    /// the one value for the other.
+    ///
+    /// Refused as a read and a swap are, and with `NoMemory` where the closure tells want of memory; then nothing is written, and nothing comes
+    /// to the list. The closure is called while the lock is held: it must make no call on this database.
     ///
     /// ```
     /// // The value is taken out, whatever it is.
@@ -226,41 +231,46 @@ impl<P: Pages, L: Ledger, M: MergeOperator> Handle<P, L, M> {
         }
     }
 
-    // One step of the call in the slot, if it is this one.
-    fn step_of(&mut self, rt: &impl Wait, slot: Slot, tree: &Tree, call: &Call) -> Outcome
-        requires { IsOnKey call.now }
-        ensures made { self.new.made ≡ self.old.made ++ noted_of result tree.now call.now }
+    // Begins this call on a key, and makes its first step.
+    fn begin_on(&mut self, rt: &impl Wait, tree: &Tree, call: Call, jobs: Jobs) -> Stepped
+        requires copies { AreCopies tree.now call jobs }
+        requires key { IsOnKey call }
+        ensures made { AddsStepped tree.now call result self.old.made self.new.made }
         ensures number { self.new.number ≡ self.old.number }
     {
         let mut guard = self.lock.lock(rt);
-        let outcome = step_of(&mut *guard, &mut self.me, slot, tree, call);
+        let stepped = begin_on(&mut *guard, &mut self.me, tree, call, jobs);
         drop(guard);
-        outcome
+        stepped
     }
 
-    // Steps of the call in the slot until one does not go on. After each that does the gate is called.
-    fn steps(
-        &mut self,
-        rt: &impl Wait,
-        slot: Slot,
-        tree: &Tree,
-        call: &Call,
-        gate: &impl Gate,
-    ) -> Outcome
-        requires { IsOnKey call.now }
-        ensures made { self.new.made ≡ self.old.made ++ noted_of result tree.now call.now }
+    // One step of the call in the slot, if it is this one on a key.
+    fn step_on(&mut self, rt: &impl Wait, slot: Slot, jobs: Jobs) -> Stepped
+        requires second { jobs.1 ≡ jobs.0 }
+        requires key { IsOnKey jobs.0.call }
+        ensures made { AddsStepped jobs.0.tree jobs.0.call result self.old.made self.new.made }
+        ensures number { self.new.number ≡ self.old.number }
+    {
+        let mut guard = self.lock.lock(rt);
+        let stepped = step_on(&mut *guard, &mut self.me, slot, jobs);
+        drop(guard);
+        stepped
+    }
+
+    // Steps of the call in the slot until one does not go on. Before each the gate is called.
+    fn steps(&mut self, rt: &impl Wait, slot: Slot, jobs: Jobs, gate: &impl Gate) -> Outcome
+        requires second { jobs.1 ≡ jobs.0 }
+        requires key { IsOnKey jobs.0.call }
+        ensures made { self.new.made ≡ self.old.made ++ noted_of result jobs.0.tree jobs.0.call }
         ensures number { self.new.number ≡ self.old.number }
         ensures ends { IsEnd result }
     {
+        let mut left = jobs;
         for _ in rt.forever() {
-            match self.step_of(rt, slot, tree, call) {
-                end @ (Outcome::Decided(_) | Outcome::Refused(_) | Outcome::NoSuchSlot) =>
-                    return end,
-                // a call on a key comes to nothing else than `Moved`
-                other => {
-                    drop(other);
-                    gate.between();
-                }
+            gate.between();
+            match self.step_on(rt, slot, left) {
+                Stepped::Ended(outcome) => return outcome,
+                Stepped::On(_, same) => left = same,
             }
         }
         unreachable!()
@@ -280,23 +290,17 @@ impl<P: Pages, L: Ledger, M: MergeOperator> Handle<P, L, M> {
         ensures number { self.new.number ≡ self.old.number }
         ensures ends { IsEnd result }
     {
-        let again = match call.clone() {
-            Ok(again) => again,
+        let jobs = match copies_of(tree, &call) {
+            Ok(jobs) => jobs,
             Err(e) => {
                 drop(call);
                 return Outcome::Refused(e);
             }
         };
-        let slot = match self.begin(rt, tree, call) {
-            Ok(slot) => slot,
-            Err(e) => {
-                drop(again);
-                return Outcome::Refused(e);
-            }
-        };
-        let outcome = self.steps(rt, slot, tree, &again, gate);
-        drop(again);
-        outcome
+        match self.begin_on(rt, tree, call, jobs) {
+            Stepped::Ended(outcome) => outcome,
+            Stepped::On(slot, jobs) => self.steps(rt, slot, jobs, gate),
+        }
     }
 
     // The same without a gate, where there was memory to make the call.

@@ -3,8 +3,9 @@
 ghost use Rattle.std.specs.Prelude.{◌≡◌, ◌++◌, ◌∷◌, [], IfOk, OnErr};
 ghost use Rattle.sled_nodes.specs.Among.{bound_of};
 ghost use Rattle.sled_shared.specs.Made.{ReadMade};
-ghost use Rattle.sled_shared.specs.Reads.{IsAnswerTo, IsCount, IsFlag, IsPage, IsPair, IsValue};
+ghost use Rattle.sled_shared.specs.Reads.{IsAnswerTo, IsCount, IsFlag, IsPair, IsPart, IsValue};
 ghost use Rattle.sled_shared.specs.declared.read.Answer.TheVariants as told;
+ghost use Rattle.sled_shared.specs.theory.Orders.{IsPage};
 ghost use Rattle.sled_shared.specs.declared.read.Question.TheVariants as asks;
 ghost use Rattle.sled_shared.specs.declared.read.Read.TheVariants as read;
 
@@ -65,7 +66,7 @@ fn count_of(answer: Answer) -> usize
 }
 
 // The pairs that were told.
-fn pairs_of(answer: Answer) -> Pairs
+pub(crate) fn pairs_of(answer: Answer) -> Pairs
     requires { IsPage answer }
     ensures { answer ≡ told.Pairs result }
 {
@@ -291,6 +292,7 @@ impl<P: Pages, L: Ledger, M: MergeOperator> Handle<P, L, M> {
         back: bool,
         most: usize,
     ) -> Result<Pairs>
+        ensures part { IfOk result (IsPart (bound_of lo.entry) (bound_of hi.entry) back most) }
         ensures ok { IfOk result (λ it. self.new.made ≡ self.old.made ++ ReadMade (read.Tree tree.now (asks.Page (bound_of lo.entry) (bound_of hi.entry) back most) (told.Pairs it)) ∷ []) }
         ensures err { OnErr result (self.new.made ≡ self.old.made) }
         ensures number { self.new.number ≡ self.old.number }

@@ -238,8 +238,9 @@ impl<P: Pages, L: Ledger, M: MergeOperator> Handle<P, L, M> {
     ///
     /// ```
     /// let mut batches = Vec::new(alloc);
-    /// batches.push((tree, batch))?;
-    /// handle.apply_group(rt, batches)?;
+    /// if batches.push((tree, batch)).is_ok() {
+    ///     handle.apply_group(rt, batches)?;
+    /// }
     /// ```
     pub fn apply_group(&mut self, rt: &impl Wait, batches: Vec<(Tree, Batch)>) -> CallResult<()>
         ensures ok { OnOk result (self.new.made ≡ self.old.made ++ WholeMade (value.Group batches.items) (told.Done) ∷ []) }

@@ -14,8 +14,8 @@
 //! list is that of its caller's entries, and the history has no others. Where handles were lost `reclaim` takes the state without them.
 //! `share_again` shares such a state once more: its calls in flight stay in their slots, and its history and the numbers of its callers go on.
 //!
-//! A closure is run as a transaction in one step under the lock, over the pages as they are, and what it wrote is noted as a group
-//! (`specs/Transactions`).
+//! A closure is run as a transaction in one step under the lock, over the pages as they are. What it wrote is noted as one group, with what
+//! stood before at each key that it wrote (`specs/Transactions`).
 //!
 //! ```
 //! // For two callers: a ledger with a part for each, and one more. At `Err` the database is given back.
@@ -27,20 +27,25 @@
 mod again;
 mod answers;
 mod call_error;
+mod called;
 mod caller;
 mod compare;
 mod db;
 mod entry;
 mod fetches;
 mod gather;
+mod grouping;
 mod handle;
 mod handle_reads;
 mod handle_wholes;
 mod kept;
+mod lists;
 mod noting;
 mod pages;
+mod range_pages;
 mod read;
 mod reading;
+mod scans;
 mod state;
 mod state_reads;
 mod steps;
@@ -55,8 +60,11 @@ pub use db::Db;
 pub use entry::{Entry, Made};
 pub use handle::{Gate, Handle, NoGate};
 pub use lent_pages::Lent;
+pub use range_pages::RangePages;
 pub use read::{Answer, Question, Read};
+pub use scans::{ScanNote, Scanned};
 pub use state::State;
 pub use told::{Collections, Names, Pairs};
+pub use transactions::law_shows_inside;
 // an unopened ledger, which `Db::new` takes
 pub use std::sync::ledger::Blank;

@@ -1,26 +1,30 @@
 //! Steps that are noted, over the parts of a state.
-ghost use Rattle.std.specs.Prelude.{◌≡◌, ◌<◌, ◌+◌, ◌++◌, ◌∷◌, [], true, IfOk, IfSome, Some, vec_len, vec_capacity, length};
+ghost use Rattle.std.specs.Prelude.{◌≡◌, ◌<◌, ◌+◌, ◌++◌, ◌∷◌, [], true, IfOk, IfNone, IfSome, Some, vec_len, vec_capacity, length};
 ghost use Rattle.std.specs.Option.{option_map};
 ghost use Rattle.sled_calls.specs.Values.{slots_of, job_of_call};
 ghost use Rattle.sled_shared.specs.Made.{PointMade, made_value, made_values, entry_values};
-ghost use Rattle.sled_shared.specs.Notes.{entries_of, noted_in};
+ghost use Rattle.sled_shared.specs.theory.Copied.{AreCopies};
+ghost use Rattle.sled_shared.specs.Notes.{IsEnd, entries_of, noted_in};
 ghost use Rattle.sled_shared.specs.Steps.{SlotStep};
 ghost use Rattle.sled_shared.specs.theory.Noting.{first_noted, is_on_key_in, second_noted};
 
 use crate::entry::{Entry, Made};
 use crate::kept::{refuse_step, step, step_kept};
 use sled_calls::{Job, Machine};
-use sled_model::{MergeOperator, Outcome, Reply, Slot};
+use sled_model::{Call, MergeOperator, Outcome, Reply, Slot, Tree};
 use sled_nodes::Result;
 use sled_store::Pages;
 use std::sync::ledger::{Book, Ledger, Share};
 
-// The same job.
-pub(crate) fn copy_of(job: &Job) -> Result<Job>
-    ensures { IfOk result (λ copy. copy ≡ job.now) }
+// What a call is to do, twice: for the history and for the list of its caller.
+pub(crate) type Jobs = (Job, Job);
+
+// This call on this tree.
+fn job_of(tree: &Tree, call: &Call) -> Result<Job>
+    ensures { IfOk result (λ copy. copy ≡ record { tree = tree.now; call = call.now }) }
 {
-    let tree = job.tree.clone()?;
-    match job.call.clone() {
+    let tree = tree.clone()?;
+    match call.clone() {
         Ok(call) => Ok(Job { tree, call }),
         Err(e) => {
             drop(tree);
@@ -29,13 +33,19 @@ pub(crate) fn copy_of(job: &Job) -> Result<Job>
     }
 }
 
-// The same job, twice.
-fn copies_of(job: &Job) -> Result<(Job, Job)>
-    ensures first { IfOk result (λ both. both.0 ≡ job.now) }
-    ensures second { IfOk result (λ both. both.1 ≡ both.0) }
+// The same job.
+pub(crate) fn copy_of(job: &Job) -> Result<Job>
+    ensures { IfOk result (λ copy. copy ≡ job.now) }
 {
-    let first = copy_of(job)?;
-    match copy_of(job) {
+    job_of(&job.tree, &job.call)
+}
+
+// This call on this tree, twice.
+pub(crate) fn copies_of(tree: &Tree, call: &Call) -> Result<Jobs>
+    ensures { IfOk result (AreCopies tree.now call.now) }
+{
+    let first = job_of(tree, call)?;
+    match job_of(tree, call) {
         Ok(second) => Ok((first, second)),
         Err(e) => {
             drop(first);
@@ -70,7 +80,7 @@ fn room_and_jobs<P: Pages, M: MergeOperator>(
     history: &mut Vec<Entry>,
     made: &mut Vec<Made>,
     slot: Slot,
-) -> Option<(Job, Job)>
+) -> Option<Jobs>
     ensures first { IfSome result (λ both. option_map job_of_call (slots_of machine.now.flights slot) ≡ Some (both.0.tree, both.0.call)) }
     ensures second { IfSome result (λ both. both.1 ≡ both.0) }
     ensures history { history.new.items ≡ history.old.items }
@@ -82,13 +92,13 @@ fn room_and_jobs<P: Pages, M: MergeOperator>(
         return None;
     }
     match machine.job(slot) {
-        Some(job) => copies_of(job).ok(),
+        Some(job) => copies_of(&job.tree, &job.call).ok(),
         None => None,
     }
 }
 
 // A call on a key with its reply, twice.
-fn twice(jobs: (Job, Job), one: Reply, two: Reply) -> (Made, Made)
+fn twice(jobs: Jobs, one: Reply, two: Reply) -> (Made, Made)
     requires jobs { jobs.1 ≡ jobs.0 }
     requires replies { two ≡ one }
     ensures first { made_value result.0 ≡ PointMade jobs.0.tree jobs.0.call one }
@@ -101,26 +111,54 @@ fn twice(jobs: (Job, Job), one: Reply, two: Reply) -> (Made, Made)
     )
 }
 
-// A step of a call on a key, whose job comes twice; and what is to be noted of it, twice.
+// A step of a call on a key, whose job comes twice; what is to be noted of it, twice; and the jobs, where they are not noted.
+#[tactic(auto, using(crate::proofs::Copied::kept_ends))]
 fn step_of_jobs<P: Pages, M: MergeOperator>(
     machine: &mut Machine<P, M>,
     slot: Slot,
-    jobs: (Job, Job),
-) -> (Outcome, Option<(Made, Made)>)
+    jobs: Jobs,
+) -> (Outcome, Option<(Made, Made)>, Option<Jobs>)
     requires key { is_on_key_in (slots_of machine.old.flights slot) ≡ true }
     requires first { option_map job_of_call (slots_of machine.old.flights slot) ≡ Some (jobs.0.tree, jobs.0.call) }
     requires second { jobs.1 ≡ jobs.0 }
     ensures step { SlotStep P.store P.flush_number M.meant machine.old slot result.0 machine.new }
     ensures noted { first_noted result.1 ≡ noted_in result.0 (slots_of machine.old.flights slot) }
     ensures again { second_noted result.1 ≡ first_noted result.1 }
+    ensures left { IfSome result.2 (λ left. left ≡ jobs) }
+    ensures ended { IfNone result.2 (IsEnd result.0) }
 {
     let (outcome, kept) = step_kept(machine, slot);
     match kept {
-        None => {
-            drop(jobs);
-            (outcome, None)
-        }
-        Some((one, two)) => (outcome, Some(twice(jobs, one, two))),
+        None => (outcome, None, Some(jobs)),
+        Some((one, two)) => (outcome, Some(twice(jobs, one, two)), None),
+    }
+}
+
+// The same, with room for what is noted in both lists. Room is made before the step, and want of memory for it refuses it.
+pub(crate) fn step_noting_jobs<P: Pages, M: MergeOperator>(
+    machine: &mut Machine<P, M>,
+    history: &mut Vec<Entry>,
+    made: &mut Vec<Made>,
+    slot: Slot,
+    jobs: Jobs,
+) -> (Outcome, Option<(Made, Made)>, Option<Jobs>)
+    requires key { is_on_key_in (slots_of machine.old.flights slot) ≡ true }
+    requires first { option_map job_of_call (slots_of machine.old.flights slot) ≡ Some (jobs.0.tree, jobs.0.call) }
+    requires second { jobs.1 ≡ jobs.0 }
+    ensures step { SlotStep P.store P.flush_number M.meant machine.old slot result.0 machine.new }
+    ensures noted { first_noted result.1 ≡ noted_in result.0 (slots_of machine.old.flights slot) }
+    ensures again { second_noted result.1 ≡ first_noted result.1 }
+    ensures history { history.new.items ≡ history.old.items }
+    ensures made { made.new.items ≡ made.old.items }
+    ensures room { IfSome result.1 (λ both. vec_len history.new < vec_capacity history.new) }
+    ensures room_there { IfSome result.1 (λ both. vec_len made.new < vec_capacity made.new) }
+    ensures left { IfSome result.2 (λ left. left ≡ jobs) }
+    ensures ended { IfNone result.2 (IsEnd result.0) }
+{
+    if make_room(history, made) {
+        step_of_jobs(machine, slot, jobs)
+    } else {
+        (refuse_step(machine, slot), None, Some(jobs))
     }
 }
 
@@ -144,7 +182,11 @@ pub(crate) fn step_noting<P: Pages, M: MergeOperator>(
         return (step(machine, slot), None);
     }
     match room_and_jobs(machine, history, made, slot) {
-        Some(jobs) => step_of_jobs(machine, slot, jobs),
+        Some(jobs) => {
+            let (outcome, noted, left) = step_of_jobs(machine, slot, jobs);
+            drop(left);
+            (outcome, noted)
+        }
         None => (refuse_step(machine, slot), None),
     }
 }

@@ -77,7 +77,12 @@ fn copied_bound(bound: &Bound<IVec>) -> Result<Bound<IVec>>
 }
 
 // The page between copies of two bounds.
-fn copied_page(lo: &Bound<IVec>, hi: &Bound<IVec>, back: bool, most: usize) -> Result<Question>
+pub(crate) fn copied_page(
+    lo: &Bound<IVec>,
+    hi: &Bound<IVec>,
+    back: bool,
+    most: usize,
+) -> Result<Question>
     ensures ok { IfOk result (λ copy. copy ≡ question.Page lo.now hi.now back most) }
     ensures err { IfErr result (λ e. e ≡ NoMemory) }
 {

@@ -105,6 +105,7 @@ fn answer_now<P: Pages, M: MergeOperator>(
     ensures kind { IfOk result (IsAnswerTo question.now) }
     ensures now { IfOk result (λ answer. ReadsNow P.store machine.now (read.Tree tree.now question.now answer)) }
 {
+    machine.audit();
     answer_to(machine, tree, question)
 }
 

@@ -1,5 +1,6 @@
 //! What lies under the lock.
 use crate::entry::Entry;
+use crate::scans::Scans;
 use sled_calls::Machine;
 use sled_model::{Collection, MergeOperator};
 use sled_store::Pages;
@@ -8,7 +9,7 @@ use std::sync::Arc;
 use std::sync::ledger::{Book, Ledger, Share};
 
 /// A machine, the collections that its database had when it was shared, and what callers made since, in order. This history is legal, which
-/// `audit` tells.
+/// `audit` tells. Scans make no entry there; what they did is in a list of its own, where that was asked for.
 pub struct State<P: Pages, L: Ledger, M = Box<dyn MergeOperator + Send>> {
     pub(crate) machine: Machine<P, M>,
     // shared with the database, which compares at the end
@@ -16,6 +17,8 @@ pub struct State<P: Pages, L: Ledger, M = Box<dyn MergeOperator + Send>> {
     pub(crate) history: Vec<Entry>,
     // as many as the history has entries
     pub(crate) calls: Book<L>,
+    // what scans did meanwhile, where that is noted
+    pub(crate) scans: Scans,
 }
 
 impl<P: Pages, L: Ledger, M> Model for State<P, L, M> {
@@ -27,9 +30,12 @@ impl<P: Pages, L: Ledger, M> Model for State<P, L, M> {
     ghost use Rattle.sled_shared.specs.Made.{entry_values};
     ghost use Rattle.sled_shared.specs.Sound.{IsState};
 
-    ghost view = { λ s. record { machine = s.machine; opening = contents_of s.opening.value.items; history = entry_values s.history.items } };
+    ghost view = { λ s. record { machine = s.machine; opening = contents_of s.opening.value.items; history = entry_values s.history.items; scans = s.scans } };
 
-    ghost invariant = { λ s. IsState P.store s.machine (contents_of s.opening.value.items) (entry_values s.history.items) s.calls.total };
+    ghost use Rattle.std.specs.Prelude.{length};
+    ghost use Rattle.sled_shared.specs.Scans.{AreInOrder};
+
+    ghost invariant = { λ s. IsState P.store s.machine (contents_of s.opening.value.items) (entry_values s.history.items) s.calls.total × AreInOrder 0 s.scans.notes (length s.history.items) };
 }
 
 impl<P: Pages, L: Ledger, M: MergeOperator> State<P, L, M> {
@@ -64,10 +70,12 @@ impl<P: Pages, L: Ledger, M: MergeOperator> State<P, L, M> {
             opening,
             history,
             calls,
+            scans,
         } = self;
         drop(opening);
         drop(history);
         drop(calls);
+        drop(scans);
         machine
     }
 
@@ -87,6 +95,7 @@ impl<P: Pages, L: Ledger, M: MergeOperator> State<P, L, M> {
             opening,
             history,
             calls: before,
+            scans,
         } = self;
         drop(before);
         let mut calls = calls;
@@ -96,6 +105,7 @@ impl<P: Pages, L: Ledger, M: MergeOperator> State<P, L, M> {
             opening,
             history,
             calls,
+            scans,
         }
     }
 }
@@ -108,10 +118,12 @@ impl<P: Pages, L: Ledger, M: Drop> Drop for State<P, L, M> {
             opening,
             history,
             calls,
+            scans,
         } = self;
         drop(machine);
         drop(opening);
         drop(history);
         drop(calls);
+        drop(scans);
     }
 }

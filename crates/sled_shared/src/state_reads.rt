@@ -22,6 +22,8 @@ impl<P: Pages, L: Ledger, M: MergeOperator> State<P, L, M> {
         ensures ok { IfOk result (λ answer. me.new.made ≡ me.old.made ++ ReadMade (read.Tree tree.now question answer) ∷ []) }
         ensures err { OnErr result (me.new.made ≡ me.old.made) }
         ensures number { me.new.number ≡ me.old.number }
+        ensures machine { self.new.machine ≡ self.old.machine }
+        ensures scans { self.new.scans ≡ self.old.scans }
     {
         let Caller {
             number,
@@ -45,6 +47,8 @@ impl<P: Pages, L: Ledger, M: MergeOperator> State<P, L, M> {
         ensures ok { IfOk result (λ names. me.new.made ≡ me.old.made ++ ReadMade (read.Names names) ∷ []) }
         ensures err { OnErr result (me.new.made ≡ me.old.made) }
         ensures number { me.new.number ≡ me.old.number }
+        ensures machine { self.new.machine ≡ self.old.machine }
+        ensures scans { self.new.scans ≡ self.old.scans }
     {
         let Caller {
             number,
@@ -68,6 +72,8 @@ impl<P: Pages, L: Ledger, M: MergeOperator> State<P, L, M> {
         ensures ok { IfOk result (λ all. me.new.made ≡ me.old.made ++ ReadMade (read.Export all) ∷ []) }
         ensures err { OnErr result (me.new.made ≡ me.old.made) }
         ensures number { me.new.number ≡ me.old.number }
+        ensures machine { self.new.machine ≡ self.old.machine }
+        ensures scans { self.new.scans ≡ self.old.scans }
     {
         let Caller {
             number,

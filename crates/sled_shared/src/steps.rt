@@ -1,18 +1,19 @@
 //! What callers do to a state.
-ghost use Rattle.std.specs.Prelude.{◌≡◌, true, ◌++◌, Some, IfOk, IfErr, OnErr};
+ghost use Rattle.std.specs.Prelude.{◌≡◌, true, ◌++◌, Some, IfOk, IfErr, OnErr, length};
 ghost use Rattle.std.specs.Option.{option_map};
 ghost use Rattle.sled_model.specs.Collections.{contents_of};
-ghost use Rattle.sled_model.specs.State.{IsOnKey};
 ghost use Rattle.sled_model.specs.declared.outcome.Step.TheVariants as step;
 ghost use Rattle.sled_model.specs.declared.outcome.Outcome.TheVariants as outcome;
 ghost use Rattle.sled_calls.specs.Step.{MachineStepContract};
 ghost use Rattle.sled_calls.specs.Values.{slots_of, job_of_call};
 ghost use Rattle.sled_shared.specs.Fetches.{Fetches};
 ghost use Rattle.sled_shared.specs.Made.{entry_values};
-ghost use Rattle.sled_shared.specs.Notes.{AddsStep, IsGivenUp, entries_of, noted_in, noted_of};
+ghost use Rattle.sled_shared.specs.Notes.{AddsStep, IsGivenUp, entries_of, noted_in};
 ghost use Rattle.sled_shared.specs.Replies.{RepliesTo};
+ghost use Rattle.sled_shared.specs.Scans.{AreInOrder, NotesScan, begun_of, noted_at, scanned_of};
 ghost use Rattle.sled_shared.specs.Sound.{HasCrashMaps, HasHistory, HasLegalHistory, HasRisingIds};
 ghost use Rattle.sled_shared.specs.Steps.{SlotStep};
+ghost use Rattle.sled_shared.specs.theory.Fetching.{StaysStill, SwapsNow};
 ghost use Rattle.sled_shared.specs.theory.Noting.{job_pair};
 ghost use Rattle.sled_shared.specs.WholeNotes.{AddsWhole, NotesWhole};
 
@@ -20,6 +21,7 @@ use crate::caller::Caller;
 use crate::entry::Entry;
 use crate::fetches::fetch_noting;
 use crate::noting::{note_and_count, step_noting};
+use crate::scans::ScanNote;
 use crate::state::State;
 use crate::wholes::whole_noting;
 use sled_calls::{Job, Machine};
@@ -29,30 +31,30 @@ use sled_store::Pages;
 use std::alloc::AllocError;
 use std::sync::ledger::Ledger;
 
-// Whether the job is this call.
-fn is_job(job: &Job, tree: &Tree, call: &Call) -> bool
-    ensures { result ≡ true → (job.now.tree ≡ tree.now) × (job.now.call ≡ call.now) }
+// Whether the jobs are the same.
+fn is_job(job: &Job, other: &Job) -> bool
+    ensures { result ≡ true → (job.now.tree ≡ other.now.tree) × (job.now.call ≡ other.now.call) }
 {
-    job.tree == *tree && job.call == *call
+    job.tree == other.tree && job.call == other.call
 }
 
 // Whether the slot has this call.
-fn has_job<P: Pages, M: MergeOperator>(
+pub(crate) fn has_job<P: Pages, M: MergeOperator>(
     machine: &Machine<P, M>,
     slot: Slot,
-    tree: &Tree,
-    call: &Call,
+    wanted: &Job,
 ) -> bool
-    ensures { result ≡ true → option_map job_of_call (slots_of machine.now.flights slot) ≡ Some (job_pair tree.now call.now) }
+    ensures { result ≡ true → option_map job_of_call (slots_of machine.now.flights slot) ≡ Some (job_pair wanted.now.tree wanted.now.call) }
 {
     match machine.job(slot) {
-        Some(job) => is_job(job, tree, call),
+        Some(job) => is_job(job, wanted),
         None => false,
     }
 }
 
 impl<P: Pages, L: Ledger, M: MergeOperator> State<P, L, M> {
-    /// Begins a call on a tree, as `begin` of the machine does. Nothing is noted.
+    /// Begins a call on a tree, as `begin` of the machine does. Nothing comes to the history. That a scan begins is noted where scans are
+    /// ([`State::scans`]).
     ///
     /// ```
     /// let slot = state.begin(&tree, Call::get(alloc, b"ulm")?)?;
@@ -62,13 +64,20 @@ impl<P: Pages, L: Ledger, M: MergeOperator> State<P, L, M> {
         ensures err { IfErr result (λ e. MachineStepContract P.store P.flush_number M.meant self.old.machine (step.Begin tree.now call) (outcome.Refused e) self.new.machine) }
         ensures history { self.new.history ≡ self.old.history }
         ensures opening { self.new.opening ≡ self.old.opening }
+        ensures scans { IfOk result (λ slot. NotesScan self.old.scans (noted_at slot (length self.old.history) (begun_of tree.now call)) self.new.scans) }
+        ensures same_scans { OnErr result (self.new.scans ≡ self.old.scans) }
     {
-        self.machine.begin(tree, call)
+        let did = self.scans.begun(tree, &call);
+        let begun = self.machine.begin(tree, call);
+        self.scans
+            .note_begun(self.history.len() as u64, &begun, did);
+        begun
     }
 
     /// One step of the call in the slot, as `step` of the machine does it. A call on a key that is decided is noted as this caller's:
-    /// the history and the caller's list are longer by it and its reply. A scan is never noted. Room and copies are made before the
-    /// step: where there is no memory for them the call is refused with `NoMemory`, and its slot is gone.
+    /// the history and the caller's list are longer by it and its reply. A scan never comes there; what it does is noted where scans are
+    /// ([`State::scans`]). Room and copies are made before the step: where there is no memory for them the call is refused with
+    /// `NoMemory`, and its slot is gone.
     ///
     /// A handle does this under the lock, with its own caller.
     ///
@@ -81,7 +90,9 @@ impl<P: Pages, L: Ledger, M: MergeOperator> State<P, L, M> {
         ensures made { me.new.made ≡ me.old.made ++ noted_in result (slots_of self.old.machine.flights slot) }
         ensures number { me.new.number ≡ me.old.number }
         ensures opening { self.new.opening ≡ self.old.opening }
+        ensures scans { NotesScan self.old.scans (noted_at slot (length self.old.history) (scanned_of result)) self.new.scans }
     {
+        let at = self.history.len() as u64;
         let Caller {
             number,
             made,
@@ -96,10 +107,11 @@ impl<P: Pages, L: Ledger, M: MergeOperator> State<P, L, M> {
             share,
             noted,
         );
+        self.scans.note_step(slot, at, &outcome);
         outcome
     }
 
-    /// Gives the call in the slot up, as `abandon` of the machine does. Nothing is noted.
+    /// Gives the call in the slot up, as `abandon` of the machine does. Nothing is noted, of a scan either.
     ///
     /// ```
     /// let outcome = state.abandon(slot); // `Abandoned`, or `NoSuchSlot`.
@@ -108,6 +120,7 @@ impl<P: Pages, L: Ledger, M: MergeOperator> State<P, L, M> {
         ensures step { MachineStepContract P.store P.flush_number M.meant self.old.machine (step.Abandon slot) result self.new.machine }
         ensures history { self.new.history ≡ self.old.history }
         ensures opening { self.new.opening ≡ self.old.opening }
+        ensures scans { self.new.scans ≡ self.old.scans }
     {
         self.machine.abandon(slot)
     }
@@ -126,6 +139,7 @@ impl<P: Pages, L: Ledger, M: MergeOperator> State<P, L, M> {
         ensures whole { NotesWhole P.store P.flush_number M.meant self.old.machine self.old.history me.old.number me.old.made whole result self.new.machine self.new.history me.new.made }
         ensures number { me.new.number ≡ me.old.number }
         ensures opening { self.new.opening ≡ self.old.opening }
+        ensures scans { self.new.scans ≡ self.old.scans }
     {
         let Caller {
             number,
@@ -159,6 +173,10 @@ impl<P: Pages, L: Ledger, M: MergeOperator> State<P, L, M> {
         ensures ok { IfOk result (λ both. Fetches F.FnMut f tree.now key.now both.0 both.1 me.old.made me.new.made) }
         ensures err { OnErr result (me.new.made ≡ me.old.made) }
         ensures number { me.new.number ≡ me.old.number }
+        ensures swaps { IfOk result (λ both. SwapsNow P.store M.meant self.old.machine tree.now key.now both.0 both.1 self.new.machine) }
+        ensures still { OnErr result (StaysStill P.store M.meant self.old.machine self.new.machine) }
+        ensures same { self.new.machine ≡ record (self.old.machine) { db = self.new.machine.db } }
+        ensures scans { self.new.scans ≡ self.old.scans }
     {
         let Caller {
             number,
@@ -210,6 +228,32 @@ impl<P: Pages, L: Ledger, M: MergeOperator> State<P, L, M> {
         self.history.as_slice()
     }
 
+    /// What scans did, in the order of their steps, each with its slot and the length of the history then: they began, gave a pair, or ended.
+    /// Those lengths never fall. It is empty where the database was shared by `new`; by `new_noting_scans` it has all that scans did since, as
+    /// long as `keeps_scans` is true.
+    ///
+    /// ```
+    /// let gave = state.scans().len();
+    /// ```
+    pub fn scans(&self) -> &[ScanNote]
+        ensures notes { result.now ≡ self.now.scans.notes }
+        ensures order { AreInOrder 0 result.now (length self.now.history) }
+    {
+        self.scans.notes.as_slice()
+    }
+
+    /// Whether what scans do is noted. It is where the database was shared by `new_noting_scans`, until there is no memory for a note: from
+    /// there on none is made.
+    ///
+    /// ```
+    /// let is_whole = state.keeps_scans(); // No note is missing at the end.
+    /// ```
+    pub fn keeps_scans(&self) -> bool
+        ensures { result ≡ self.now.scans.keeps }
+    {
+        self.scans.keeps
+    }
+
     /// What holds of every state: the history is legal. From the opening on each entry's call replied and wrote what it would have, made alone
     /// at its place, and while the database is open the maps after the last entry are the maps now. What a crash may leave are the maps after
     /// each entry and part of it, from its last flush on. The ids in it rise, and none is above the greatest that the database gave. It does
@@ -258,25 +302,6 @@ pub(crate) fn step_adding<P: Pages, L: Ledger, M: MergeOperator>(
     match held {
         None => Outcome::Refused(Error::Closed),
         Some(state) => state.step(me, slot),
-    }
-}
-
-// The same, if the slot has this call on a key. Without the call in it no step is made, and there is no such slot for the caller.
-pub(crate) fn step_of<P: Pages, L: Ledger, M: MergeOperator>(
-    held: &mut Option<State<P, L, M>>,
-    me: &mut Caller<L>,
-    slot: Slot,
-    tree: &Tree,
-    call: &Call,
-) -> Outcome
-    requires { IsOnKey call.now }
-    ensures made { me.new.made ≡ me.old.made ++ noted_of result tree.now call.now }
-    ensures number { me.new.number ≡ me.old.number }
-{
-    match held {
-        None => Outcome::Refused(Error::Closed),
-        Some(state) if has_job(&state.machine, slot, tree, call) => state.step(me, slot),
-        Some(_) => Outcome::NoSuchSlot,
     }
 }
 

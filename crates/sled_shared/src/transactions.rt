@@ -1,19 +1,21 @@
 //! Transactions by a caller: a closure is run over the pages as they are, and what it wrote is made as a group, which is noted.
-ghost use Rattle.std.specs.Prelude.{◌≡◌, ◌∷◌, [], IfOk, OnOk, OnErr};
+ghost use Rattle.std.specs.Prelude.{◌≡◌, ◌∷◌, [], true, IfOk, OnOk, OnErr};
 ghost use Rattle.sled_store.specs.Store.{now};
 ghost use Rattle.sled_model.specs.Refusal.{must_refuse_of};
+ghost use Rattle.sled_model.specs.State.{maps_of};
 ghost use Rattle.sled.specs.Values.{db_state};
-ghost use Rattle.sled_shared.specs.Transactions.{AddsTransaction, RunsIn, RunsOnce, batches_of_tree, group_made, notes_ended};
-ghost use Rattle.sled_shared.specs.theory.Transacting.{CommitNotedBy, CommitStopped, FlushNotedBy, NotedBy, TransactionNotedBy, is_decided, is_undecided, ran_as};
+ghost use Rattle.sled_shared.specs.Transactions.{AddsTransaction, RunsIn, RunsOnce, ShowsInsideAtLaw, ShowsInsideLaw, batches_of_tree, transaction_made};
+ghost use Rattle.sled_shared.specs.theory.Transacting.{AddsCommit, AddsFlush, StopsCommit, ran_as};
 
 use crate::caller::Caller;
+use crate::grouping::decided;
 use crate::handle::Handle;
 use crate::state::State;
 use lent_pages::{Lent, run_on};
 use sled::{TransactionAnswer, TransactionError, TransactionResult, TransactionalTree};
 use sled_batch::Batch;
 use sled_calls::Machine;
-use sled_model::{MergeOperator, Outcome, Tree, Whole};
+use sled_model::{MergeOperator, Tree, Whole};
 use sled_nodes::{Error, Pid, Result};
 use sled_store::Pages;
 use std::alloc::Global;
@@ -23,7 +25,10 @@ use tree_transactions::Commit;
 
 // The root of a tree that passes the tests.
 #[tactic(auto, using(sled::proofs::Reading::no_root))]
-fn root_of<P: Pages, M: MergeOperator>(machine: &Machine<P, M>, tree: &Tree) -> Result<Pid>
+pub(crate) fn root_of<P: Pages, M: MergeOperator>(
+    machine: &Machine<P, M>,
+    tree: &Tree,
+) -> Result<Pid>
     ensures tested { OnOk result (must_refuse_of (db_state P.store M.meant machine.now.db) (tree.now ∷ []) ≡ None) }
     ensures is { IfOk result (λ root. (now (P.store machine.now.db.pages)).roots tree.now.name ≡ Some root) }
 {
@@ -79,85 +84,56 @@ fn group_of(alloc: Global, tree: &Tree, writes: Batch) -> Result<Vec<(Tree, Batc
     }
 }
 
-// Whether a whole call was decided.
-fn decided(outcome: Outcome) -> Result<()>
-    ensures ok { OnOk result (is_decided outcome) }
-    ensures err { OnErr result (is_undecided outcome) }
-{
-    match outcome {
-        Outcome::Decided(reply) => {
-            drop(reply);
-            Ok(())
-        }
-        Outcome::Refused(e) => Err(e),
-        // no whole call comes to anything else
-        other => {
-            drop(other);
-            Err(Error::Closed)
-        }
-    }
-}
-
-// Makes a group, and notes it.
-fn make_batches<P: Pages, L: Ledger, M: MergeOperator>(
-    state: &mut State<P, L, M>,
-    me: &mut Caller<L>,
-    group: Vec<(Tree, Batch)>,
-) -> Result<()>
-    ensures ok { OnOk result (NotedBy state.old me.old (group_made group.items ∷ []) state.new me.new) }
-    ensures err { OnErr result (NotedBy state.old me.old [] state.new me.new) }
-{
-    let outcome = state.whole(me, Whole::Group(group));
-    decided(outcome)
-}
-
-// Makes what was written of a tree as a group, and notes it.
-fn make_group<P: Pages, L: Ledger, M: MergeOperator>(
-    state: &mut State<P, L, M>,
-    me: &mut Caller<L>,
-    tree: &Tree,
-    writes: Batch,
-) -> Result<()>
-    ensures ok { OnOk result (NotedBy state.old me.old (group_made (batches_of_tree tree.now writes) ∷ []) state.new me.new) }
-    ensures err { OnErr result (NotedBy state.old me.old [] state.new me.new) }
-{
-    let alloc = state.machine.db().allocator();
-    match group_of(alloc, tree, writes) {
-        Ok(group) => make_batches(state, me, group),
-        Err(e) => Err(e),
-    }
-}
-
 // Makes all durable, and notes it.
 fn make_flush<P: Pages, L: Ledger, M: MergeOperator>(
     state: &mut State<P, L, M>,
     me: &mut Caller<L>,
 ) -> Result<()>
-    ensures ok { OnOk result (FlushNotedBy state.old me.old state.new me.new) }
-    ensures err { OnErr result (NotedBy state.old me.old [] state.new me.new) }
+    ensures ok { OnOk result (AddsFlush me.old.made me.new.made) }
+    ensures err { OnErr result (me.new.made ≡ me.old.made) }
+    ensures number { me.new.number ≡ me.old.number }
 {
     let outcome = state.whole(me, Whole::Flush);
     decided(outcome)
 }
 
-// Makes what was written of a tree, and then all durable where that is asked for.
-fn commit<P: Pages, L: Ledger, M: MergeOperator>(
+// Makes a group that a transaction wrote, and then all durable where that is asked for.
+pub(crate) fn commit<P: Pages, L: Ledger, M: MergeOperator>(
     state: &mut State<P, L, M>,
     me: &mut Caller<L>,
-    tree: &Tree,
-    writes: Batch,
+    group: Vec<(Tree, Batch)>,
     flushes: bool,
 ) -> Result<()>
-    ensures ok { OnOk result (CommitNotedBy state.old me.old (group_made (batches_of_tree tree.now writes)) flushes state.new me.new) }
-    ensures err { OnErr result (CommitStopped state.old me.old (group_made (batches_of_tree tree.now writes)) flushes state.new me.new) }
+    ensures ok { OnOk result (AddsCommit (transaction_made (maps_of (db_state P.store M.meant state.old.machine.db)) group.items) flushes me.old.made me.new.made) }
+    ensures err { OnErr result (StopsCommit (transaction_made (maps_of (db_state P.store M.meant state.old.machine.db)) group.items) flushes me.old.made me.new.made) }
+    ensures number { me.new.number ≡ me.old.number }
 {
-    if let Err(e) = make_group(state, me, tree, writes) {
+    if let Err(e) = state.make(me, group) {
         return Err(e);
     }
     if !flushes {
         return Ok(());
     }
     make_flush(state, me)
+}
+
+// The same of what was written of a tree.
+fn commit_tree<P: Pages, L: Ledger, M: MergeOperator>(
+    state: &mut State<P, L, M>,
+    me: &mut Caller<L>,
+    tree: &Tree,
+    writes: Batch,
+    flushes: bool,
+) -> Result<()>
+    ensures ok { OnOk result (AddsCommit (transaction_made (maps_of (db_state P.store M.meant state.old.machine.db)) (batches_of_tree tree.now writes)) flushes me.old.made me.new.made) }
+    ensures err { OnErr result (StopsCommit (transaction_made (maps_of (db_state P.store M.meant state.old.machine.db)) (batches_of_tree tree.now writes)) flushes me.old.made me.new.made) }
+    ensures number { me.new.number ≡ me.old.number }
+{
+    let alloc = state.machine.db().allocator();
+    match group_of(alloc, tree, writes) {
+        Ok(group) => commit(state, me, group, flushes),
+        Err(e) => Err(e),
+    }
 }
 
 // A transaction of a tree: its closure is run, and what that wrote is made and noted.
@@ -173,7 +149,8 @@ fn transact<
 where
     F: Fn(&mut TransactionalTree<'_, Lent<'_, P>>) -> R,
     requires { (shown : _) → F.pre f shown }
-    ensures { TransactionNotedBy (notes_ended (RunsIn P.store M.meant F.Fn R.result_of f tree.now state.old.machine.db) (batches_of_tree tree.now)) state.old me.old result state.new me.new }
+    ensures made { AddsTransaction (RunsOnce P.store M.meant F.Fn R.result_of f tree.now) (batches_of_tree tree.now) true result me.old.made me.new.made }
+    ensures number { me.new.number ≡ me.old.number }
 {
     let ended = run(&state.machine, tree, f);
     match ended {
@@ -183,7 +160,7 @@ where
                 writes,
                 flushes,
             },
-        ) => match commit(state, me, tree, writes, flushes) {
+        ) => match commit_tree(state, me, tree, writes, flushes) {
             Ok(()) => Ok(answer),
             Err(e) => {
                 drop(answer);
@@ -212,7 +189,7 @@ fn transact_in<
 where
     F: Fn(&mut TransactionalTree<'_, Lent<'_, P>>) -> R,
     requires { (shown : _) → F.pre f shown }
-    ensures made { AddsTransaction (RunsOnce P.store M.meant F.Fn R.result_of f tree.now) (batches_of_tree tree.now) result me.old.made me.new.made }
+    ensures made { AddsTransaction (RunsOnce P.store M.meant F.Fn R.result_of f tree.now) (batches_of_tree tree.now) true result me.old.made me.new.made }
     ensures number { me.new.number ≡ me.old.number }
 {
     match held {
@@ -222,9 +199,12 @@ where
 }
 
 impl<P: Pages + Sync, L: Ledger, M: MergeOperator> Handle<P, L, M> {
-    /// Runs a closure as a transaction of a tree: all that it writes is made, or nothing, in one step under the lock, so nobody writes between
-    /// what it read and what it wrote. What it wrote comes to the end of this caller's list as a group, also where that is empty, and behind
-    /// it a flush where it asked for one; of a transaction that is given up or refused nothing does, but the group where its flush was refused.
+    /// Runs a closure as a transaction of a tree: all that it writes is made, or nothing. It is one step under the lock, so nobody writes
+    /// between what it read and what it wrote. What it wrote comes to the end of this caller's list, also where that is nothing, with what
+    /// stood before at each key that it wrote.
+    ///
+    /// Behind it comes the flush that the closure asked for. Of a transaction that is given up or refused nothing comes to the list; but where
+    /// the flush is refused what it wrote stands, and is there.
     ///
     /// The closure ends as one of `transaction` of the database does, and is run again while it ends by `Conflict`. It is called while the lock
     /// is held: it must make no call on this database. No ids are set aside for it, so `generate_id` inside is refused: take ids before.
@@ -249,7 +229,7 @@ impl<P: Pages + Sync, L: Ledger, M: MergeOperator> Handle<P, L, M> {
     where
         F: Fn(&mut TransactionalTree<'_, Lent<'_, P>>) -> R,
         requires { (shown : _) → F.pre f shown }
-        ensures made { AddsTransaction (RunsOnce P.store M.meant F.Fn R.result_of f tree.now) (batches_of_tree tree.now) (R.answer_of result) self.old.made self.new.made }
+        ensures made { AddsTransaction (RunsOnce P.store M.meant F.Fn R.result_of f tree.now) (batches_of_tree tree.now) true (R.answer_of result) self.old.made self.new.made }
         ensures number { self.new.number ≡ self.old.number }
     {
         let mut guard = self.lock.lock(rt);
@@ -258,3 +238,14 @@ impl<P: Pages + Sync, L: Ledger, M: MergeOperator> Handle<P, L, M> {
         R::ended(ended)
     }
 }
+
+/// What a read shows inside a transaction by a handle, told over the maps: the transaction's own write of the key, and where there is none the
+/// value in the map of the tree. It does nothing.
+///
+/// ```
+/// law_shows_inside::<MemPages, Box<dyn MergeOperator + Send>>(); // From here on a proof knows what reads inside show.
+/// ```
+pub fn law_shows_inside<P: Pages, M: MergeOperator>()
+    ensures tree { ShowsInsideLaw P.store M.meant }
+    ensures list { ShowsInsideAtLaw P.store M.meant }
+{}

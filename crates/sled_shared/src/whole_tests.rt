@@ -10,7 +10,7 @@ use sled_model::{MergeOperator, Tree, Whole};
 use sled_store::Pages;
 
 // Whether the database is open.
-fn is_open<P: Pages, M: MergeOperator>(machine: &Machine<P, M>) -> bool
+pub(crate) fn is_open<P: Pages, M: MergeOperator>(machine: &Machine<P, M>) -> bool
     ensures { result ≡ (db_state P.store M.meant machine.now.db).is_open }
 {
     !machine.db().pages().in_group()

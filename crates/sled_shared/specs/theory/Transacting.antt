@@ -1,14 +1,22 @@
 -- Of Transactions, for proofs. What is noted of each part of a transaction.
 use Rattle.std.specs.Prelude.{◌≡◌, ◌⊎◌, ℕ, Bool, true, List, [], ◌∷◌, ◌++◌, Result, Ok, Err}
+use Rattle.std.specs.Global.{Vec}
+use Rattle.sled_batch.specs.Batch.{Writes}
+use Rattle.sled_store.specs.Store.{Store}
+use Rattle.sled_model.specs.Maps.{Merge}
+use Rattle.sled_model.specs.declared.call.Whole.TheVariants.{Group}
 use Rattle.sled_model.specs.declared.outcome.Outcome.{Outcome}
 use Rattle.sled_model.specs.declared.outcome.Outcome.TheVariants.{Decided}
+use Rattle.sled_model.specs.declared.outcome.Step.TheVariants as step
+use Rattle.sled_model.specs.declared.reply.Reply.{Reply}
+use Rattle.sled_model.specs.declared.reply.Reply.TheVariants.{Number}
+use Rattle.sled_model.specs.declared.tree.Tree.{Tree}
 use Rattle.tree_transactions.specs.declared.errors.TransactionError.{TransactionError}
 use Rattle.tree_transactions.specs.declared.errors.TransactionError.TheVariants.{Abort, Storage}
-use Rattle.sled_model.specs.declared.reply.Reply.TheVariants.{Number}
+use Rattle.sled_calls.specs.Step.{MachineStepContract}
+use Rattle.sled_calls.specs.Values.{MachineValue}
 use Rattle.sled_shared.specs.Made.{MadeValue, WholeMade}
-use Rattle.sled_shared.specs.Notes.{entries_of}
 use Rattle.sled_shared.specs.Transactions.{flush_noted}
-use Rattle.sled_shared.specs.Values.{CallerValue, StateValue}
 use Rattle.sled_shared.specs.Wholes as value
 
 -- a whole call was decided, or it was not
@@ -26,30 +34,32 @@ ran_as reaches (Ok commit) = reaches (Ok commit)
 ran_as reaches (Err (Abort e)) = reaches (Err (Abort e))
 ran_as reaches (Err (Storage e)) = Unit {0}
 
-module _ {P M : Type 0} (old : StateValue P M) (caller : CallerValue) where
-  -- this was noted as the caller's, in the history and in its own list
-  pub record NotedBy (noted : List MadeValue) (new : StateValue P M) (after : CallerValue) : Type 0 where
-    pub history : new.history ≡ old.history ++ entries_of caller.number noted
-    pub made : after.made ≡ caller.made ++ noted
-    pub number : after.number ≡ caller.number
-    pub opening : new.opening ≡ old.opening
+module _ {P M : Type 0} (store : P → Store) (flush_number : P → ℕ) (meant : M → Merge) (old : MachineValue P M) (group : Vec (Tree × Writes)) (new : MachineValue P M) where
+  -- a group was made
+  pub record GroupMade : Type 0 where
+    pub reply : Reply
+    pub step : MachineStepContract store flush_number meant old (step.Whole (Group group)) (Decided reply) new
 
-  -- a flush was, with its number
-  abbrev pub FlushNotedBy : StateValue P M → CallerValue → Type 0
-  FlushNotedBy new after = (number : ℕ) × NotedBy (WholeMade value.Flush (Number number) ∷ []) new after
+  -- .. or it was refused
+  pub record GroupRefused : Type 0 where
+    pub outcome : Outcome
+    pub undecided : is_undecided outcome
+    pub step : MachineStepContract store flush_number meant old (step.Whole (Group group)) outcome new
 
-  -- what was written was made, and a flush behind it where one was asked for
-  pub record CommitNotedBy (group : MadeValue) (flushes : Bool) (new : StateValue P M) (after : CallerValue) : Type 0 where
-    pub flush : List MadeValue
-    pub flushed : flush_noted flushes flush
-    pub noted : NotedBy (group ∷ flush) new after
+  -- .. or it was not tried
+  abbrev pub GroupUnmade : Type 0
+  GroupUnmade = (new ≡ old) ⊎ GroupRefused
 
-  -- .. or nothing was made, or only the flush was refused
-  abbrev pub CommitStopped : MadeValue → Bool → StateValue P M → CallerValue → Type 0
-  CommitStopped group flushes new after = NotedBy [] new after ⊎ ((flushes ≡ true) × NotedBy (group ∷ []) new after)
+-- a flush came to a list, with its number
+abbrev pub AddsFlush : List MadeValue → List MadeValue → Type 0
+AddsFlush made more = (number : ℕ) × (more ≡ made ++ WholeMade value.Flush (Number number) ∷ [])
 
--- a transaction ended so, and this was noted of it
-pub record TransactionNotedBy {P M A E : Type 0} (notes : Result A (TransactionError E) → List MadeValue → Type 0) (old : StateValue P M) (caller : CallerValue) (ended : Result A (TransactionError E)) (new : StateValue P M) (after : CallerValue) : Type 0 where
-  pub noted : List MadeValue
-  pub notes_are : notes ended noted
-  pub by : NotedBy old caller noted new after
+-- what was written came to a list, and a flush behind it where one was asked for
+pub record AddsCommit (group : MadeValue) (flushes : Bool) (made more : List MadeValue) : Type 0 where
+  pub flush : List MadeValue
+  pub flushed : flush_noted flushes flush
+  pub adds : more ≡ made ++ group ∷ flush
+
+-- .. or nothing did, or only the flush was refused
+pub record StopsCommit (group : MadeValue) (flushes : Bool) (made more : List MadeValue) : Type 0 where
+  pub is : (more ≡ made) ⊎ ((flushes ≡ true) × (more ≡ made ++ group ∷ []))

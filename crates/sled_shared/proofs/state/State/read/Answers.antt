@@ -5,12 +5,16 @@ use Rattle.sled_shared.specs.Made.{entry_value, entry_values}
 use Rattle.sled_shared.specs.Notes.{entries_of}
 use Rattle.sled_shared.specs.theory.Noting.{first_noted}
 use Rattle.sled_shared.proofs.ReadMakes.{read_state}
+use Rattle.sled_shared.proofs.Scanning.{longer_in_order}
 use Rattle.sled_shared.proofs.state.State.read.Goals as goal
 
 pub invariant_of-self : goal.invariant_of-self
 invariant_of-self g c =
-    read_state g.P.Pages.store g.P.Pages.flush_number g.M.MergeOperator.meant c.self.inside.machine (contents_of c.self.inside.opening.value.items)
-    (entry_values c.self.inside.history.items) (entry_values c.note_and_count.new.history.items) c.self.inside.calls.total c.note_and_count.new.calls.total c.self.invariant
-    (length-map c.note_and_count.new.history.items entry_value ∙ c.note_and_count.ensures.counted)
-    c.me.inside.number (first_noted c.answer_noting-answer.result.1) c.answer_noting-answer.ensures.notes
-    (c.note_and_count.ensures.history ∙ ap (λ es. entry_values es ++ entries_of c.me.inside.number (first_noted c.answer_noting-answer.result.1)) c.answer_noting-answer.ensures.history)
+    let longer = c.note_and_count.ensures.history ∙ ap (λ es. entry_values es ++ entries_of c.me.inside.number (first_noted c.answer_noting-answer.result.1)) c.answer_noting-answer.ensures.history in (
+      read_state g.P.Pages.store g.P.Pages.flush_number g.M.MergeOperator.meant c.self.inside.machine (contents_of c.self.inside.opening.value.items)
+          (entry_values c.self.inside.history.items) (entry_values c.note_and_count.new.history.items) c.self.inside.calls.total c.note_and_count.new.calls.total c.self.invariant.0
+          (length-map c.note_and_count.new.history.items entry_value ∙ c.note_and_count.ensures.counted)
+          c.me.inside.number (first_noted c.answer_noting-answer.result.1) c.answer_noting-answer.ensures.notes
+          longer,
+      longer_in_order c.self.inside.scans.notes c.self.inside.history.items c.note_and_count.new.history.items _ longer c.self.invariant.1,
+    )

@@ -2,12 +2,14 @@ use Rattle.std.proofs.Common.{◌∙◌, ◌++◌, ap, subst}
 use Rattle.std.proofs.lemmas.List.{length-map}
 use Rattle.sled_shared.specs.Made.{entry_value, entry_values, made_values}
 use Rattle.sled_shared.specs.Notes.{entries_of}
+use Rattle.sled_shared.specs.Sound.{IsState}
 use Rattle.sled_shared.specs.Values.{CallerValue, StateValue}
 use Rattle.sled_shared.specs.WholeNotes.{NotesWhole}
 use Rattle.sled_shared.specs.theory.Noting.{first_noted}
 use Rattle.sled_model.specs.Collections.{contents_of}
 use Rattle.sled_shared.proofs.Ids.{whole_risen}
 use Rattle.sled_shared.proofs.Leading.{whole_leaves, legal_of, leads_of}
+use Rattle.sled_shared.proofs.Scanning.{longer_in_order}
 use Rattle.sled_shared.proofs.state.State.whole.Goals as goal
 
 pub returns-clause-whole : goal.returns-clause-whole
@@ -29,11 +31,14 @@ invariant_of-self g c =
       adds = c.note_and_count.ensures.history ∙ ap (λ es. entry_values es ++ entries_of c.me.inside.number (first_noted c.whole_noting-outcome.result.1)) c.whole_noting-outcome.ensures.history;
       adds_there = c.note_and_count.ensures.made ∙ ap (λ ms. made_values ms ++ first_noted c.whole_noting-outcome.result.1) c.whole_noting-outcome.ensures.made;
     } in
-    let crashes = (whole_leaves g.P.Pages.store g.P.Pages.flush_number g.M.MergeOperator.meant c.self.inside.machine c.whole_noting-outcome.new.machine (contents_of c.self.inside.opening.value.items) (entry_values c.self.inside.history.items) c.self.invariant.crashes c.me.inside.number _ _ _ _ _ notes).0 in
-    record {
+    let crashes = (whole_leaves g.P.Pages.store g.P.Pages.flush_number g.M.MergeOperator.meant c.self.inside.machine c.whole_noting-outcome.new.machine (contents_of c.self.inside.opening.value.items) (entry_values c.self.inside.history.items) c.self.invariant.0.crashes c.me.inside.number _ _ _ _ _ notes).0 in
+    let now : IsState g.P.Pages.store c.whole_noting-outcome.new.machine (contents_of c.self.inside.opening.value.items) (entry_values c.note_and_count.new.history.items) c.note_and_count.new.calls.total = record {
       legal = legal_of crashes;
       leads = leads_of crashes;
       crashes = crashes;
-      ids = whole_risen g.P.Pages.store g.P.Pages.flush_number g.M.MergeOperator.meant c.self.inside.machine c.whole_noting-outcome.new.machine c.me.inside.number _ _ _ _ _ _ notes c.self.invariant.ids;
+      ids = whole_risen g.P.Pages.store g.P.Pages.flush_number g.M.MergeOperator.meant c.self.inside.machine c.whole_noting-outcome.new.machine c.me.inside.number _ _ _ _ _ _ notes c.self.invariant.0.ids;
       counted = length-map c.note_and_count.new.history.items entry_value ∙ c.note_and_count.ensures.counted;
-    }
+    } in (
+      now,
+      longer_in_order c.self.inside.scans.notes c.self.inside.history.items c.note_and_count.new.history.items _ notes.adds c.self.invariant.1,
+    )

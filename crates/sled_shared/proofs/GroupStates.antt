@@ -1,0 +1,108 @@
+-- A group that a transaction wrote, whether it was made or not, keeps what holds of a state.
+use Rattle.std.proofs.Common.{◌≡◌, ◌∙◌, ℕ, List, [], ◌∷◌, ◌++◌, append-nil, length, Result, Ok, Err, OnOk, OnErr, sym, refl, ap, subst, ◌⊎◌, inl, inr}
+use Rattle.std.specs.Global.{Vec}
+use Rattle.sled_nodes.specs.declared.error.Error.{Error}
+use Rattle.sled_batch.specs.Batch.{Writes}
+use Rattle.sled_store.specs.Store.{Store}
+use Rattle.sled_model.specs.Collections.{Content}
+use Rattle.sled_model.specs.Maps.{Maps, Merge}
+use Rattle.sled_model.specs.Refusal.{trees_of_batches}
+use Rattle.sled_model.specs.State.{State, maps_of}
+use Rattle.sled_model.specs.Transition.{WholeDecides}
+use Rattle.sled_model.specs.declared.call.Whole.TheVariants.{Group}
+use Rattle.sled_model.specs.declared.outcome.Outcome.{Outcome}
+use Rattle.sled_model.specs.declared.outcome.Outcome.TheVariants as outcome
+use Rattle.sled_model.specs.declared.outcome.Step.TheVariants as step
+use Rattle.sled_model.specs.declared.reply.Reply.{Reply}
+use Rattle.sled_model.specs.declared.reply.Reply.TheVariants.{Done}
+use Rattle.sled_model.specs.declared.tree.Tree.{Tree}
+use Rattle.sled.specs.Values.{db_state}
+use Rattle.sled.proofs.Grouped.{tested_open}
+use Rattle.sled_calls.specs.Ids.{RiseBetween}
+use Rattle.sled_calls.specs.Step.{MachineStepContract}
+use Rattle.sled_calls.specs.Values.{MachineValue, configuration_of}
+use Rattle.sled_calls.specs.CrashMaps.{AreCrashMaps}
+use Rattle.sled_shared.specs.History.{ids_made, makes_as}
+use Rattle.sled_shared.specs.Made.{EntryValue, MadeValue}
+use Rattle.sled_shared.specs.Notes.{entries_of}
+use Rattle.sled_shared.specs.Sound.{CrashLeaves, IsState}
+use Rattle.sled_shared.specs.Transactions.{transaction_made}
+use Rattle.sled_shared.specs.WholeMade.{makes_whole_as}
+use Rattle.sled_shared.specs.WholeNotes.{NotesWhole}
+use Rattle.sled_shared.specs.Wholes as value
+use Rattle.sled_shared.specs.theory.Transacting.{is_decided, is_undecided, GroupMade, GroupRefused, GroupUnmade}
+use Rattle.sled_shared.proofs.Ids.{came_risen, longer_rises, whole_risen}
+use Rattle.sled_shared.proofs.Leading.{adds, led, whole_leaves, legal_of, leads_of}
+use Rattle.sled_shared.proofs.Legal.{maps_same}
+use Rattle.sled_shared.proofs.WholeMakes.{makes}
+
+-- ---- how a group came out
+
+module _ {P M : Type 0} (store : P → Store) (number : P → ℕ) (meant : M → Merge) (a b : MachineValue P M) (group : Vec (Tree × Writes)) where
+  decided_made : (o : Outcome) → MachineStepContract store number meant a (step.Whole (Group group)) o b → is_decided o → GroupMade store number meant a group b
+  decided_made (outcome.Decided reply) s d = record { reply = reply; step = s }
+  decided_made other s d = absurd d
+
+  pub group_made : (o : Outcome) → MachineStepContract store number meant a (step.Whole (Group group)) o b → (r : Result (Unit {0}) Error) → OnOk r (is_decided o) → OnOk r (GroupMade store number meant a group b)
+  group_made o s (Ok x) d = decided_made o s d
+  group_made o s (Err e) d = tt
+
+  pub group_refused : (o : Outcome) → MachineStepContract store number meant a (step.Whole (Group group)) o b → (r : Result (Unit {0}) Error) → OnErr r (is_undecided o) → OnErr r (GroupRefused store number meant a group b)
+  group_refused o s (Ok x) u = tt
+  group_refused o s (Err e) u = record { outcome = o; undecided = u; step = s }
+
+-- ---- states
+
+module _ {P M : Type 0} (store : P → Store) (number : P → ℕ) (meant : M → Merge) (a b : MachineValue P M) (opening : List Content) (history longer : List EntryValue) (before after : ℕ) (h : IsState store a opening history before) (counted : length longer ≡ after) (n : ℕ) (group : Vec (Tree × Writes)) where
+  -- where it was made
+  made_state : GroupMade store number meant a group b → longer ≡ history ++ entries_of n (transaction_made (maps_of (db_state store meant a.db)) group.items ∷ []) → IsState store b opening longer after
+  made_state g e = record { legal = legal_of crashes; leads = leads_of crashes; crashes = crashes; ids = ids; counted = counted }
+    where
+      A : State
+      A = (configuration_of store number meant a).state
+
+      B : State
+      B = (configuration_of store number meant b).state
+
+      v : MadeValue
+      v = transaction_made (maps_of A) group.items
+
+      decides : WholeDecides (configuration_of store number meant a) (Group group) g.reply B g.step.step.maps
+      decides = g.step.step.step.is
+
+      made : makes_as h.crashes.last v (maps_of B)
+      made = subst (λ m. makes_as m v (maps_of B)) (sym (led store number meant a b opening history h.crashes (tested_open A (trees_of_batches group.items) decides.free)))
+          (let m = makes (configuration_of store number meant a) (Group group) g.reply B g.step.step.maps decides in (refl, (refl, m.1, m.2)))
+
+      left : AreCrashMaps (store b.db.pages) (h.crashes.left ++ maps_of B ∷ [])
+      left = subst (λ x. AreCrashMaps (store b.db.pages) (h.crashes.left ++ x)) decides.added (g.step.step.keeps h.crashes.left h.crashes.leaves)
+
+      crashes : CrashLeaves store b opening longer
+      crashes = (adds store number meant a b opening history h.crashes longer n v (maps_of B) (maps_of B ∷ []) e made refl (λ o. maps_same store meant b number) left).0
+
+      ids : RiseBetween 0 (ids_made longer) b.db.greatest_id
+      ids = longer_rises 0 a.db.greatest_id b.db.greatest_id history (entries_of n (v ∷ [])) longer e h.ids (came_risen store number meant a b n (Group group) (outcome.Decided g.reply) g.step.step.maps 0 decides)
+
+  -- .. and where it was refused
+  refused_notes : (o : Outcome) → is_undecided o → MachineStepContract store number meant a (step.Whole (Group group)) o b → longer ≡ history ++ [] → NotesWhole store number meant a history n [] (Group group) o b longer []
+  refused_notes (outcome.Decided reply) u s e = absurd u
+  refused_notes (outcome.Refused x) u s e = record { noted = []; comes = inl (record { step = s; number = 0; counts = record { is = refl }; notes = refl }); adds = e; adds_there = refl }
+  refused_notes other u s e = absurd s.step.step.is
+
+  refused_state : (o : Outcome) → NotesWhole store number meant a history n [] (Group group) o b longer [] → IsState store b opening longer after
+  refused_state o notes =
+      let crashes = (whole_leaves store number meant a b opening history h.crashes n longer [] [] (Group group) o notes).0 in
+      record { legal = legal_of crashes; leads = leads_of crashes; crashes = crashes; ids = whole_risen store number meant a b n history longer [] [] (Group group) o notes h.ids; counted = counted }
+
+  unmade_state : GroupUnmade store number meant a group b → longer ≡ history ++ [] → IsState store b opening longer after
+  unmade_state (inl same) e = record { legal = m.legal; leads = m.leads; crashes = m.crashes; ids = m.ids; counted = counted }
+    where
+      m : IsState store b opening longer before
+      m = subst (λ l. IsState store b opening l before) (sym (e ∙ append-nil history)) (subst (λ (x : MachineValue P M). IsState store x opening history before) (sym same) h)
+  unmade_state (inr g) e = refused_state g.outcome (refused_notes g.outcome g.undecided g.step e)
+
+  -- a group, whether it was made or not
+  pub grouped_state : (r : Result (Unit {0}) Error) (noted : List MadeValue) → OnOk r (GroupMade store number meant a group b) → OnOk r (noted ≡ transaction_made (maps_of (db_state store meant a.db)) group.items ∷ [])
+      → OnErr r (GroupUnmade store number meant a group b) → OnErr r (noted ≡ []) → longer ≡ history ++ entries_of n noted → IsState store b opening longer after
+  grouped_state (Ok x) noted made notes unmade none e = made_state made (e ∙ ap (λ m. history ++ entries_of n m) notes)
+  grouped_state (Err x) noted made notes unmade none e = unmade_state unmade (e ∙ ap (λ m. history ++ entries_of n m) none)
