@@ -55,10 +55,10 @@ module _ {P M F R E : Type 0} (store : P → Store) (meant : M → Merge) (says 
       subst (λ t. RaisesInside (store_lent store) t key n after) c.shows (subst (λ t. RaisesInside (store_lent store) c.shown.now key n t) c.leaves m)
 
   module _ (d : DbValue P M) (commit : Commit ℕ Writes) (r : RunsIn store meant says result_of f tree d (Ok commit)) where
-    ends : Ends says result_of f SetsAside (Begins (store_lent store) r.root) left_of_tree (store d.pages) (store d.pages).mark (Ok commit.answer) commit.writes commit.flushes r.runs.shown r.next
+    abbrev ends : Ends says result_of f SetsAside (Begins (store_lent store) r.root) left_of_tree (store d.pages) (store d.pages).mark (Ok commit.answer) commit.writes commit.flushes r.runs.shown r.next
     ends = r.runs.is.is
 
-    given : TransactionalTree (Lent P)
+    abbrev given : TransactionalTree (Lent P)
     given = ends.last.given
 
     m : RaisesInside (store_lent store) given key commit.answer ends.last.after

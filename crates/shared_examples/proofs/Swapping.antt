@@ -1,5 +1,5 @@
 -- Swaps at a key follow one another.
-use Rattle.std.proofs.Common.{◌≡◌, ◌⊎◌, ◌∙◌, ℕ, ◌+◌, suc, Bool, true, false, cond, length, List, [], ◌∷◌, ◌++◌, Option, Some, None, is_some, Ok, Err, sym, refl, ap, subst, inl, inr, arith}
+use Rattle.std.proofs.Common.{◌≡◌, ◌⊎◌, ◌∙◌, ℕ, ◌+◌, suc, Bool, true, false, cond, if◌then◌else◌, length, List, [], ◌∷◌, ◌++◌, Option, Some, None, is_some, Ok, Err, sym, refl, ap, subst, inl, inr, arith}
 use Rattle.std.proofs.lemmas.List.Elements.{All-head}
 use Rattle.std.specs.FinMap.Entries.{find}
 use Rattle.std.specs.List.{AllByRecursion}
@@ -11,7 +11,7 @@ use Rattle.sled_store.specs.Update.{put_name}
 use Rattle.sled_store.specs.theory.Facts.{put_name_here}
 use Rattle.sled_model.specs.Groups.{Write, call_of_write, call_with}
 use Rattle.sled_model.specs.Maps.{Map, Maps}
-use Rattle.sled_model.specs.declared.call.Call.TheVariants.{CompareAndSwap}
+use Rattle.sled_model.specs.declared.call.Call.TheVariants.{CompareAndSwap, Insert}
 use Rattle.sled_model.specs.declared.decision.Decision.{Decision}
 use Rattle.sled_model.specs.declared.decision.Effect.TheVariants as effect
 use Rattle.sled_model.specs.declared.reply.CompareAndSwapError.{CompareAndSwapError}
@@ -27,7 +27,7 @@ use Rattle.shared_examples.specs.Raising.{IsSwapAt, is_sole_at, sole_swap, swapp
 use Rattle.shared_examples.proofs.Keys.{after_effect, effect_here, write_leaves, values_same, at_same, at_itself}
 use Rattle.shared_examples.proofs.Standing.{stood, point_here, point_none, Makes, legal_makes, only_leaves}
 
-first_or : Option Key → List (Option Key) → Option Key
+abbrev first_or : Option Key → List (Option Key) → Option Key
 first_or o [] = o
 first_or o (x ∷ xs) = x
 
@@ -65,6 +65,14 @@ swap_as a c t k o n reply p = go (same_value (find key_cmp k p.map) o) refl p.co
       same = point_none a t (CompareAndSwap k o n) reply c p (ap (λ (d : Decision). d.effect) d);
     })
 
+-- an insert leaves its value, written or there before
+inserted_here : (k v : Key) (map : Map) → find key_cmp k (map_with (Insert k v) map) ≡ Some v
+inserted_here k v map = effect_here (if same_value (find key_cmp k map) (Some v) then effect.Nothing else (effect.Set v)) k map ∙ go (same_value (find key_cmp k map) (Some v)) refl
+  where
+    go : (b : Bool) → same_value (find key_cmp k map) (Some v) ≡ b → after_effect (if b then effect.Nothing else (effect.Set v)) (find key_cmp k map) ≡ Some v
+    go true same = values_same (find key_cmp k map) (Some v) same
+    go false same = refl
+
 -- a transaction that sets one key finds what stood there, and writes its value
 set_in : (o : Option Map) (name key : Key) (w : Write) (maps : Maps) → w.tree.name ≡ name → w.key ≡ key → (v : Key) → w.value ≡ Some v → is_some o ≡ true → value_at (maps_with_write o w maps) name key ≡ Some v
 set_in None name key w maps n k v e s = false_true s
@@ -73,7 +81,7 @@ set_in (Some map) name key w maps n k v e s =
     ∙ ap (λ o. found_in o key) (put_name_here maps w.tree.name (Some (map_with (call_of_write w) map)))
     ∙ ap (λ q. find key_cmp q (map_with (call_of_write w) map)) (sym k)
     ∙ ap (λ o. find key_cmp w.key (map_with (call_with w.key o) map)) e
-    ∙ effect_here (effect.Set v) w.key map
+    ∙ inserted_here w.key v map
 
 sole_swaps : (a c : Maps) (t : Tree) (k v : Key) (o : Option Key) → makes_as a (TransactionMade ((t, (k, Some v) ∷ []) ∷ []) (o ∷ [])) c → (o ≡ value_at a t.name k) × (value_at c t.name k ≡ Some v)
 sole_swaps a c t k v o p = (
