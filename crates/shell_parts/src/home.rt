@@ -3,8 +3,6 @@
 use shell_words::arguments::Arguments;
 use shell_words::table::Verb;
 use shell_words::tell::{Result, Told};
-use sled::Db;
-use sled_model::MergeOperator;
 use sled_nodes::Error;
 use sled_pages::MemPages;
 use sled_store::Pages;
@@ -18,11 +16,14 @@ pub trait Home: Drop {
     /// The store between two openings.
     type Held: Drop;
 
+    /// The database over it. Its type is named by whoever asks for a home, since a block cannot be proved whose methods name it.
+    type Opened: Drop;
+
     /// The store as it is at first. Where there is none, why not is added.
     fn first(&mut self, out: &mut Told) -> Result<Self::Held>;
 
     /// The store of a database that ends.
-    fn held_of<M: MergeOperator>(db: Db<Self::Store, M>) -> Self::Held;
+    fn held_of(db: Self::Opened) -> Self::Held;
 
     /// The store between two openings, to be looked at.
     fn store(held: &Self::Held) -> &Self::Store;
@@ -52,18 +53,14 @@ pub trait Home: Drop {
     ) -> Result<Self::Held>;
 
     /// Opens the store under a name. Where that is refused it gives it back.
-    fn open<M: MergeOperator>(
+    fn open(
         &mut self,
         held: Self::Held,
         name: &[u8],
-    ) -> std::result::Result<Db<Self::Store, M>, (Self::Held, Error)>;
+    ) -> std::result::Result<Self::Opened, (Self::Held, Error)>;
 
     /// Adds what there is to say of the opening after the last change, without the end of its line: whether there is something.
-    fn tell_opening<M: MergeOperator>(
-        &self,
-        db: &Db<Self::Store, M>,
-        out: &mut Told,
-    ) -> Result<bool>;
+    fn tell_opening(&self, db: &Self::Opened, out: &mut Told) -> Result<bool>;
 
     /// Adds how large the files are, where there are some.
     fn tell_files(store: &Self::Store, out: &mut Told) -> Result<()>;

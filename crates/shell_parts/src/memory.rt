@@ -8,10 +8,10 @@ use line_words::input::Stopped;
 use line_words::print::Piece::Text;
 use shell_words::arguments::Arguments;
 use shell_words::image::Image;
+use shell_words::operators::Operator;
 use shell_words::table::Verb;
 use shell_words::tell::{Told, tell};
 use sled::Db;
-use sled_model::MergeOperator;
 use sled_nodes::Error;
 use sled_pages::MemPages;
 use sled_store::Pages;
@@ -75,11 +75,13 @@ impl Home for Memory {
 
     type Held = Held;
 
+    type Opened = Db<MemPages, Operator>;
+
     fn first(&mut self, _out: &mut Told) -> Result<Held, Stopped> {
         Ok(Held::Kept(Kept::empty(self.alloc)))
     }
 
-    fn held_of<M: MergeOperator>(db: Db<MemPages, M>) -> Held {
+    fn held_of(db: Db<MemPages, Operator>) -> Held {
         Held::Kept(Kept::of(db))
     }
 
@@ -131,11 +133,11 @@ impl Home for Memory {
         }
     }
 
-    fn open<M: MergeOperator>(
+    fn open(
         &mut self,
         held: Held,
         name: &[u8],
-    ) -> Result<Db<MemPages, M>, (Held, Error)> {
+    ) -> Result<Db<MemPages, Operator>, (Held, Error)> {
         match self.refused.take() {
             Some(error) => Err((held, error)),
             None => held.open(self.alloc, name),
@@ -143,9 +145,9 @@ impl Home for Memory {
     }
 
     // Of the first opening nothing is told.
-    fn tell_opening<M: MergeOperator>(
+    fn tell_opening(
         &self,
-        _db: &Db<MemPages, M>,
+        _db: &Db<MemPages, Operator>,
         out: &mut Told,
     ) -> Result<bool, Stopped> {
         match self.last {
