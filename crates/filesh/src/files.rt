@@ -6,6 +6,7 @@ use line_words::print::Piece::Text;
 use shell_parts::home::Home;
 use shell_words::arguments::Arguments;
 use shell_words::choices::Drawing;
+use shell_words::operators::Operator;
 use shell_words::table::Verb;
 use shell_words::tell::{Result, Told, answered, tell, tell_numbered};
 use sled::Db;
@@ -154,6 +155,8 @@ impl<F: Disks> Home for Files<F> {
 
     type Held = FilePages<F::File>;
 
+    type Opened = Db<FilePages<F::File>, Operator>;
+
     fn first(&mut self, out: &mut Told) -> Result<FilePages<F::File>> {
         let files = self.disks.first(out)?;
         let store = open_store(self.alloc, files, out)?;
@@ -161,7 +164,7 @@ impl<F: Disks> Home for Files<F> {
         Ok(store)
     }
 
-    fn held_of<M: MergeOperator>(db: Db<FilePages<F::File>, M>) -> FilePages<F::File> {
+    fn held_of(db: Db<FilePages<F::File>, Operator>) -> FilePages<F::File> {
         db.into_pages()
     }
 
@@ -218,11 +221,11 @@ impl<F: Disks> Home for Files<F> {
         }
     }
 
-    fn open<M: MergeOperator>(
+    fn open(
         &mut self,
         held: FilePages<F::File>,
         name: &[u8],
-    ) -> std::result::Result<Db<FilePages<F::File>, M>, (FilePages<F::File>, Error)> {
+    ) -> std::result::Result<Db<FilePages<F::File>, Operator>, (FilePages<F::File>, Error)> {
         if let Some(error) = self.refused.take() {
             return Err((held, error));
         }
@@ -232,11 +235,7 @@ impl<F: Disks> Home for Files<F> {
         }
     }
 
-    fn tell_opening<M: MergeOperator>(
-        &self,
-        db: &Db<FilePages<F::File>, M>,
-        out: &mut Told,
-    ) -> Result<bool> {
+    fn tell_opening(&self, db: &Db<FilePages<F::File>, Operator>, out: &mut Told) -> Result<bool> {
         let opening: &[u8] = match self.last {
             Verb::Quit => return tell_found(db, out),
             Verb::Crash => b"recovered",

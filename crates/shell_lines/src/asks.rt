@@ -25,8 +25,10 @@ use shell_words::look::Look;
 use shell_words::operators::{Operator, operator_of};
 use shell_words::table::{Verb, Way};
 use shell_words::tell::{Result, answered, tell, tell_refused, tell_turns, tell_whether};
+use sled::Db;
 use sled_lines::session::Session;
 use sled_model::{Outcome, Reply, Tree, Whole};
+use sled_store::Pages;
 use std::io::Write;
 
 /// Whether a line is a call of the database itself.
@@ -34,11 +36,11 @@ pub fn is_owned(way: Way, verb: Verb) -> bool {
     matches!(way, Way::Owned) || matches!(verb, Verb::RemoveRange)
 }
 
-impl<H: Home> Shell<H> {
+impl<P: Pages, H: Home<Store = P, Opened = Db<P, Operator>>> Shell<P, H> {
     /// Makes a tree current.
     pub fn take_tree(
         &mut self,
-        session: &mut Session<H::Store, Operator>,
+        session: &mut Session<P, Operator>,
         tree: sled_nodes::Result<Tree>,
     ) -> Result<()> {
         let tree = answered(tree)?;
@@ -52,7 +54,7 @@ impl<H: Home> Shell<H> {
     }
 
     // Makes a whole call, and adds how it came out.
-    fn whole(&mut self, session: &mut Session<H::Store, Operator>, whole: Whole) -> Result<()> {
+    fn whole(&mut self, session: &mut Session<P, Operator>, whole: Whole) -> Result<()> {
         let shown = Shown::of_whole(&whole);
         let outcome = session.whole(whole);
         let told = match &outcome {
@@ -69,7 +71,7 @@ impl<H: Home> Shell<H> {
     }
 
     // Takes what a subscriber is told next, or ends it.
-    fn hear(&mut self, session: &mut Session<H::Store, Operator>, verb: Verb) -> Result<()> {
+    fn hear(&mut self, session: &mut Session<P, Operator>, verb: Verb) -> Result<()> {
         match self.subscribers.named(self.lines.arguments.number()) {
             Some(subscriber) => self.whole(session, hearing(verb, subscriber)),
             None => tell_no_subscriber(&mut self.lines.out),
@@ -77,7 +79,7 @@ impl<H: Home> Shell<H> {
     }
 
     // Makes the group of writes that the line says, if its trees can be read.
-    fn group(&mut self, session: &mut Session<H::Store, Operator>) -> Result<()> {
+    fn group(&mut self, session: &mut Session<P, Operator>) -> Result<()> {
         let words = rest_behind(self.lines.line.as_slice(), 1);
         let tree = session.tree();
         let group = group_of(
@@ -95,7 +97,7 @@ impl<H: Home> Shell<H> {
     }
 
     // Runs the transaction that the line says, if its trees can be read.
-    fn transaction_all(&mut self, session: &mut Session<H::Store, Operator>) -> Result<()> {
+    fn transaction_all(&mut self, session: &mut Session<P, Operator>) -> Result<()> {
         tell_transaction_all(
             self.lines.alloc,
             session,
@@ -108,7 +110,7 @@ impl<H: Home> Shell<H> {
     }
 
     // Answers a read, with the words behind its own.
-    fn look(&mut self, session: &Session<H::Store, Operator>, which: Look) -> Result<()> {
+    fn look(&mut self, session: &Session<P, Operator>, which: Look) -> Result<()> {
         let (first, more) = first_word(rest_behind(self.lines.line.as_slice(), 1));
         let words = (first, more.unwrap_or(b""));
         tell_look(
@@ -122,13 +124,13 @@ impl<H: Home> Shell<H> {
     }
 
     // Makes current what the line names.
-    fn take_handle(&mut self, session: &mut Session<H::Store, Operator>) -> Result<()> {
+    fn take_handle(&mut self, session: &mut Session<P, Operator>) -> Result<()> {
         session.set_tree(handle_of(self.lines.alloc, &self.lines.arguments)?);
         tell(&mut self.lines.out, &[Text(b"done\n")])
     }
 
     // Gives the current tree the operator that the line names.
-    fn set_operator(&mut self, session: &mut Session<H::Store, Operator>) -> Result<()> {
+    fn set_operator(&mut self, session: &mut Session<P, Operator>) -> Result<()> {
         let operator = operator_of(self.lines.arguments.bytes(0)).ok_or(Stopped)?;
         let answer = session.set_merge_operator(operator);
         let answer = answer.map(|()| Reply::Done);
@@ -137,17 +139,13 @@ impl<H: Home> Shell<H> {
     }
 
     // Draws the current tree, or counts its pages.
-    fn show(
-        &mut self,
-        session: &Session<H::Store, Operator>,
-        drawing: Option<Drawing>,
-    ) -> Result<()> {
+    fn show(&mut self, session: &Session<P, Operator>, drawing: Option<Drawing>) -> Result<()> {
         let out = &mut self.lines.out;
         tell_drawn::<H, Operator>(self.lines.alloc, session.db(), session.tree(), drawing, out)
     }
 
     // Says how large all trees are, and the files, where there are some.
-    fn stats(&mut self, session: &Session<H::Store, Operator>) -> Result<()> {
+    fn stats(&mut self, session: &Session<P, Operator>) -> Result<()> {
         let told = tell_stats(session.db(), &mut self.lines.out);
         let files = H::tell_files(session.db().pages(), &mut self.lines.out);
         told.and(files)
@@ -157,16 +155,16 @@ impl<H: Home> Shell<H> {
     // The calls in flight are given up.
     fn on_parts(
         &mut self,
-        session: Session<H::Store, Operator>,
+        session: Session<P, Operator>,
         verb: Verb,
-    ) -> (Session<H::Store, Operator>, Result<()>) {
+    ) -> (Session<P, Operator>, Result<()>) {
         let (mut db, tree) = session.into_parts();
         let told = make_owned(&mut self.lines, &mut self.subscribers, &mut db, &tree, verb);
         (Session::with_tree(self.lines.alloc, db, tree), told)
     }
 
     /// Answers a line that is a call of the database itself.
-    pub fn owned(&mut self, state: State<H>, verb: Verb) -> Result<State<H>> {
+    pub fn owned(&mut self, state: State<P, H>, verb: Verb) -> Result<State<P, H>> {
         let (state, told) = match state {
             State::Open(session) => {
                 let (session, told) = self.on_parts(session, verb);
@@ -186,7 +184,7 @@ impl<H: Home> Shell<H> {
     // Runs a line that `sledrun` knows too, or that takes a slot.
     fn known<W: Write>(
         &mut self,
-        session: &mut Session<H::Store, Operator>,
+        session: &mut Session<P, Operator>,
         verb: Verb,
         output: &mut W,
     ) -> Result<()> {
@@ -197,7 +195,7 @@ impl<H: Home> Shell<H> {
     }
 
     // Makes the whole call that the line says.
-    fn call(&mut self, session: &mut Session<H::Store, Operator>, verb: Verb) -> Result<()> {
+    fn call(&mut self, session: &mut Session<P, Operator>, verb: Verb) -> Result<()> {
         match whole_of(
             self.lines.alloc,
             session.tree(),
@@ -210,7 +208,7 @@ impl<H: Home> Shell<H> {
     }
 
     // Reads a value and writes what is made of it, which the line says.
-    fn fetch(&mut self, session: &mut Session<H::Store, Operator>, verb: Verb) -> Result<()> {
+    fn fetch(&mut self, session: &mut Session<P, Operator>, verb: Verb) -> Result<()> {
         let answer = fetch(self.lines.alloc, session, verb, &self.lines.arguments).map(
             Reply::Value,
         );
@@ -219,7 +217,7 @@ impl<H: Home> Shell<H> {
     }
 
     // Inserts as many pairs as the line says, if those are not too many.
-    fn fill(&mut self, session: &mut Session<H::Store, Operator>) -> Result<()> {
+    fn fill(&mut self, session: &mut Session<P, Operator>) -> Result<()> {
         let count = self.lines.arguments.number();
         if count > MOST {
             return self.lines.tell_above(count, MOST);
@@ -230,7 +228,7 @@ impl<H: Home> Shell<H> {
     // Answers a line that asks a session.
     fn ask_session<W: Write>(
         &mut self,
-        session: &mut Session<H::Store, Operator>,
+        session: &mut Session<P, Operator>,
         verb: Verb,
         output: &mut W,
     ) -> Result<()> {
@@ -277,7 +275,7 @@ impl<H: Home> Shell<H> {
     /// Answers a line that asks a database.
     pub fn ask<W: Write>(
         &mut self,
-        state: &mut State<H>,
+        state: &mut State<P, H>,
         verb: Verb,
         output: &mut W,
     ) -> Result<()> {

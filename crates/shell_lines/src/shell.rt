@@ -38,7 +38,7 @@ const DATABASE: &[u8] = b"sledsh";
 
 /// The lines of a session and what is to be printed, and what they got and said since the opening.
 #[derive(Drop)]
-pub struct Shell<H: Home> {
+pub struct Shell<P: Pages, H: Home<Store = P, Opened = Db<P, Operator>>> {
     /// The line that was read last.
     pub lines: Lines,
     // Whether the lines are run again and again, and may have no others run so.
@@ -57,9 +57,9 @@ fn tell_tree(out: &mut Told, tree: &Tree) -> Result<()> {
     tell(out, &[Text(b", tree "), Word(tree.name.as_ref())])
 }
 
-impl<H: Home> Shell<H> {
+impl<P: Pages, H: Home<Store = P, Opened = Db<P, Operator>>> Shell<P, H> {
     // A shell that has read no line yet.
-    fn new(alloc: Global, home: H, explains: bool, is_swept: bool) -> Shell<H> {
+    fn new(alloc: Global, home: H, explains: bool, is_swept: bool) -> Shell<P, H> {
         Shell {
             lines: Lines::new(alloc, explains),
             is_swept,
@@ -71,7 +71,7 @@ impl<H: Home> Shell<H> {
     }
 
     // Makes current what a name was before.
-    fn take_old(&mut self, state: &mut State<H>) -> Result<()> {
+    fn take_old(&mut self, state: &mut State<P, H>) -> Result<()> {
         let name = self.lines.arguments.bytes(0);
         match (state, self.names.before(name, 1)) {
             (State::Open(session), Some(tree)) => {
@@ -92,7 +92,7 @@ impl<H: Home> Shell<H> {
     // Answers a line, unless it changes the store, has others run, or ends: whether it did.
     fn answer<W: Write>(
         &mut self,
-        state: &mut State<H>,
+        state: &mut State<P, H>,
         verb: Verb,
         output: &mut W,
     ) -> Result<bool> {
@@ -138,7 +138,7 @@ impl<H: Home> Shell<H> {
     }
 
     // Checks the pages as they are.
-    fn verify(&mut self, state: &State<H>) -> Result<()> {
+    fn verify(&mut self, state: &State<P, H>) -> Result<()> {
         let is_closed = state.is_closed();
         tell_check(
             self.lines.alloc,
@@ -149,14 +149,14 @@ impl<H: Home> Shell<H> {
     }
 
     // Says as what a page is kept.
-    fn parts(&mut self, state: &State<H>) -> Result<()> {
+    fn parts(&mut self, state: &State<P, H>) -> Result<()> {
         let pid = Pid(self.lines.arguments.number());
         let parts = parts_of(H::kept(state.store()), pid);
         answered(push_parts(parts, &mut self.lines.out.text))
     }
 
     // Says of a page what all its keys begin with, and what each of them has behind that.
-    fn rests(&mut self, state: &State<H>) -> Result<()> {
+    fn rests(&mut self, state: &State<P, H>) -> Result<()> {
         let pid = Pid(self.lines.arguments.number());
         let out = &mut self.lines.out;
         match state.store().read(self.lines.alloc, pid) {
@@ -193,7 +193,7 @@ impl<H: Home> Shell<H> {
     // Answers lines up to one that changes the store, has others run, or ends.
     fn lines<W: Write, S: Source<W>>(
         &mut self,
-        state: &mut State<H>,
+        state: &mut State<P, H>,
         source: &mut S,
         output: &mut W,
     ) -> Result<Verb> {
@@ -207,7 +207,7 @@ impl<H: Home> Shell<H> {
     }
 
     // Opens nothing after a refusal, which is told.
-    fn shut(&mut self, held: H::Held, error: Error) -> Result<State<H>> {
+    fn shut(&mut self, held: H::Held, error: Error) -> Result<State<P, H>> {
         match tell_verdict(&mut self.lines.out, error) {
             Ok(()) => Ok(State::Shut(held)),
             Err(stopped) => {
@@ -218,7 +218,7 @@ impl<H: Home> Shell<H> {
     }
 
     // Makes the tree current again that was so before a crash, if it is there: whether the current tree is that one.
-    fn take_again(&mut self, session: &mut Session<H::Store, Operator>) -> Result<bool> {
+    fn take_again(&mut self, session: &mut Session<P, Operator>) -> Result<bool> {
         let Some(name) = self.before.take() else {
             return Ok(true);
         };
@@ -240,7 +240,7 @@ impl<H: Home> Shell<H> {
     }
 
     // Takes down the trees that an opening got, and tells of it; of the current tree where it is another one than before a crash.
-    fn tell_opened(&mut self, session: &mut Session<H::Store, Operator>) -> Result<()> {
+    fn tell_opened(&mut self, session: &mut Session<P, Operator>) -> Result<()> {
         self.names.begin(session.tree())?;
         let is_same = self.take_again(session)?;
         if !self.home.tell_opening(session.db(), &mut self.lines.out)? {
@@ -253,7 +253,7 @@ impl<H: Home> Shell<H> {
     }
 
     // A session over a database, whose opening is told.
-    fn begin(&mut self, db: Db<H::Store, Operator>) -> Result<State<H>> {
+    fn begin(&mut self, db: Db<P, Operator>) -> Result<State<P, H>> {
         self.subscribers.clear();
         let mut session = match Session::over(self.lines.alloc, db) {
             Ok(session) => session,
@@ -272,7 +272,7 @@ impl<H: Home> Shell<H> {
     }
 
     // Opens pages, unless they were refused before.
-    fn open(&mut self, held: H::Held) -> Result<State<H>> {
+    fn open(&mut self, held: H::Held) -> Result<State<P, H>> {
         match self.home.open(held, DATABASE) {
             Ok(db) => self.begin(db),
             Err((held, error)) => self.shut(held, error),
@@ -280,14 +280,18 @@ impl<H: Home> Shell<H> {
     }
 
     // Takes down what is to be current again behind what a line asks for.
-    fn note_before(&mut self, state: &State<H>, verb: Verb) -> Result<()> {
+    fn note_before(&mut self, state: &State<P, H>, verb: Verb) -> Result<()> {
         let old = std::mem::replace(&mut self.before, state.name_behind(verb)?);
         drop(old);
         Ok(())
     }
 
     // Opens a store, where there is one; else has it written why not.
-    fn open_told<W: Write>(&mut self, held: Result<H::Held>, output: &mut W) -> Result<State<H>> {
+    fn open_told<W: Write>(
+        &mut self,
+        held: Result<H::Held>,
+        output: &mut W,
+    ) -> Result<State<P, H>> {
         match held {
             Ok(held) => self.open(held),
             Err(stopped) => {
@@ -298,7 +302,12 @@ impl<H: Home> Shell<H> {
     }
 
     // Does what a line asks for that changes the store, and opens it then.
-    fn renew<W: Write>(&mut self, state: State<H>, verb: Verb, output: &mut W) -> Result<State<H>> {
+    fn renew<W: Write>(
+        &mut self,
+        state: State<P, H>,
+        verb: Verb,
+        output: &mut W,
+    ) -> Result<State<P, H>> {
         let noted = self.note_before(&state, verb);
         let held = state.into_held();
         if let Err(stopped) = noted {
@@ -313,7 +322,7 @@ impl<H: Home> Shell<H> {
     }
 
     // The store as it is at first, opened.
-    fn start<W: Write>(&mut self, output: &mut W) -> Result<State<H>> {
+    fn start<W: Write>(&mut self, output: &mut W) -> Result<State<P, H>> {
         let first = self.home.first(&mut self.lines.out);
         self.open_told(first, output)
     }
@@ -321,10 +330,10 @@ impl<H: Home> Shell<H> {
     // Answers lines up to one that has others run, or ends.
     fn live<W: Write, S: Source<W>>(
         &mut self,
-        state: State<H>,
+        state: State<P, H>,
         source: &mut S,
         output: &mut W,
-    ) -> Result<(State<H>, Verb)> {
+    ) -> Result<(State<P, H>, Verb)> {
         let mut state = state;
         for _ in 0..u64::MAX {
             match self.lines(&mut state, source, output) {
@@ -361,10 +370,10 @@ impl<H: Home> Shell<H> {
     // Answers the lines of a file.
     fn run_lines<W: Write>(
         &mut self,
-        state: State<H>,
+        state: State<P, H>,
         lines: &[u8],
         output: &mut W,
-    ) -> Result<State<H>> {
+    ) -> Result<State<P, H>> {
         let number = self.lines.begin_file();
         let mut source = Input::new(lines, false);
         let lived = self.live(state, &mut source, output);
@@ -376,9 +385,9 @@ impl<H: Home> Shell<H> {
     fn run_file<W: Write>(
         &mut self,
         rt: &HostRuntime,
-        state: State<H>,
+        state: State<P, H>,
         output: &mut W,
-    ) -> Result<State<H>> {
+    ) -> Result<State<P, H>> {
         if let Some(lines) = read_file(rt, self.lines.arguments.bytes(0)) {
             return self.run_lines(state, lines.as_slice(), output);
         }
@@ -395,10 +404,10 @@ impl<H: Home> Shell<H> {
     fn run_named<W: Write>(
         &mut self,
         rt: &HostRuntime,
-        state: State<H>,
+        state: State<P, H>,
         verb: Verb,
         output: &mut W,
-    ) -> Result<State<H>> {
+    ) -> Result<State<P, H>> {
         let Verb::Sweep(sweep) = verb else {
             return self.run_file(rt, state, output);
         };
@@ -412,7 +421,7 @@ impl<H: Home> Shell<H> {
     }
 
     // Makes all durable, or adds why it is not.
-    fn flush_last(&mut self, session: Session<H::Store, Operator>) -> Result<()> {
+    fn flush_last(&mut self, session: Session<P, Operator>) -> Result<()> {
         let mut session = session;
         let outcome = session.flush();
         drop(session.into_db().into_pages());
@@ -430,7 +439,7 @@ impl<H: Home> Shell<H> {
     }
 
     // Ends a session at the end of its lines. Where what was done stays, all of it is durable then.
-    fn close<W: Write>(&mut self, state: State<H>, output: &mut W) -> Result<()> {
+    fn close<W: Write>(&mut self, state: State<P, H>, output: &mut W) -> Result<()> {
         match state {
             State::Open(session) if H::lasts() => self.flush_last(session)?,
             state => drop(state.into_held()),
@@ -482,7 +491,7 @@ impl Sessions for Swept {
 }
 
 /// Runs the lines of an input as a session over what lives there: whether each of them could be read.
-pub fn run<H: Home, R: BufRead + Drop, W: Write>(
+pub fn run<P: Pages, H: Home<Store = P, Opened = Db<P, Operator>>, R: BufRead + Drop, W: Write>(
     rt: &HostRuntime,
     home: H,
     input: R,

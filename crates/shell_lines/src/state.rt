@@ -4,19 +4,20 @@ use shell_parts::home::Home;
 use shell_words::operators::Operator;
 use shell_words::table::Verb;
 use shell_words::tell::{Result, answered};
+use sled::Db;
 use sled_lines::session::Session;
 use sled_nodes::IVec;
 use sled_store::Pages;
 
 /// The store: opened, or what a refused opening gave back.
-pub enum State<H: Home> {
+pub enum State<P: Pages, H: Home<Store = P, Opened = Db<P, Operator>>> {
     /// A session over a database.
-    Open(Session<H::Store, Operator>),
+    Open(Session<P, Operator>),
     /// No database is open.
     Shut(H::Held),
 }
 
-impl<H: Home> State<H> {
+impl<P: Pages, H: Home<Store = P, Opened = Db<P, Operator>>> State<P, H> {
     /// The name of the tree that is to be current again behind what a line asks for: that of the current tree, behind a crash.
     pub fn name_behind(&self, verb: Verb) -> Result<Option<IVec>> {
         match (self, verb) {
@@ -37,7 +38,7 @@ impl<H: Home> State<H> {
     }
 
     /// The store as it is.
-    pub fn store(&self) -> &H::Store {
+    pub fn store(&self) -> &P {
         match self {
             State::Open(session) => session.db().pages(),
             State::Shut(held) => H::store(held),
