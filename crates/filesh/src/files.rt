@@ -1,0 +1,256 @@
+//! A shell's database in two files.
+
+use crate::disks::{Disks, Two};
+use line_words::input::Stopped;
+use line_words::print::Piece::Text;
+use shell_parts::home::Home;
+use shell_words::arguments::Arguments;
+use shell_words::choices::Drawing;
+use shell_words::operators::Operator;
+use shell_words::table::Verb;
+use shell_words::tell::{Result, Told, answered, tell, tell_numbered};
+use sled::Db;
+use sled_disk::Disk;
+use sled_files::FilePages;
+use sled_model::MergeOperator;
+use sled_nodes::Error;
+use sled_pages::MemPages;
+use sled_store::Pages;
+use std::alloc::Global;
+use std::io::Write;
+
+const IN_MEMORY: &str = "is for a store in memory";
+
+const LINKS: &str = "with links is for a store in memory";
+
+const REFUSALS: &str = "with refusals is for a store in memory";
+
+const FOUND: &str = "does not empty a database that was there; name another folder for a new one";
+
+/// A home in files.
+#[derive(Drop)]
+pub struct Files<F: Disks> {
+    alloc: Global,
+    disks: F,
+    // Whether a database was there at first.
+    is_found: bool,
+    mark: u64,
+    // The command that changed the store last, or ended; and why the store cannot be opened after it.
+    last: Verb,
+    refused: Option<Error>,
+}
+
+// A store in these files, as they stand for one. Where they do not, why not is added.
+fn open_store<D: Disk + Send>(
+    alloc: Global,
+    files: Two<D>,
+    out: &mut Told,
+) -> Result<FilePages<D>> {
+    match FilePages::open(alloc, files.0, files.1) {
+        Ok(store) => Ok(store),
+        Err(e) => {
+            writeln!(&mut out.text, "not opened: {e}")?;
+            Err(Stopped)
+        }
+    }
+}
+
+// Takes all out of a file: whether that was done.
+fn empty<D: Disk + Send>(file: &mut D) -> bool {
+    file.cut(0).is_ok() && file.sync().is_ok()
+}
+
+// Makes all durable, if no group is open.
+fn flush<D: Disk + Send>(store: &mut FilePages<D>) -> Result<()> {
+    if !store.in_group() {
+        answered(store.flush())?;
+    }
+    Ok(())
+}
+
+impl<F: Disks> Files<F> {
+    /// Files in which nothing was looked at so far.
+    pub fn new(alloc: Global, disks: F) -> Files<F> {
+        Files {
+            alloc,
+            disks,
+            is_found: false,
+            mark: 0,
+            last: Verb::Quit,
+            refused: None,
+        }
+    }
+
+    // What a crash leaves of the files, as a store.
+    fn open_again(&self, files: Two<F::File>, out: &mut Told) -> Result<FilePages<F::File>> {
+        let files = self.disks.again(files, out)?;
+        open_store(self.alloc, files, out)
+    }
+
+    // A store with nothing in it, in place of the one before.
+    fn emptied(&mut self, store: FilePages<F::File>, out: &mut Told) -> Result<FilePages<F::File>> {
+        let mut files = store.into_disks();
+        if !empty(&mut files.0) || !empty(&mut files.1) {
+            drop(files);
+            tell(out, &[Text(b"not opened: a call of a file was refused\n")])?;
+            return Err(Stopped);
+        }
+        self.mark = 0;
+        self.open_again(files, out)
+    }
+
+    // Takes down what a call came to; where it was refused, the store is not opened.
+    fn note(&mut self, done: sled_nodes::Result<()>) {
+        if let Err(error) = done {
+            let old = std::mem::replace(&mut self.refused, Some(error));
+            drop(old);
+        }
+    }
+
+    // Sets ids aside; a mark that is higher stays.
+    fn set_aside(&mut self, store: FilePages<F::File>, upto: u64) -> FilePages<F::File> {
+        let mut store = store;
+        let done = if upto < store.mark() {
+            Ok(())
+        } else {
+            store.set_aside(upto)
+        };
+        if done.is_ok() {
+            self.mark = upto;
+        }
+        self.note(done);
+        store
+    }
+
+    // What a crash leaves that keeps all actions; but for those of a group that is open, and of what was done beside it.
+    fn recovered(
+        &mut self,
+        store: FilePages<F::File>,
+        out: &mut Told,
+    ) -> Result<FilePages<F::File>> {
+        let mut store = store;
+        let flushed = flush(&mut store);
+        let files = store.into_disks();
+        match flushed {
+            Ok(()) => self.open_again(files, out),
+            Err(stopped) => {
+                drop(files);
+                Err(stopped)
+            }
+        }
+    }
+}
+
+// Adds that a database was found, with the number of its pages, if it was: whether it was.
+fn tell_found<P: Pages, M: MergeOperator>(db: &Db<P, M>, out: &mut Told) -> Result<bool> {
+    if !db.was_recovered() {
+        return Ok(false);
+    }
+    let stats = answered(db.stats())?;
+    tell_numbered(out, b"recovered, pages ", stats.pages, b"").map(|()| true)
+}
+
+impl<F: Disks> Home for Files<F> {
+    type Store = FilePages<F::File>;
+
+    type Held = FilePages<F::File>;
+
+    type Opened = Db<FilePages<F::File>, Operator>;
+
+    fn first(&mut self, out: &mut Told) -> Result<FilePages<F::File>> {
+        let files = self.disks.first(out)?;
+        let store = open_store(self.alloc, files, out)?;
+        self.is_found = store.was_recovered();
+        Ok(store)
+    }
+
+    fn held_of(db: Db<FilePages<F::File>, Operator>) -> FilePages<F::File> {
+        db.into_pages()
+    }
+
+    fn store(held: &FilePages<F::File>) -> &FilePages<F::File> {
+        held
+    }
+
+    // They are kept otherwise.
+    fn kept(_store: &FilePages<F::File>) -> Option<&MemPages> {
+        None
+    }
+
+    fn refuses(&self, verb: Verb, arguments: &Arguments) -> Option<&'static str> {
+        match verb {
+            Verb::Unreadable | Verb::Image(_) | Verb::Page | Verb::Root | Verb::Parts => {
+                Some(IN_MEMORY)
+            }
+            Verb::Draw(Drawing::Links) => Some(LINKS),
+            Verb::Refuse => Some(REFUSALS),
+            Verb::New | Verb::Recover if !arguments.numbers().is_empty() => Some(REFUSALS),
+            Verb::New if self.is_found => Some(FOUND),
+            _ => None,
+        }
+    }
+
+    fn mark(&self) -> u64 {
+        self.mark
+    }
+
+    // There are no images of files.
+    fn note_page(&mut self, _words: &[u8], _out: &mut Told) -> Result<()> {
+        Ok(())
+    }
+
+    fn note_root(&mut self, _words: &[u8], _out: &mut Told) -> Result<()> {
+        Ok(())
+    }
+
+    fn change(
+        &mut self,
+        held: FilePages<F::File>,
+        verb: Verb,
+        arguments: &Arguments,
+        out: &mut Told,
+    ) -> Result<FilePages<F::File>> {
+        self.last = verb;
+        match verb {
+            // Nothing is in the files that was done since the last flush.
+            Verb::Crash => self.open_again(held.into_disks(), out),
+            Verb::Recover => self.recovered(held, out),
+            Verb::New => self.emptied(held, out),
+            Verb::Mark => Ok(self.set_aside(held, arguments.number())),
+            _ => Ok(held),
+        }
+    }
+
+    fn open(
+        &mut self,
+        held: FilePages<F::File>,
+        name: &[u8],
+    ) -> std::result::Result<Db<FilePages<F::File>, Operator>, (FilePages<F::File>, Error)> {
+        if let Some(error) = self.refused.take() {
+            return Err((held, error));
+        }
+        match Db::open_checked(self.alloc, held, name) {
+            Ok(db) => Ok(db.with_operators()),
+            Err(refused) => Err(refused),
+        }
+    }
+
+    fn tell_opening(&self, db: &Db<FilePages<F::File>, Operator>, out: &mut Told) -> Result<bool> {
+        let opening: &[u8] = match self.last {
+            Verb::Quit => return tell_found(db, out),
+            Verb::Crash => b"recovered",
+            _ => b"opened",
+        };
+        tell(out, &[Text(opening)]).map(|()| true)
+    }
+
+    fn tell_files(store: &FilePages<F::File>, out: &mut Told) -> Result<()> {
+        let stats = store.stats();
+        tell_numbered(out, b"log bytes ", stats.bytes as u64, b" generation ")?;
+        tell_numbered(out, b"", stats.generation, b"\n")
+    }
+
+    fn lasts() -> bool {
+        true
+    }
+}
