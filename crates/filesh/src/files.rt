@@ -11,7 +11,7 @@ use shell_words::table::Verb;
 use shell_words::tell::{Result, Told, answered, tell, tell_numbered};
 use sled::Db;
 use sled_disk::Disk;
-use sled_files::FilePages;
+use sled_files::{FilePages, NotOpened};
 use sled_model::MergeOperator;
 use sled_nodes::Error;
 use sled_pages::MemPages;
@@ -48,8 +48,15 @@ fn open_store<D: Disk + Send>(
 ) -> Result<FilePages<D>> {
     match FilePages::open(alloc, files.0, files.1) {
         Ok(store) => Ok(store),
-        Err(e) => {
-            writeln!(&mut out.text, "not opened: {e}")?;
+        Err(refused) => {
+            // The shell ends here, so both files are let go of as they stand.
+            let NotOpened {
+                error,
+                first,
+                second,
+            } = refused;
+            drop((first, second));
+            writeln!(&mut out.text, "not opened: {error}")?;
             Err(Stopped)
         }
     }
