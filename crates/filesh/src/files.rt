@@ -1,6 +1,5 @@
 //! A shell's database in two files.
 
-use crate::disks::{Disks, Two};
 use line_words::input::Stopped;
 use line_words::print::Piece::Text;
 use shell_parts::home::Home;
@@ -12,7 +11,7 @@ use shell_words::tell::{Result, Told, answered, tell, tell_numbered};
 use sled::Db;
 use sled_disk::Disk;
 use sled_files::{FilePages, NotOpened};
-use sled_model::MergeOperator;
+use sled_host::{HostFile, Opening, Pair, open_pair};
 use sled_nodes::Error;
 use sled_pages::MemPages;
 use sled_store::Pages;
@@ -27,11 +26,14 @@ const REFUSALS: &str = "with refusals is for a store in memory";
 
 const FOUND: &str = "does not empty a database that was there; name another folder for a new one";
 
-/// A home in files.
+/// Two files.
+type Two = (HostFile, HostFile);
+
+/// A home in the files of a folder, which is made where it is not there.
 #[derive(Drop)]
-pub struct Files<F: Disks> {
-    alloc: Global,
-    disks: F,
+pub struct Files<'a> {
+    rt: &'a HostRuntime,
+    folder: &'a str,
     // Whether a database was there at first.
     is_found: bool,
     mark: u64,
@@ -40,12 +42,30 @@ pub struct Files<F: Disks> {
     refused: Option<Error>,
 }
 
+// The files of a folder. Where they are not opened, why not is added.
+fn open_folder(rt: &HostRuntime, folder: &str, out: &mut Told) -> Result<Two> {
+    let opening = Opening {
+        creates: true,
+        needs_lock: true,
+    };
+    match open_pair(rt, folder, opening) {
+        Ok(pair) => {
+            let Pair {
+                first,
+                second,
+                is_locked: _,
+            } = pair;
+            Ok((first, second))
+        }
+        Err(e) => {
+            writeln!(&mut out.text, "not opened: {e}")?;
+            Err(Stopped)
+        }
+    }
+}
+
 // A store in these files, as they stand for one. Where they do not, why not is added.
-fn open_store<D: Disk + Send>(
-    alloc: Global,
-    files: Two<D>,
-    out: &mut Told,
-) -> Result<FilePages<D>> {
+fn open_store(alloc: Global, files: Two, out: &mut Told) -> Result<FilePages<HostFile>> {
     match FilePages::open(alloc, files.0, files.1) {
         Ok(store) => Ok(store),
         Err(refused) => {
@@ -63,24 +83,24 @@ fn open_store<D: Disk + Send>(
 }
 
 // Takes all out of a file: whether that was done.
-fn empty<D: Disk + Send>(file: &mut D) -> bool {
+fn empty(file: &mut HostFile) -> bool {
     file.cut(0).is_ok() && file.sync().is_ok()
 }
 
 // Makes all durable, if no group is open.
-fn flush<D: Disk + Send>(store: &mut FilePages<D>) -> Result<()> {
+fn flush(store: &mut FilePages<HostFile>) -> Result<()> {
     if !store.in_group() {
         answered(store.flush())?;
     }
     Ok(())
 }
 
-impl<F: Disks> Files<F> {
-    /// Files in which nothing was looked at so far.
-    pub fn new(alloc: Global, disks: F) -> Files<F> {
+impl<'a> Files<'a> {
+    /// The files of a folder, in which nothing was looked at so far.
+    pub fn new(rt: &'a HostRuntime, folder: &'a str) -> Files<'a> {
         Files {
-            alloc,
-            disks,
+            rt,
+            folder,
             is_found: false,
             mark: 0,
             last: Verb::Quit,
@@ -89,13 +109,19 @@ impl<F: Disks> Files<F> {
     }
 
     // What a crash leaves of the files, as a store.
-    fn open_again(&self, files: Two<F::File>, out: &mut Told) -> Result<FilePages<F::File>> {
-        let files = self.disks.again(files, out)?;
-        open_store(self.alloc, files, out)
+    fn open_again(&self, files: Two, out: &mut Told) -> Result<FilePages<HostFile>> {
+        // They are let go of, with all that is not in them.
+        drop(files);
+        let files = open_folder(self.rt, self.folder, out)?;
+        open_store(self.rt.alloc(), files, out)
     }
 
     // A store with nothing in it, in place of the one before.
-    fn emptied(&mut self, store: FilePages<F::File>, out: &mut Told) -> Result<FilePages<F::File>> {
+    fn emptied(
+        &mut self,
+        store: FilePages<HostFile>,
+        out: &mut Told,
+    ) -> Result<FilePages<HostFile>> {
         let mut files = store.into_disks();
         if !empty(&mut files.0) || !empty(&mut files.1) {
             drop(files);
@@ -115,7 +141,7 @@ impl<F: Disks> Files<F> {
     }
 
     // Sets ids aside; a mark that is higher stays.
-    fn set_aside(&mut self, store: FilePages<F::File>, upto: u64) -> FilePages<F::File> {
+    fn set_aside(&mut self, store: FilePages<HostFile>, upto: u64) -> FilePages<HostFile> {
         let mut store = store;
         let done = if upto < store.mark() {
             Ok(())
@@ -132,9 +158,9 @@ impl<F: Disks> Files<F> {
     // What a crash leaves that keeps all actions; but for those of a group that is open, and of what was done beside it.
     fn recovered(
         &mut self,
-        store: FilePages<F::File>,
+        store: FilePages<HostFile>,
         out: &mut Told,
-    ) -> Result<FilePages<F::File>> {
+    ) -> Result<FilePages<HostFile>> {
         let mut store = store;
         let flushed = flush(&mut store);
         let files = store.into_disks();
@@ -148,39 +174,30 @@ impl<F: Disks> Files<F> {
     }
 }
 
-// Adds that a database was found, with the number of its pages, if it was: whether it was.
-fn tell_found<P: Pages, M: MergeOperator>(db: &Db<P, M>, out: &mut Told) -> Result<bool> {
-    if !db.was_recovered() {
-        return Ok(false);
-    }
-    let stats = answered(db.stats())?;
-    tell_numbered(out, b"recovered, pages ", stats.pages, b"").map(|()| true)
-}
+impl Home for Files<'_> {
+    type Store = FilePages<HostFile>;
 
-impl<F: Disks> Home for Files<F> {
-    type Store = FilePages<F::File>;
+    type Held = FilePages<HostFile>;
 
-    type Held = FilePages<F::File>;
+    type Opened = Db<FilePages<HostFile>, Operator>;
 
-    type Opened = Db<FilePages<F::File>, Operator>;
-
-    fn first(&mut self, out: &mut Told) -> Result<FilePages<F::File>> {
-        let files = self.disks.first(out)?;
-        let store = open_store(self.alloc, files, out)?;
+    fn first(&mut self, out: &mut Told) -> Result<FilePages<HostFile>> {
+        let files = open_folder(self.rt, self.folder, out)?;
+        let store = open_store(self.rt.alloc(), files, out)?;
         self.is_found = store.was_recovered();
         Ok(store)
     }
 
-    fn held_of(db: Db<FilePages<F::File>, Operator>) -> FilePages<F::File> {
+    fn held_of(db: Db<FilePages<HostFile>, Operator>) -> FilePages<HostFile> {
         db.into_pages()
     }
 
-    fn store(held: &FilePages<F::File>) -> &FilePages<F::File> {
+    fn store(held: &FilePages<HostFile>) -> &FilePages<HostFile> {
         held
     }
 
     // They are kept otherwise.
-    fn kept(_store: &FilePages<F::File>) -> Option<&MemPages> {
+    fn kept(_store: &FilePages<HostFile>) -> Option<&MemPages> {
         None
     }
 
@@ -212,11 +229,11 @@ impl<F: Disks> Home for Files<F> {
 
     fn change(
         &mut self,
-        held: FilePages<F::File>,
+        held: FilePages<HostFile>,
         verb: Verb,
         arguments: &Arguments,
         out: &mut Told,
-    ) -> Result<FilePages<F::File>> {
+    ) -> Result<FilePages<HostFile>> {
         self.last = verb;
         match verb {
             // Nothing is in the files that was done since the last flush.
@@ -230,28 +247,34 @@ impl<F: Disks> Home for Files<F> {
 
     fn open(
         &mut self,
-        held: FilePages<F::File>,
+        held: FilePages<HostFile>,
         name: &[u8],
-    ) -> std::result::Result<Db<FilePages<F::File>, Operator>, (FilePages<F::File>, Error)> {
+    ) -> std::result::Result<Db<FilePages<HostFile>, Operator>, (FilePages<HostFile>, Error)> {
         if let Some(error) = self.refused.take() {
             return Err((held, error));
         }
-        match Db::open_checked(self.alloc, held, name) {
+        match Db::open_checked(self.rt.alloc(), held, name) {
             Ok(db) => Ok(db.with_operators()),
             Err(refused) => Err(refused),
         }
     }
 
-    fn tell_opening(&self, db: &Db<FilePages<F::File>, Operator>, out: &mut Told) -> Result<bool> {
+    fn tell_opening(&self, db: &Db<FilePages<HostFile>, Operator>, out: &mut Told) -> Result<bool> {
         let opening: &[u8] = match self.last {
-            Verb::Quit => return tell_found(db, out),
+            // The first opening: of a database that was found, or of a new one.
+            Verb::Quit if !db.was_recovered() => return Ok(false),
+            Verb::Quit => {
+                let stats = answered(db.stats())?;
+                tell_numbered(out, b"recovered, pages ", stats.pages, b"")?;
+                return Ok(true);
+            }
             Verb::Crash => b"recovered",
             _ => b"opened",
         };
         tell(out, &[Text(opening)]).map(|()| true)
     }
 
-    fn tell_files(store: &FilePages<F::File>, out: &mut Told) -> Result<()> {
+    fn tell_files(store: &FilePages<HostFile>, out: &mut Told) -> Result<()> {
         let stats = store.stats();
         tell_numbered(out, b"log bytes ", stats.bytes as u64, b" generation ")?;
         tell_numbered(out, b"", stats.generation, b"\n")

@@ -1,11 +1,9 @@
-//! The shell over a database in files. Its argument is the folder of the database, which is made where it is not there; without one the
-//! files are in memory, and gone at the end. What it prints is not proved: it is safe, and it ends.
+//! The shell over a database in files. Its argument is the folder of the database, which is made where it is not there.
+//! What it prints is not proved: it is safe, and it ends.
 #![tactic(auto)]
 
-mod disks;
 mod files;
 
-use disks::{Folder, InMemory};
 use files::Files;
 use line_words::input::Stopped;
 use shell_lines::shell::run;
@@ -13,32 +11,18 @@ use std::env;
 use std::io::{BufReader, BufWriter, IsTerminal, Write};
 use std::process::ExitCode;
 
-// Runs standard input on files in memory: whether each line could be read.
-fn run_in_memory(rt: &HostRuntime, output: &mut impl Write) -> Result<bool, Stopped> {
-    let input = BufReader::new(rt.alloc(), rt.reader())?;
-    let disks = InMemory { alloc: rt.alloc() };
-    run(rt, Files::new(rt.alloc(), disks), input, output, false)
-}
-
 // Runs standard input on the files of a folder: whether each line could be read.
 fn run_in_folder(rt: &HostRuntime, path: &str, output: &mut impl Write) -> Result<bool, Stopped> {
     let input = BufReader::new(rt.alloc(), rt.reader())?;
     let prompts = rt.stdin().is_terminal();
-    run(
-        rt,
-        Files::new(rt.alloc(), Folder { rt, path }),
-        input,
-        output,
-        prompts,
-    )
+    run(rt, Files::new(rt, path), input, output, prompts)
 }
 
 fn run_names(rt: &HostRuntime, names: &[String], output: &mut impl Write) -> Result<bool, Stopped> {
     match names {
-        [] => run_in_memory(rt, output),
         [path] => run_in_folder(rt, path.as_str(), output),
         _ => {
-            writeln!(output, "usage: filesh [FOLDER]")?;
+            writeln!(output, "usage: filesh FOLDER")?;
             Err(Stopped)
         }
     }
