@@ -182,6 +182,16 @@ class Maps:
                 self.put(tree, next(words), next(words))
         return ["done"]
 
+    def make_transaction(self, count, *words):
+        words, writes = iter(words), []
+        for _ in range(int(count)):
+            tree = self.living(next(words), next(words))
+            writes += [(tree, next(words), next(words)) for _ in range(int(next(words)))]
+        stood = [tree.pairs.get(key, "-") for tree, key, _ in writes]
+        for write in writes:
+            self.put(*write)
+        return ["stood", *stood]
+
     def make_flush(self):
         return ["number", None]
 
@@ -373,8 +383,8 @@ class Opening:
             (tree, (source, target, flushes)), value = (call[1:3], call[3:]), answer[1]
             writes = {target: value} if source == target else {source: "-", target: value}
             words = itertools.chain(*((key, writes[key]) for key in sorted(writes, key=bytes_of)))
-            group = (["group", "1", *tree, str(len(writes)), *words], ["done"])
-            return [group, lambda made: made[0] == ["flush"]] if flushes == "yes" else [group]
+            wrote = functools.partial(is_transaction, ["transaction", "1", *tree, str(len(writes)), *words])
+            return [wrote, lambda made: made[0] == ["flush"]] if flushes == "yes" else [wrote]
         return [(call, answer)]
 
     def match_all(self):
@@ -505,9 +515,14 @@ def is_fetch(call, answer, made):
     return swap[5] == added(swap[4], int(more)) and answer == ["value", swap[5 if kind == "update" else 4]]
 
 
+def is_transaction(call, made):
+    """Whether an entry is that of a transaction that wrote this. What stood is compared with the maps."""
+    return made[0] == call
+
+
 def trees_in(call):
     """The trees that a call names."""
-    if call[0] != "group":
+    if call[0] not in ("group", "transaction"):
         yield tuple(call[1:3])
         return
     words = iter(call[2:])

@@ -174,7 +174,7 @@ def refuse_call(lines):
 def read_another(lines):
     """A transaction read what was not there, and wrote that."""
     at, found = lines.find(r"\d+ transfer \S+ \d+ \S+ \S+ \S+ = \d+ value (\S+)")
-    entry = lines.find(rf"entry \d+ group 1 .* {re.escape(found[1])}.*", at)[0]
+    entry = lines.find(rf"entry \d+ transaction 1 .* {re.escape(found[1])}.*", at)[0]
     for place in (at, entry):
         lines.lines[place] = lines.lines[place].replace(found[1], OTHER)
 
@@ -182,7 +182,7 @@ def read_another(lines):
 def abandon(lines):
     """A transaction wrote nothing though there was a value."""
     at, found = lines.find(r"(\d+ transfer .* = \d+) value (\S+)")
-    del lines.lines[lines.find(rf"entry \d+ group 1 .* {re.escape(found[2])}.*", at)[0]]
+    del lines.lines[lines.find(rf"entry \d+ transaction 1 .* {re.escape(found[2])}.*", at)[0]]
     lines.lines[at] = f"{found[1]} abandoned"
 
 

@@ -6,7 +6,7 @@ pub mod Swapping
 pub mod Sharing
 pub mod Together
 pub mod Attempts
-pub mod Adding
+pub mod RaisingOnce
 pub mod Taking
 pub mod Remaining
 pub mod Noting

@@ -29,12 +29,27 @@ impl Text {
         }
     }
 
-    /// Adds the batches of a group, and how many there are.
-    pub fn group(&mut self, batches: &[(Tree, Batch)]) {
-        self.number(b" group ", batches.len() as u64);
+    // Adds a text, how many batches there are, and each of them.
+    fn batches(&mut self, text: &[u8], batches: &[(Tree, Batch)]) {
+        self.number(text, batches.len() as u64);
         for (tree, batch) in batches {
             self.batch(tree, batch);
         }
+    }
+
+    /// Adds the batches of a group, and how many there are.
+    pub fn group(&mut self, batches: &[(Tree, Batch)]) {
+        self.batches(b" group ", batches);
+    }
+
+    // Adds what a transaction wrote, and what stood before at the key of each of its writes.
+    fn transaction(&mut self, batches: &[(Tree, Batch)], stood: &[Option<IVec>]) {
+        self.batches(b" transaction ", batches);
+        self.text(b" = stood");
+        for value in stood {
+            self.value(value);
+        }
+        self.text(b"\n");
     }
 
     // Adds a whole call.
@@ -143,6 +158,9 @@ impl Text {
                 self.text(b"\n");
             }
             Made::Read(read) => self.read(read),
+            Made::Transaction(batches, stood) => {
+                self.transaction(batches.as_slice(), stood.as_slice())
+            }
         }
     }
 

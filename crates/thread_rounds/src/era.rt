@@ -210,8 +210,8 @@ pub fn live<R: Threads + Wait + Sync>(
     match scene_of(plan, &db) {
         Ok(scene) => {
             let (first, second) = (
-                Blank::new(u64::from(plan.callers) + 1),
-                Blank::new(u64::from(plan.callers) + 1),
+                Blank::new(u64::from(scene.plan.callers) + 1),
+                Blank::new(u64::from(scene.plan.callers) + 1),
             );
             let left = run::<std::marker::Brand, std::marker::Brand, R>(
                 rt, &scene, fate, all, db, first, second,

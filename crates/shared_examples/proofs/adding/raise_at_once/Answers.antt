@@ -1,5 +1,5 @@
 use Rattle.std.proofs.Common.{rules}
-use Rattle.shared_examples.proofs.Adding.{added, not_added}
+use Rattle.shared_examples.proofs.RaisingOnce.{added, not_added}
 use Rattle.shared_examples.proofs.adding.raise_at_once.Goals as goal
 
 pub returns-clause-ok : goal.returns-clause-ok
