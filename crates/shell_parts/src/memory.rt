@@ -133,11 +133,7 @@ impl Home for Memory {
         }
     }
 
-    fn open(
-        &mut self,
-        held: Held,
-        name: &[u8],
-    ) -> Result<Db<MemPages, Operator>, (Held, Error)> {
+    fn open(&mut self, held: Held, name: &[u8]) -> Result<Db<MemPages, Operator>, (Held, Error)> {
         match self.refused.take() {
             Some(error) => Err((held, error)),
             None => held.open(self.alloc, name),
@@ -145,11 +141,7 @@ impl Home for Memory {
     }
 
     // Of the first opening nothing is told.
-    fn tell_opening(
-        &self,
-        _db: &Db<MemPages, Operator>,
-        out: &mut Told,
-    ) -> Result<bool, Stopped> {
+    fn tell_opening(&self, _db: &Db<MemPages, Operator>, out: &mut Told) -> Result<bool, Stopped> {
         match self.last {
             Verb::Quit => Ok(false),
             Verb::Crash => tell(out, &[Text(b"recovered")]).map(|()| true),
