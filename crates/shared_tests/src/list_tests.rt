@@ -93,16 +93,18 @@ fn is_decided(outcome: Outcome) -> bool {
 fn move_twice<L: Ledger, R: Wait + Abort>(
     rt: &R,
     alloc: Global,
-    trees: &[&Tree],
+    from: &Tree,
+    to: &Tree,
     one: &mut Way<L>,
     other: &mut Way<L>,
 ) {
+    let trees = [from, to];
     require(
         rt,
-        is_decided(one.insert(rt, alloc, trees[0], b"a", b"21")),
+        is_decided(one.insert(rt, alloc, from, b"a", b"21")),
         "an insert",
     );
-    require(rt, is_answer(move_over(rt, other, trees), 2), "a move");
+    require(rt, is_answer(move_over(rt, other, &trees), 2), "a move");
     let noted = match other.made() {
         [group, flush] => is_move(group) && is_flush(flush),
         _ => false,
@@ -110,7 +112,7 @@ fn move_twice<L: Ledger, R: Wait + Abort>(
     require(rt, noted, "what stood, and the flush behind it");
     require(
         rt,
-        is_given_up(move_over(rt, one, trees)),
+        is_given_up(move_over(rt, one, &trees)),
         "nothing to move",
     );
     require(rt, one.made().len() == 1, "an insert alone");
@@ -240,7 +242,7 @@ where
     };
     let mut one = shared.handle(alloc).expect(rt, "a handle");
     let mut other = shared.handle(alloc).expect(rt, "a handle");
-    move_twice(rt, alloc, &[&from, &to], &mut one, &mut other);
+    move_twice(rt, alloc, &from, &to, &mut one, &mut other);
     refuse_foreign(rt, &from, &mut one);
     walk_beside(rt, alloc, &keys, &mut one, &mut other);
     let handles = vec![in alloc; one, other].expect(rt, "memory");
