@@ -13,9 +13,9 @@ use sled_model::MergeOperator;
 use sled_store::Pages;
 use tree_transactions::{TransactionAnswer, TransactionalTree, TransactionalTrees};
 
-/// Does nothing. Here the record of what is made of a database begins: nothing was made since it had the collections that it has, and a crash
-/// may leave what it might leave now, of which the maps now are the last while it is open. Just after an
-/// opening or a flush there are no others.
+/// Does nothing. Here the record of what is made of a database begins: nothing was made since it had the collections that it has. A crash
+/// may leave what it might leave now, and while the database is open the last of those are the maps as they are now. Just after an opening
+/// or a flush there are no others.
 ///
 /// ```
 /// audit_opening(&db); // From here on a proof knows it.
