@@ -2,9 +2,9 @@
 //! refuse calls, each call in turn, and the maps that are found are compared with maps that the test keeps itself. It prints how many
 //! cases there were and how many passed, and of each that failed the numbers that make it again.
 //!
-//! Its words say what is run: `calls` (each call of a disk refused, and crashes after that and after each step), `files` (a file that is
-//! begun anew), `bits` (each bit of a file turned, and each cut of one), and `numbers` (that none is given twice). It prints each of them
-//! before what comes of it.
+//! Its words say what is run: `calls`, `files`, `bits` and `numbers`. `calls` refuses each call of a disk, and crashes after that and after
+//! each step; `files` tests a file that is begun anew. `bits` turns each bit of a file, and cuts it at each place; `numbers` tests that no
+//! number is given twice. It prints each of them before what comes of it.
 #![tactic(auto)]
 
 mod begun;
