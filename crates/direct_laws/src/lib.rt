@@ -15,8 +15,8 @@ use sled_model::MergeOperator;
 use sled_store::Pages;
 
 /// Does nothing. A call on a key that a database makes at once goes on for fewer steps than `alone_steps` tells of the pages as it begins,
-/// whatever was left half done: what is left to repair in its tree and one more, times four more than twice the pages of the tree and what
-/// is left to repair. So where this number is 1,000,000 at most the call is never refused for its turns.
+/// whatever was left half done. That number is a product: what is left to repair in its tree and one more, times four more than twice the
+/// pages of the tree and what is left to repair. So where this number is 1,000,000 at most the call is never refused for its turns.
 ///
 /// ```
 /// law_direct::<MemPages, Adds>(); // From here on a proof knows it.
@@ -25,10 +25,10 @@ pub fn law_direct<P: Pages, M: MergeOperator>()
     ensures { DirectLaw P.store M.meant }
 {}
 
-/// Does nothing. A call in flight on a key that is finished, whatever its stage is and whatever other calls left half done, goes on for no
-/// more steps than `resumed_steps` tells of the pages at that moment, if nobody else does a step meanwhile. So where it has more turns left
-/// than that it is not refused for its turns. Asked is that what it knows of pages is true, as of every call in flight, and that a split that
-/// it has begun has the halves that a split makes (`law_halves` of `tree_progress`).
+/// Does nothing. A call in flight on a key that is finished goes on for no more steps than `resumed_steps` tells of the pages at that
+/// moment, if nobody else does a step meanwhile. Its stage may be any, and other calls may have left anything half done. So where it has
+/// more turns left than that it is not refused for its turns. Asked is that what it knows of pages is true, as of every call in flight, and
+/// that a split that it has begun has the halves that a split makes (`law_halves` of `tree_progress`).
 ///
 /// ```
 /// law_finish::<MemPages, Adds>(); // From here on a proof knows it.
