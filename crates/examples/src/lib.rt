@@ -1,8 +1,8 @@
 //! Callers of a database that are proved from public contracts alone, as a user would write them: what those contracts say is enough to
-//! build on. `index` is an example of a scan, `queue` of a database that takes pairs out, `copy` of one that gets the trees of another,
-//! `typed` of a type of one's own that keys of `typed_map` may have, `counters` of a merge operator and of a closure, `endings` of a subscriber that keeps
-//! an index, and begins anew where it missed events, `stock` of two trees that groups keep in step, `batches` of many pairs that are
-//! loaded a hundred at a time, and `ranges` of keys that are removed by their bounds.
+//! build on. `index` is an example of a scan, `queue` of a database that takes pairs out, and `copy` of one that gets the trees of another.
+//! `typed` has a type of one's own that keys of `typed_map` may have, and `counters` a merge operator and a closure. In `endings` a
+//! subscriber keeps an index, and begins anew after it missed events. In `stock` groups keep two trees in step, `batches` loads many pairs,
+//! a hundred at a time, and `ranges` removes keys by their bounds.
 #![tactic(auto)]
 
 mod batches;
