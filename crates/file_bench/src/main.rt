@@ -4,9 +4,9 @@
 //!
 //! Each workload opens the database in the folder, and lets go of it. They are `load`, which inserts so many pairs and flushes after each
 //! FLUSH of them, and at the end; and `scan`, which reads all pairs. Keys are 8 bytes that look random, and values have SHORTEST to LONGEST
-//! bytes. Each workload prints its name, how many calls it made and a checksum of their answers; and on standard error `open` and the time
-//! that the opening took, and its name and the time that it took, in microseconds of the clock. The status is 1 for other words, and where
-//! anything failed.
+//! bytes. Each workload prints its name, how many calls it made and a checksum of their answers. On standard error it prints `open` and the
+//! time that the opening took, and then its name and the time that it took, both in microseconds of the clock. The status is 1 for other
+//! words, and where anything failed.
 #![tactic(auto)]
 
 mod pairs;
