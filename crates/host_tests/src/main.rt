@@ -1,5 +1,5 @@
-//! The two files of a store, as the operating system keeps them: what was written is read at the next opening, a file is read until it is
-//! changed, a store is opened once, and what is no store is refused. It prints what came of each; `stdout` has what should have come.
+//! The two files of a store, as the operating system keeps them. What was written is read at the next opening, and a file is read until it
+//! is changed. A store is opened once, and what is no store is refused. It prints what came of each; `stdout` has what should have come.
 #![tactic(auto)]
 
 mod act;
