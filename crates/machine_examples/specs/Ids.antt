@@ -19,8 +19,8 @@ pub record Rise (ids : List ℕ) : Type 0 where
   pub high : ℕ
   pub between : RiseBetween low ids high
 
--- Any number of runs of machines over a store, one after the other, each on the machine that the one before left, or on what an opening
--- made of its pages or of what a crash left of them; and the ids that they gave, in order
+-- Any number of runs of machines over a store, one after the other, and the ids that they gave, in order. Each run is on the machine that
+-- the one before left, or on what an opening made of its pages or of what a crash left of them
 pub data Lives {P M : Type 0} (store : P → Store) (flush_number : P → ℕ) (meant : M → Merge) : MachineValue P M → List ℕ → MachineValue P M → Type 0 where
   Runs : {a b : MachineValue P M} {steps : List Step} {outcomes : List Outcome} → MachineSteps store flush_number meant a steps outcomes b → Lives store flush_number meant a (ids_of steps outcomes) b
   RunsAgain : {a b c d : MachineValue P M} {ids : List ℕ} {keep : ℕ} {left : Store} {name : Key} {steps : List Step} {outcomes : List Outcome}
