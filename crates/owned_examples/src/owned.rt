@@ -103,9 +103,9 @@ fn write<P: Pages, M: MergeOperator>(
 
 /// Opens a database over new pages, and makes an insert of a key, a transaction that writes two others, a flush and another insert of the key,
 /// each whatever came of those before. Then its store crashes, and keeps at most so many of the last actions, and what is left is opened again.
-/// Returns which of the four succeeded, and the pages. What is found is what a crash may leave of the calls that succeeded, in this order: if
-/// the flush succeeded it is what they gave up to there, or up to the last of them; and else what some beginning of them gave. Refused as an
-/// opening is, and with `NoMemory`.
+/// Returns which of the four succeeded, and the pages. What is found is what a crash may leave of the calls that succeeded, in this order.
+/// If the flush succeeded, it is what they gave up to there, or up to the last of them; else it is what some beginning of them gave.
+/// Refused as an opening is, and with `NoMemory`.
 ///
 /// ```
 /// let (written, pages) = write_and_crash(alloc, b"shop", b"order", b"17", b"18", b"stock", b"log", 3)?;
