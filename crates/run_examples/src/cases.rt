@@ -16,8 +16,8 @@ use crate::typed::reads_readings;
 use crate::users::{are_in_step, gives};
 use std::alloc::Global;
 
-/// What is done with the two trees of a database at a time: the cases of a new one, and then those that only change it before a crash, and
-/// those that only see whether it is after one as it should be.
+/// What is done with the two trees of a database at a time. First are the cases of a new one, then those that only change it before a
+/// crash, and then those that only see whether it is as it should be after one.
 #[derive(Clone, Copy)]
 pub enum Case {
     FindsEntries,
