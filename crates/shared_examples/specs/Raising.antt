@@ -164,8 +164,9 @@ IsPartOrFlush tree key m = is_part tree key m ⊎ IsFlush m
 abbrev pub StandsBetween : Tree → Key → ℕ → ℕ → Maps → Type 0
 StandsBetween tree key low high maps = (low ≤ number_in (value_at maps tree.name key)) × (number_in (value_at maps tree.name key) ≤ high)
 
--- Over a crash no raise comes from nowhere, and none is lost that was flushed: of a history of parts of raises and of flushes, what a crash may leave
--- has a number that is higher than in the beginning by as many at least as succeeded before any of the flushes, and never above that at the end
+-- Over a crash no raise comes from nowhere, and none is lost that was flushed. Of a history of parts of raises and of flushes: in what a
+-- crash may leave, the number has grown since the beginning by at least as many as succeeded before any of the flushes. It is never above
+-- what it is at the end
 abbrev pub CrashedLaw : Type 0
 CrashedLaw = (old new : Maps) (before left : List Maps) (tree : Tree) (key : Key) (history : List EntryValue) → LeadsThrough old before history new left → AllByRecursion (IsPartOrFlush tree key) (made_in history)
     → (early late : List MadeValue) (flush : MadeValue) → made_in history ≡ early ++ flush ∷ late → IsFlush flush

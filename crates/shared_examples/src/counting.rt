@@ -46,8 +46,8 @@ pub fn add_one<P: Pages, L: Ledger, M: MergeOperator>(
     }
 }
 
-/// Of a legal history in which each call is a merge at a key, or leaves what stands there: at the end the key has what the last merge replied,
-/// and each read of it replied what the last merge before it did.
+/// Of a legal history in which each call is a merge at a key, or leaves the key as it is: at the end the key has what the last merge
+/// replied. Each read of it replied what the last merge before it did.
 ///
 /// ```
 /// law_merges(); // From here on a proof knows it.

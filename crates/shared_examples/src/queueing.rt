@@ -93,8 +93,9 @@ pub fn take<P: Pages, L: Ledger, M: MergeOperator>(
 }
 
 /// Each job is taken at most once, and none is lost. Of a legal history in which each call is an insert, a pop of a first pair, or leaves all keys of
-/// the queue: what was taken had been inserted before, or stood there from the beginning; between two takes of one key the job that the second took was
-/// inserted there; and what was inserted, or stood there from the beginning, stands at the end, unless it was taken or another was inserted at its key.
+/// the queue as they are: what was taken had been inserted before, or was there from the beginning. Between two takes of one key the job
+/// that the second took was inserted there. What was inserted, or was there from the beginning, is there at the end, unless it was taken or
+/// another was inserted at its key.
 ///
 /// ```
 /// law_queue(); // From here on a proof knows it.

@@ -186,8 +186,8 @@ pub fn raise<P: Pages, L: Ledger, M: MergeOperator>(
     Raised::Overtaken
 }
 
-/// No update is lost. Of a legal history in which each call is a swap at a key, or leaves what stands there: each swap that succeeded found what the
-/// one before it wrote, the first found what stood in the beginning, and what the last wrote stands at the end.
+/// No update is lost. Of a legal history in which each call is a swap at a key, or leaves the key as it is: each swap that succeeded found
+/// what the one before it wrote. The first found what was there in the beginning, and what the last wrote is there at the end.
 ///
 /// ```
 /// law_swaps(); // From here on a proof knows it.
@@ -224,9 +224,9 @@ pub fn law_raised()
     ensures { RaisedLaw }
 {}
 
-/// Over a crash no raise comes from nowhere, and none is lost that was flushed. Of a history in which each entry is a part of a raise of one number, or a
-/// flush: in all maps that a crash may leave the number is higher than in the beginning by as many raises at least as succeeded before any of the
-/// flushes, and it is never above that at the end.
+/// Over a crash no raise comes from nowhere, and none is lost that was flushed. Each entry of the history is a part of a raise of one
+/// number, or a flush. Then in all maps that a crash may leave, the number has grown since the beginning by at least as many raises as
+/// succeeded before any of the flushes. It is never above what it is at the end.
 ///
 /// ```
 /// law_crashed(); // From here on a proof knows it.
