@@ -91,11 +91,11 @@ pub enum Verb {
 // A row of the table: a command's own words, what it takes, who answers it, and what it does.
 struct Command(&'static str, &'static str, Verb, &'static str);
 
-// What a command takes has words of its own: K, V, P, OLD, NEW, DATABASE, TYPE, NAME, TREE and FILE are byte strings, of which OLD, NEW and TREE
-// may be `-`; LO and HI are bounds, OPERATOR a merge operator, HOW what is made of a value, [WORD] two words at the most, and the others
-// numbers. `..` stands for more of the word before it, `K V ..` and `K NEW ..` for pairs, and `; ..` for more of all that stands before it.
-// A line `page` has the words of one page. PART is a part of a transaction and END how it ends; in front of a PART, P is the position of a tree.
-// The table is several lists, since whoever names a list has all of it in its proof.
+// What a command takes has words of its own. K, V, P, OLD, NEW, DATABASE, TYPE, NAME, TREE and FILE are byte strings, of which OLD, NEW and
+// TREE may be `-`. LO and HI are bounds, OPERATOR is a merge operator, and HOW what is made of a value. [WORD] is two words at the most,
+// and the others are numbers. `..` stands for more of the word before it, `K V ..` and `K NEW ..` for pairs, and `; ..` for more of all
+// that stands before it. A line `page` has the words of one page. PART is a part of a transaction and END how it ends; in front of a PART,
+// P is the position of a tree. The table is several lists, since whoever names a list has all of it in its proof.
 #[rattlefmt::skip]
 static KEY: [Command; 8] = [
     Command("insert", "K V", Verb::Insert, "sets the value at a key, and prints the one that stood there"),
