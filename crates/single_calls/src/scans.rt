@@ -6,9 +6,9 @@ use sled_calls::{Machine, law_scans};
 use sled_model::{MergeOperator, Outcome, Slot};
 use sled_store::Pages;
 
-/// A step of a scan. Where it ends the scan, each key within the bounds that was there at each step of the scan was given, whatever
-/// other calls did in between; so one that was not given was absent at some step, and may be there all the same. Beside it, whether
-/// such a key was absent throughout: it was, where the caller knows that since the begin each step of a slot went on or gave a pair.
+/// A step of a scan. If it ends the scan, each key within the bounds that was there at each step of the scan was given, whatever other
+/// calls did in between. So one that was not given was absent at some step, and may be there all the same. Beside it, whether such a key
+/// was absent throughout: it was, where the caller knows that since the begin each step of a slot went on or gave a pair.
 pub fn end_scan<P: Pages, M: MergeOperator>(
     machine: &mut Machine<P, M>,
     slot: Slot,
