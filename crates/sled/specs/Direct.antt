@@ -104,9 +104,9 @@ effect_of_whole InParts (outcome.Decided reply) old new = effects_until None old
 effect_of_whole InParts (outcome.Refused e) old new = effects_until (Some e) old new
 effect_of_whole kind o old new = ⊥
 
--- what a decided whole call may change of the database: its pages; and one that removes or imports keys the queues, one that opens a
--- tree the list of trees, one that drops a tree that list and the operators, one that takes an id the greatest that was given. One that
--- learns of changes touches the queues alone
+-- what a decided whole call may change of the database: its pages. One that removes or imports keys may change the queues too, one that
+-- opens a tree the list of trees, and one that drops a tree that list and the operators. One that takes an id may change the greatest that
+-- was given. One that learns of changes touches the queues alone
 abbrev pub changes_only : {P M : Type 0} → Whole → DbValue P M → DbValue P M → Type 0
 changes_only Flush old new = new ≡ record old { pages = new.pages }
 changes_only (OpenTree name) old new = new ≡ record old { pages = new.pages; trees = new.trees; trees_given = new.trees_given }

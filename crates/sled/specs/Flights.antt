@@ -96,8 +96,8 @@ abbrev pub keeps_queues : Went → QueuesValue → QueuesValue → Type 0
 keeps_queues (Decided reply) old new = new.given ≡ old.given
 keeps_queues other old new = Becomes (queue_at old) old.given new
 
--- One step of a call in flight: in whatever slot the call is, the machine makes this step; what a crash may leave grows by the map
--- after the call, if it was decided; and nothing of the database changes but its pages and its queues
+-- One step of a call in flight. In whatever slot the call is, the machine makes this step, and what a crash may leave grows by the map
+-- after the call, if it was decided. Nothing of the database changes but its pages and its queues
 pub record DbStep {P M : Type 0} (store : P → Store) (meant : M → Merge) (old : DbValue P M) (f : InFlight) (went : Went) (new : DbValue P M) (g : InFlight) : Type 0 where
   pub steps : (slots : ℕ → Option CallInFlight) (slots_given slot before after : ℕ) → slots slot ≡ Some (call_in_flight_of f)
       → Transition (configuration_of store meant old slots slots_given before) (step.Step slot) (outcome_of went) (configuration_of store meant new (put_at slots slot (slot_after went g)) slots_given after) (maps_added went (maps_of (db_state store meant new)))

@@ -52,8 +52,8 @@ module _ {P M : Type 0} (store : P → Store) (meant : M → Merge) (old : DbVal
     pub ends : is_end named.map (Some pair)
     pub long : (path : List ℕ) → IsClean (now (store old.pages)) tree.name (Included pair.0) path → turns_limit ≤ length path
 
-  -- A pop is told that its turns were used up only where the tree has so many pages that this function of their number comes to the
-  -- limit of a read, or where there was something to repair on the way to the key, or the way has so many levels
+  -- A pop is refused for its turns only in three cases. The tree has so many pages that this function of their number comes to the limit of
+  -- a read, or there was something to repair on the way to the key, or the way has so many levels
   pub record GivesUpPop (is_end : Map → Option (Key × Key) → Type 0) (of : ℕ → ℕ) (e : Error) : Type 0 where
     pub is : TellsTurns e → (MOST_PAGES ≤ of (tree_pages (now (store old.pages)) tree.name)) ⊎ IsLongWay is_end
 

@@ -49,8 +49,8 @@ abbrev pub flushes_as : {P M : Type 0} → (P → Store) → (P → ℕ) → (M 
 flushes_as store flush_number meant false old new = new ≡ old
 flushes_as store flush_number meant true old new = (number : ℕ) × FlushesDb store flush_number meant old number new
 
--- How a transaction ends. Of it are told the tests that come before it, to what end the closure was run, which batches are made of what it
--- wrote, and whether there are any trees: without trees a flush that is asked for is passed over
+-- How a transaction ends. Of it are told the tests that come before it, to what end the closure was run, and which batches are made of what
+-- it wrote. And whether there are any trees: without trees a flush that is asked for is passed over
 module _ {P M A E W : Type 0} (store : P → Store) (flush_number : P → ℕ) (meant : M → Merge) (tests : Error → Type 0) (reaches : Result (Commit A W) (TransactionError E) → Store → ℕ → Type 0) (batches_of : W → List (Tree × Writes)) (has_trees : Bool) (old : DbValue P M) where
   -- the closure was run to this end, and nothing is written so far
   pub record RunsTo (ended : Result (Commit A W) (TransactionError E)) (new : DbValue P M) : Type 0 where

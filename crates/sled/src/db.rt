@@ -105,9 +105,8 @@ impl<P: Pages, M: MergeOperator> Db<P, M> {
     ghost use Rattle.sled.specs.Operators.{without_operators};
     ghost use Rattle.sled_queues.specs.Queues.{AreQueues};
 
-    /// What holds of every database: its pages are well formed now and in every state that a crash may leave, its trees are
-    /// those that the pages have roots for, the pairs of each of its maps rise by key, and at most 1024 events wait for a
-    /// subscriber. It does nothing.
+    /// What holds of every database: its pages are well formed now and in every state that a crash may leave, and its trees are those that
+    /// the pages have roots for. The pairs of each of its maps rise by key, and at most 1024 events wait for a subscriber. It does nothing.
     ///
     /// ```
     /// db.audit(); // From here on a proof knows that `db` is well formed.
@@ -392,8 +391,8 @@ impl<P: Pages, M: MergeOperator> Db<P, M> {
         }
     }
 
-    /// A call on a key that passed the tests, made at once where nothing is to be repaired on the way to its leaf and nobody waits for what
-    /// happens to its key, by the steps of a call in flight from its begin to its end. Else it does nothing, and answers `None`.
+    /// A call on a key that passed the tests, made at once by the steps of a call in flight from its begin to its end. That is if nothing
+    /// is to be repaired on the way to its leaf, and nobody waits for what happens to its key. Else it does nothing, and answers `None`.
     ///
     /// ```
     /// db.check_call(&tree, &call)?; // The tests, which `make_quick` does not repeat.

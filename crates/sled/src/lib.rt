@@ -4,8 +4,9 @@
 //! are well formed, now and in every state that a crash may leave (`specs/Sound`); `Db::audit` tells callers so. One step of
 //! a call in flight is a step of the model, adds the map after the call to what a crash may leave if it was decided, and
 //! keeps true what every other call in flight knows (`specs/Flights`). Opening, flushing and exporting are stated in
-//! `specs/Opens`, `specs/Checked`, `specs/Flush` and `specs/Export`, reads that take no slot in `specs/Reads`, writes that take none in
-//! `specs/Direct`, the parts that a clear and an import did in `specs/Parts`, transactions in `specs/Transactions`, and subscribers in `specs/Watch`.
+//! `specs/Opens`, `specs/Checked`, `specs/Flush` and `specs/Export`. Reads that take no slot are in `specs/Reads`, writes that take none in
+//! `specs/Direct`, and the parts that a clear and an import did in `specs/Parts`. Transactions are in `specs/Transactions`, and subscribers
+//! in `specs/Watch`.
 #![tactic(auto)]
 
 mod db;

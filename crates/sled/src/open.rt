@@ -170,8 +170,8 @@ impl<P: Pages> Db<P> {
     /// Opens the database that the pages hold, whatever they are, after a check of them (`verify_integrity`). It takes as long as a look at
     /// all of them.
     ///
-    /// Refused with `Corruption` where they are not well formed, with the codes of `verify_integrity`, and with `GROUP_IS_OPEN` where a group
-    /// of writes stands open, as a group that was refused midway leaves it; with `Io` where a page is not readable, and with `NoMemory`: then
+    /// Refused with `Corruption` if they are not well formed, with the codes of `verify_integrity`, and with `GROUP_IS_OPEN` if a group of
+    /// writes is open, as a group that was refused midway leaves it. Refused with `Io` if a page is not readable, and with `NoMemory`. Then
     /// the pages that are given back are as they were. And refused as `open` is.
     ///
     /// ```

@@ -207,11 +207,11 @@ impl<P: Pages, M: MergeOperator> Db<P, M> {
     /// Runs a closure as a transaction of a tree: all that it writes is made, or nothing. Inside, reads see its own writes first, and then
     /// the tree as it is.
     ///
-    /// The closure ends by `Ok`, and then what it wrote is made as one batch (`apply_batch`), and a flush follows where it asked for one;
-    /// by `abort`, and then nothing is written and its error is the answer; or by a refusal, as `?` passes on those of the calls inside. It
-    /// is run again, with nothing written, while it ends by `Conflict`, which no call inside answers, up to a million times in all. So that
-    /// it can take ids inside, 4096 are set aside first where fewer than 1024 are, or as many as are left up to the greatest `u64`, unless the
-    /// store or memory refuses that, which is passed over; those that it takes stay taken, however it ends.
+    /// If the closure ends by `Ok`, what it wrote is made as one batch (`apply_batch`), and a flush follows if it asked for one. If it ends
+    /// by `abort`, nothing is written and its error is the answer. It may also end by a refusal, as `?` passes on those of the calls
+    /// inside. It is run again, with nothing written, while it ends by `Conflict`, which no call inside answers, up to a million times in
+    /// all. So that it can take ids inside, 4096 are set aside first if fewer than 1024 are, or as many as are left up to the greatest
+    /// `u64`. If the store or memory refuses that, it is passed over. Those that it takes stay taken, however it ends.
     ///
     /// Refused by the tests of the tree; as the closure is; with `ReportableBug` after a million conflicts; as a batch is, which may close
     /// the database; and as the flush is, and then what was written stands.
