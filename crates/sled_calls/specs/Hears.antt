@@ -72,9 +72,9 @@ pub record Hears {P M : Type 0} (store : P → Store) (flush_number : P → ℕ)
   -- the queues after the steps are those that their turns make of them
   pub queues : (a b : MachineValue P M) (steps : List Step) (outcomes : List Outcome) (run : MakesSteps store flush_number meant a steps outcomes b)
       → queues_at b ≡ after_turns (turns_of_run store flush_number meant run) (queues_at a)
-  -- what its calls told it, with n events at each `Missed(n)`, then as many as its count, and then those that wait for it, are what it had
-  -- at first and then the events under its prefix of its tree that the decided calls brought, each once and in the order of their
-  -- decisions, while the count was never at the greatest u64
+  -- Two lists are equal while the count was never at the greatest u64. The one is what its calls told it, with n events at each
+  -- `Missed(n)`, then as many as its count, and then those that wait for it. The other is what it had at first, and then the events under
+  -- its prefix of its tree that the decided calls brought, each once and in the order of their decisions
   pub hears : (a b : MachineValue P M) (steps : List Step) (outcomes : List Outcome) (run : MakesSteps store flush_number meant a steps outcomes b)
       → (n : ℕ) (q : Queue) → queues_at a n ≡ Some q → IsKept n steps
       → hearing.CountsAll n (turns_of_run store flush_number meant run) (queues_at a) → (all : List Event) → hearing.Holds q.backlog all

@@ -19,8 +19,8 @@ use Rattle.sled_calls.specs.CrashMaps.{AreCrashMaps, crash_maps_after}
 use Rattle.sled_calls.specs.Step.{MachineStep, MachineStepContract}
 use Rattle.sled_calls.specs.Values.{MachineValue, configuration_of}
 
--- A run, with the list of maps that a crash might leave before it and the list after it:
--- the map at the last flush that was decided, if there was one, else the list before; and then the map after each call that was decided since
+-- A run, with the list of maps that a crash might leave before it and the list after it. The later list begins with the map at the last
+-- flush that was decided, if there was one, else with the list before; then comes the map after each call that was decided since
 pub data RunsWithCrashMaps {P M : Type 0} (store : P → Store) (flush_number : P → ℕ) (meant : M → Merge) : MachineValue P M → List Maps → List Step → List Outcome → MachineValue P M → List Maps → Type 0 where
   KeepsAll : {m : MachineValue P M} {kept : List Maps} → RunsWithCrashMaps store flush_number meant m kept [] [] m kept
   KeepsMore : {a m b : MachineValue P M} {step : Step} {steps : List Step} {outcome : Outcome} {outcomes : List Outcome} {kept last : List Maps}

@@ -45,8 +45,8 @@ use Rattle.sled_calls.specs.CrashMaps.{AreCrashMaps, crash_maps_after}
 use Rattle.sled_calls.specs.StepsInSlot.{flight_after}
 use Rattle.sled_calls.specs.Values.{MachineValue, kept_at, configuration_of}
 
--- One step of the machine is a step of the model, which adds these maps to those after each decided call; and whatever maps a crash
--- might leave before it, after it they are those that the step makes of them
+-- One step of the machine is a step of the model, which adds these maps to those after each decided call. Whatever maps a crash might leave
+-- before it, those that it might leave after it are what the step makes of them
 pub record MachineStep {P M : Type 0} (store : P → Store) (flush_number : P → ℕ) (meant : M → Merge) (old : MachineValue P M) (s : Step) (o : Outcome) (new : MachineValue P M) : Type 0 where
   pub maps : List Maps
   pub step : Transition (configuration_of store flush_number meant old) s o (configuration_of store flush_number meant new) maps

@@ -28,16 +28,16 @@ pub fn law_flushed()
     ensures { FlushedLaw }
 {}
 
-/// Over every list of steps a subscriber is told each event under its prefix of its tree once, in the order of the decisions, or how
-/// many it missed; and while it misses none and the database is open, a copy that it changes by them follows the map of its tree.
+/// Over every list of steps a subscriber gets each event under its prefix of its tree once, in the order of the decisions, or learns how
+/// many it missed. While it misses none and the database is open, a copy that it changes by them follows the map of its tree.
 pub fn law_hears<P: Pages, M: MergeOperator>()
     ensures { Hears P.store P.flush_number M.meant }
 {}
 
 /// Over every list of steps that follows its begin, whatever other calls do between its own, a scan gives pairs whose keys lie within
-/// its bounds and strictly rise or, backwards, fall; each of them was in the map of its tree at some moment since the begin; and where
-/// it ends it has given each key within its bounds that was in the map at each of its steps. Beside the steps there may be calls that
-/// are none, as `update_and_fetch` or a transaction.
+/// its bounds and strictly rise or, backwards, fall. Each of them was in the map of its tree at some moment since the begin. When the scan
+/// ends, it has given each key within its bounds that was in the map at each of its steps. Beside the steps there may be calls that are
+/// none, as `update_and_fetch` or a transaction.
 pub fn law_scans<P: Pages, M: MergeOperator>()
     ensures { Scans P.store P.flush_number M.meant }
 {}

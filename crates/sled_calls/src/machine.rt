@@ -119,7 +119,7 @@ impl<P: Pages, M: MergeOperator> Machine<P, M> {
         db
     }
 
-    /// What holds of every machine: that its database is as it should be, the pairs of each of its maps rise by key, at most 1024 events
+    /// What holds of every machine: its database is as it should be, and the pairs of each of its maps rise by key. At most 1024 events
     /// wait for a subscriber, and no call is in a slot that is yet to be given. It does nothing.
     ///
     /// ```

@@ -40,8 +40,9 @@ impl<P: Pages, M: MergeOperator> Machine<P, M> {
     /// take memory, and are made before the action that decides it: where there is none the call is refused with `NoMemory`, and then it
     /// changed no map. Of `Next`, which gives each event once, the copies are `Done`.
     ///
-    /// The number tells how many parts a `Clear` or an `Import` did, also of one that is refused midway: keys that it took out, or trees
-    /// that it opened and pairs that it put in; `u64::MAX` stands for as many or more. Of any other call it is 0.
+    /// The number tells how many parts a `Clear` or an `Import` did, also of one that is refused midway. Of a `Clear` it counts the keys
+    /// that it took out, of an `Import` the trees that it opened and the pairs that it put in. `u64::MAX` stands for as many or more. Of
+    /// any other call it is 0.
     ///
     /// ```
     /// match machine.whole_kept(Whole::PopMin(tree)) {
