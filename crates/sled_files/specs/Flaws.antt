@@ -28,7 +28,8 @@ pub record HasOtherFormat (other : ℕ) (bytes : List ℕ) : Type 0 where
   pub number : format_in payload ≡ other
   pub is_other : other ≡ format → ⊥
 
--- a payload that begins with the name of the format, and has no room for the rest of a header
+-- If the payload begins with the name of the format, it ends before the number of the format does, or that number is this format's, and it
+-- ends before the header does
 abbrev pub IsCutShort : List ℕ → Type 0
 IsCutShort payload = take 8 payload ≡ magic → (length payload < 12) ⊎ ((format_in payload ≡ format) × (length payload < 20))
 

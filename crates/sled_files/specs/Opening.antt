@@ -32,7 +32,8 @@ pub record IsReopened (d : Durable) (s : Store) : Type 0 where
   pub faults : s.faults ≡ 0
   pub readable : (p : ℕ) → s.is_readable p ≡ true
 
--- why two files are not opened: for want of memory, or as they are of no store. At most one thing is found to be wrong with them
+-- Why two files are not opened, if no disk refused a call. Memory ran out, or they are not the files of a store, and the error names the
+-- first thing that is wrong with them
 abbrev pub is_why_unopened : OpenError → List ℕ → List ℕ → Type 0
 is_why_unopened NoMemory first second = Unit {0}
 is_why_unopened (Disk e) first second = ⊥
