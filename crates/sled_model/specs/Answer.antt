@@ -35,7 +35,7 @@ abbrev pub effect_of_write : Option Key → Effect
 effect_of_write None = effect.Remove
 effect_of_write (Some v) = effect.Set v
 
--- a swap, where `value` stands: it is written even where it is equal, and removes even where none stands
+-- a swap, at a key that has `value`: it writes even if the new value is equal, and removes even if there is none
 abbrev pub decision_of_swap : Option Key → Option Key → Option Key → Decision
 decision_of_swap value old new =
     if same_value value old
@@ -46,13 +46,13 @@ decision_of_swap value old new =
 abbrev pub decision_of_write : Option Key → Decision
 decision_of_write new = record { effect = effect_of_write new; reply = Value new }
 
--- a merge writes what the operator makes of the value that stands and the bytes. Without an operator, where it must be refused
+-- a merge writes what the operator makes of the key's value and the bytes. Without an operator, where it must be refused
 -- before, it would leave no value
 abbrev pub decision_of_merge : Option Merge → Key → Key → Option Key → Decision
 decision_of_merge None k bytes value = decision_of_write None
 decision_of_merge (Some merge) k bytes value = decision_of_write (merge k value bytes)
 
--- What becomes of the value that stands at the call's key, if one does, and the reply, by the merge operator of the tree
+-- What becomes of the value at the call's key, if it has one, and the reply, by the merge operator of the tree
 abbrev pub decision_of : Option Merge → Call → Option Key → Decision
 decision_of merge (Get k) value = record { effect = effect.Nothing; reply = Value value }
 decision_of merge (Insert k v) value = record { effect = if same_value value (Some v) then effect.Nothing else (effect.Set v); reply = Value value }

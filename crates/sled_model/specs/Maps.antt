@@ -19,6 +19,6 @@ IsGreatest map (Some pair) = (rest : Map) × (map ≡ rest ++ pair ∷ [])
 abbrev pub Maps : Type 0
 Maps = Key → Option Map
 
--- a merge operator: the new value of a key, the value that stands and the new bytes
+-- a merge operator: the new value of a key, from the value that it has and the new bytes
 abbrev pub Merge : Type 0
 Merge = Key → Option Key → Key → Option Key

@@ -27,7 +27,7 @@ use Rattle.sled_model.specs.declared.outcome.Step.TheVariants as step
 use Rattle.sled_model.specs.declared.outcome.Outcome.{Outcome}
 use Rattle.sled_model.specs.declared.outcome.Outcome.TheVariants.{Begun, Moved, Yielded, Decided, Refused, Abandoned, NoSuchSlot}
 
--- the state of a database and the store that it stands on, at one moment, and the number that a flush would answer then
+-- the state of a database and the store that it is over, at one moment, and the number that a flush would answer then
 pub record Configuration : Type 0 where
   pub state : State
   pub store : Store
@@ -96,9 +96,8 @@ pub record Abandon (old : State) (slot : ℕ) (new : State) : Type 0 where
   pub here : old.slots slot ≡ Some flying
   pub is : new ≡ record old { slots = put_at old.slots slot None }
 
--- what a whole call is about: to make durable what was decided, to tell something and change no map, to change maps in one
--- step, to change them by a group, to change them part by part, to drop a tree, or to learn of changes, which touches neither maps nor
--- pages
+-- what a whole call is about: to make durable what was decided, to tell something and change no map, or to change maps: in one step, by a
+-- group, or part by part. Or it is to drop a tree, or to learn of changes, which touches neither maps nor pages
 pub data Kind : Type 0 where
   Flushing : Kind
   Telling : Kind

@@ -28,7 +28,7 @@ pub enum Call {
     Insert(IVec, IVec),
     /// Takes a key out. Replies with the value that stood there.
     Remove(IVec),
-    /// Where the first value stands at a key it becomes the second one; `None` is no value.
+    /// If the first value is at a key it becomes the second one; `None` is no value.
     CompareAndSwap(IVec, Option<IVec>, Option<IVec>),
     /// The value at a key becomes what the merge operator of the tree makes of it and these bytes. Replies with the new value.
     Merge(IVec, IVec),
@@ -114,7 +114,7 @@ impl Call {
     /// The call that swaps one value at a key for another; `None` is no value.
     ///
     /// ```
-    /// let call = Call::compare_and_swap(alloc, b"ulm", Some(b"21"), None)?; // Takes the key out where `21` stands.
+    /// let call = Call::compare_and_swap(alloc, b"ulm", Some(b"21"), None)?; // Takes the key out if its value is `21`.
     /// ```
     pub fn compare_and_swap(
         alloc: Global,

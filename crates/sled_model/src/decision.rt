@@ -1,4 +1,4 @@
-//! What a call on one key comes to, by the value that stands there. A scan changes nothing of any value.
+//! What a call on one key comes to, by the value that is there. A scan changes nothing of any value.
 ghost use Rattle.std.specs.Prelude.{◌≡◌, IfOk, IfErr, Some};
 ghost use Rattle.std.specs.Option.{option_map, option_copied};
 ghost use Rattle.sled_nodes.specs.declared.error.Error.TheVariants.{NoMemory};
@@ -27,7 +27,7 @@ pub struct Decision {
 }
 
 impl Call {
-    /// The reply of the call where this value stands at its key and it changes nothing; without one it is to link its change.
+    /// The reply of the call if this value is at its key and it changes nothing; without one it is to link its change.
     /// Refused with `NoMemory` alone.
     ///
     /// ```
@@ -60,7 +60,7 @@ impl Call {
         Ok(Some(Reply::Value(value)))
     }
 
-    /// What the call comes to where this value stands at its key, by the merge operator of its tree, which is called once, and by
+    /// What the call comes to if this value is at its key, by the merge operator of its tree, which is called once, and by
     /// a merge alone. Refused with `NoMemory` alone.
     ///
     /// ```
@@ -102,7 +102,7 @@ impl Call {
     }
 }
 
-// The reply of a swap where another value stands than the one that was expected.
+// The reply of a swap if another value is there than the one that was expected.
 fn conflict(value: Option<IVec>, old: &Option<IVec>, new: &Option<IVec>) -> Result<Option<Reply>>
     ensures ok { IfOk result (λ reply. reply ≡ reply_of_swap value old.now new.now) }
     ensures err { IfErr result (λ e. e ≡ NoMemory) }
@@ -148,7 +148,7 @@ fn swap(value: Option<IVec>, old: &Option<IVec>, new: &Option<IVec>) -> Result<D
     })
 }
 
-// The bytes are joined to the value that stands, by the operator.
+// The bytes are joined to the value that is there, by the operator.
 fn merge<M: MergeOperator>(
     alloc: Global,
     key: &IVec,

@@ -4,9 +4,9 @@ ghost use Rattle.std.specs.Option.{option_map};
 
 use std::alloc::{AllocError, Global};
 
-/// How the bytes of a merge are joined to the value that stands.
+/// How the bytes of a merge are joined to the value that is there.
 pub trait MergeOperator: Drop {
-    /// The new value of the key, the value that stands and the new bytes; none takes the key out.
+    /// The new value of the key, from the value that it has and the new bytes; none takes the key out.
     ghost meant: { Self → List ℕ → Option (List ℕ) → List ℕ → Option (List ℕ) };
 
     /// The new value for the key, or `None` to take the key out.

@@ -11,7 +11,7 @@ use std::fmt::{self, Display, Formatter, Write};
 /// Why a value was not swapped: another one stood at the key. Nothing was written.
 #[derive(Debug, Drop, PartialEq, Eq, PartialOrd, Ord, Hash)]
 pub struct CompareAndSwapError {
-    /// The value that stands at the key.
+    /// The value at the key.
     pub current: Option<IVec>,
     /// The value that was to be set.
     pub proposed: Option<IVec>,
@@ -21,7 +21,7 @@ impl CompareAndSwapError {
     /// The same value. Refused with `NoMemory` alone.
     ///
     /// ```
-    /// let told = conflict.clone()?; // The value that stands, and the one that was proposed.
+    /// let told = conflict.clone()?; // The value that is there, and the one that was proposed.
     /// ```
     pub fn clone(&self) -> Result<CompareAndSwapError>
         ensures ok { IfOk result (λ copy. copy ≡ self.now) }
@@ -45,7 +45,7 @@ impl std::error::Error for CompareAndSwapError {}
 /// What a decided call answers.
 #[derive(Debug, Drop, PartialEq, Eq)]
 pub enum Reply {
-    /// The value that stands or stood at the key, if any.
+    /// The value that is or was at the key, if any.
     Value(Option<IVec>),
     /// Whether the value was swapped.
     Swapped(std::result::Result<(), CompareAndSwapError>),
