@@ -26,7 +26,7 @@ changes_law effect.Nothing key m = refl
 changes_law (effect.Set v) key m = refl
 changes_law effect.Remove key m = refl
 
--- what is found at a key after a change of the value at another, or the same, of which so much is known: whether they are the same,
+-- what is found at a key after a change of the value at another, or the same. So much is known of the two: whether they are the same,
 -- whether each is under the prefix, and that the same keys are both or neither
 changed : (v : Option Key) (same here under : Bool) (in_copy in_map : Option Key) → (same ≡ true → here ≡ under) → in_copy ≡ cond here in_map None
     → cond under (cond same v in_copy) in_copy ≡ cond here (cond same v in_map) None

@@ -34,7 +34,7 @@ CountsAll n [] queues = Unit {0}
 CountsAll n (t ∷ ts) queues = ((backlog_in (after_turn t queues n)).missed < most_missed) × CountsAll n ts (after_turn t queues)
 
 -- What a subscriber took, then as many events as are counted, and then those that wait, are those that it had at first and then those
--- that came for it, in their order, where it watched before, is not given up, and all that it missed was counted
+-- that came for it, in their order. That is so if it watched before and is not given up, and all that it missed was counted
 abbrev pub HearsLaw : Type 0
 HearsLaw = (turns : List Turn) (n : ℕ) (queues : ℕ → Option Queue) (q : Queue) → queues n ≡ Some q → Stays n turns → CountsAll n turns queues
     → (all : List Event) → Holds q.backlog all
