@@ -1,4 +1,4 @@
--- What stands at the keys of a group's writes.
+-- What is at the keys of a group's writes.
 use Rattle.std.specs.Prelude.{List, map, Option, Some, None}
 use Rattle.std.specs.FinMap.Entries.{find}
 use Rattle.sled_nodes.specs.Order.{Key, key_cmp}
@@ -12,7 +12,7 @@ abbrev pub found_in : Option Map → Key → Option Key
 found_in None key = None
 found_in (Some map) key = find key_cmp key map
 
--- what stands in these maps at the key of a write
+-- what is in these maps at the key of a write
 abbrev pub stands_at : Maps → Write → Option Key
 stands_at maps w = found_in (maps w.tree.name) w.key
 

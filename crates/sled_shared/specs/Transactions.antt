@@ -29,8 +29,8 @@ use Rattle.sled_shared.specs.Made.{MadeValue, WholeMade, TransactionMade}
 use Rattle.sled_shared.specs.Stood.{stood_in}
 use Rattle.sled_shared.specs.Wholes as value
 
--- No test refuses the tree in this database, and the closure is run to this end at the root of the tree, over the pages of the database as
--- they are. No id is set aside for it
+-- How the closure of a transaction ends: in this database no test refuses the tree, and the closure is run at the tree's root, over the
+-- pages as they are, up to this end. No id is set aside for it
 pub record RunsIn {P M F R A E : Type 0} (store : P → Store) (meant : M → Merge) (says : Closure F (TransactionalTree (Lent P)) R) (result_of : R → Answer A E) (f : F) (tree : Tree) (d : DbValue P M) (ended : Result (Commit A Writes) (TransactionError E)) : Type 0 where
   pub sound : IsDb store d
   pub tested : must_refuse_of (db_state store meant d) (tree ∷ []) ≡ None
