@@ -26,8 +26,8 @@ IsAheadOf nodes aim p (reached.FirstPointer parent) path = CleanFrom nodes aim p
 IsAheadOf nodes aim p (reached.LaterPointer parent) path = CleanFrom nodes aim p false path
 IsAheadOf nodes aim p (reached.Next parent) path = ⊥
 
--- What is ahead of a call of a clean path to its key: all of it as the call begins, then the rest from the cursor of its walk on,
--- and no page more at its leaf, which it read, and changes and finds unchanged, or gives
+-- What is ahead of a call of a clean path to its key: all of it as the call begins, and then the rest from the cursor of its walk on. At
+-- its leaf, which it read, and changes and finds unchanged, or gives, it is no page more
 abbrev pub IsOnPath : State → Course → Stage → List ℕ → Type 0
 IsOnPath s j stage.Root path = IsClean s j.tree.name j.aim path
 IsOnPath s j (stage.Walk a) path = IsAheadOf (nodes_of s) j.aim a.cursor a.reached path

@@ -1,9 +1,9 @@
 //! A call in flight over the pages of a tree.
 //!
-//! A call goes stage by stage, and each step does at most one page action: it walks down to the leaf of its key, splits,
-//! posts, hoists and merges what it finds to be repaired on the way, and links its change at the leaf. Its contracts say what
-//! a step does at every forest that shows the pages well formed: the contents of the trees change only where the call is
-//! decided, as the map would, and what the other calls in flight know of the pages stays true.
+//! A call goes stage by stage, and each step does at most one page action. It walks down to the leaf of its key, splits, posts, hoists and
+//! merges what it finds to be repaired on the way, and links its change at the leaf. Its contracts say what a step does at every forest
+//! that shows the pages well formed. The contents of the trees change only if the call is decided, and then as the map would. What the
+//! other calls in flight know of the pages stays true.
 #![tactic(auto)]
 
 mod act;

@@ -1,6 +1,5 @@
-//! A merge of a page into the one before it, in five changing actions: the parent takes the page for its merging child, the
-//! child is capped and does not change any more, the page before it receives what it holds, the pointer to it goes, and it is
-//! freed.
+//! A merge of a page into the one before it, in five changing actions. The parent takes the page for its merging child, and the child is
+//! capped and does not change any more. The page before it receives what it holds, the pointer to it goes, and it is freed.
 //!
 //! Whoever meets a half-done merge goes on with it, from what the pages show.
 ghost use Rattle.std.specs.Prelude.{◌≡◌, ◌↔◌, ◌⊎◌, [], false, true, Some, None, IsTrue, IfOk, IfErr};
