@@ -154,9 +154,9 @@ pub fn ended(rt: &HostRuntime, passed: io::Result<bool>) -> ExitCode {
     }
 }
 
-/// A whole program. With the words `check NAME ..` it runs the files NAME.lines of the folder that it runs in, each from an empty store, and
-/// compares what they print with the files NAME.expected, but for lines that ask for what the stores do not have; with the names of files it prints what they print, and with no word what standard
-/// input does. `help` prints what the lines are.
+/// A whole program. With the words `check NAME ..` it runs the files NAME.lines of the folder that it runs in, each from an empty store. It
+/// compares what they print with the files NAME.expected, but for lines that ask for what the stores do not have. With the names of files
+/// it prints what they print, and with no word what standard input does. `help` prints what the lines are.
 pub fn exercise<P: Pages, T: Trial<P>>(rt: &HostRuntime, trial: &T) -> ExitCode {
     match words_of(rt) {
         Ok(words) => {
