@@ -317,7 +317,7 @@ fn told_value(scene: &Scene, text: &mut Text, answer: Result<Option<IVec>>) {
     }
 }
 
-// The number that stands with so much more.
+// The number that is there, with so much more.
 fn added(
     alloc: Global,
     stood: Option<&[u8]>,
@@ -338,7 +338,7 @@ fn update<L: Ledger, R: Wait>(
     way.update_and_fetch(rt, tree, key, move |stood| added(alloc, stood, more))
 }
 
-// The same, but that it tells the number that stood.
+// The same, but that it tells the number that was there.
 fn fetch_first<L: Ledger, R: Wait>(
     rt: &R,
     alloc: Global,
@@ -350,7 +350,7 @@ fn fetch_first<L: Ledger, R: Wait>(
     way.fetch_and_update(rt, tree, key, move |stood| added(alloc, stood, more))
 }
 
-/// Adds to the number at a key, in one step. It tells the new number, or the one that stood.
+/// Adds to the number at a key, in one step. It tells the new number, or the one that was there.
 pub fn fetch<L: Ledger, R: Wait>(
     rt: &R,
     scene: &Scene,

@@ -42,7 +42,7 @@ impl Text {
         self.batches(b" group ", batches);
     }
 
-    // Adds what a transaction wrote, and what stood before at the key of each of its writes.
+    // Adds what a transaction wrote, and what was there before at the key of each of its writes.
     fn transaction(&mut self, batches: &[(Tree, Batch)], stood: &[Option<IVec>]) {
         self.batches(b" transaction ", batches);
         self.text(b" = stood");
