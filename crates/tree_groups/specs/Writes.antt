@@ -47,8 +47,8 @@ pub record PagesLast (m n : Snapshot) : Type 0 where
   pub merges : (p : ℕ) (d : Node) → nodes_at m p ≡ Some d → d.merging ≡ true → (nodes_at n p ≡ Some d) ⊎ (nodes_at n p ≡ None)
   pub gone : (p : ℕ) → m.pids p ≡ true → nodes_at m p ≡ None → nodes_at n p ≡ None
 
--- Of any number of actions: there is a forest after them, of the size that it should have; what every call in flight knows stays true;
--- and no page of a tree is lost: each one stands there still, or is merging, or was freed
+-- Of any number of actions: there is a forest after them, of the size that it should have, and what every call in flight knows stays true.
+-- No page of a tree is lost: each one is there still, or is merging, or was freed
 pub record Keeps (m : Snapshot) (w : Forest) (n : Snapshot) (v : Forest) : Type 0 where
   pub is : HasForest n v
   pub sized : IsSized (nodes_at m) w → IsSized (nodes_at n) v
