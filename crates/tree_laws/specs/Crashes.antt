@@ -35,8 +35,8 @@ pub record StutterEquivalent {X : Type 0} (xs ys : List X) : Type 0 where
 abbrev pub Trees : Type 0
 Trees = Tree → Option (List (Key × Key))
 
--- What is kept since the last flush grows: the base stays, actions are added and counted, the trees after the states that a
--- crash may leave go on by these, in order, and all of those states have the shape and the size of a forest if they had them before
+-- What is kept since the last flush grows: the base stays, actions are added and counted, and the trees after the states that a crash may
+-- leave go on by these, in order. All of those states have the shape and the size of a forest if they had them before
 pub record AddsCrashStates (maps : List Trees) (a b : Store) : Type 0 where
   pub base : b.base ≡ a.base
   pub added : List Action

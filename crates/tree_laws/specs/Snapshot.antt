@@ -55,8 +55,8 @@ pub record IsReadAs (m : Snapshot) (p v : ℕ) (n : Node) : Type 0 where
   pub given : m.versions v ≡ true
   pub speaks : (g : Page) → m.state.pages p ≡ Some g → g.version ≡ v → g.node ≡ n
 
--- p stood with this lo in the chain at x of the tree of this number: the tree's number is not the name's now, or the page
--- is gone, or it is live with this lo and stands there or is merging
+-- p was in the chain at x of the tree of this number, with this lo. Now the tree's number is not the name's, or the page is gone, or it is
+-- live with this lo and is in the chain or merging
 pub record StoodInChain (m : Snapshot) (w : Forest) (x : Place) (number : ℕ) (lo : Key) (p : ℕ) : Type 0 where
   pub page : m.pids p ≡ true
   pub tree : m.given number ≡ true

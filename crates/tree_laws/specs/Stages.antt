@@ -70,8 +70,8 @@ pub record IsWalking (m : Snapshot) (w : Forest) (t : Tree) (number : ℕ) (aim 
   pub stood : StoodInChain m w (place t height) number lo a.cursor
   pub is_reached : IsReached m w t number height aim a.reached lo a.cursor
 
--- where the right half of a split is posted: at a parent, which takes one pointer more and below which the page lies, at the root, where
--- the page is the first of its level, or, of a split that serves a merge, nowhere
+-- where the right half of a split is posted: at a parent, which takes one pointer more and below which the page lies, or at the root, where
+-- the page is the first of its level. A split that serves a merge is posted nowhere
 abbrev pub IsPlace : Snapshot → Forest → Tree → ℕ → ℕ → View → Posting → Type 0
 IsPlace m w t number h page (posting.Parent parent) = IsParent m w t number h parent × Covers parent.node page.node.lo × HasRoomForOne parent
 IsPlace m w t number h page posting.Root = page.node.lo ≡ []

@@ -93,11 +93,11 @@
 //!
 //! # Calls in flight
 //!
-//! A `Snapshot` is a store now, with each tree's number. Whatever an action does, `Guarantee` is what it gives to every other call:
-//! numbers and versions never come again, a page of a chain stands there or is merging, a merging page and another call's own
-//! page stay as they are, and a page that left its chain never comes back. What a call knows at a stage (`IsStage`) survives that
-//! (`StageStays`), whether or not its view is stale. What a walk aims at is a bound: of a call at a key the key itself. A tree that was dropped takes its number with it, and of a call whose
-//! number is not the name's now nothing is claimed.
+//! A `Snapshot` is a store now, with each tree's number. Whatever an action does, `Guarantee` is what it gives to every other call. Numbers
+//! and versions never come again, and a page of a chain is there or is merging. A merging page and another call's own page stay as they
+//! are, and a page that left its chain never comes back. What a call knows at a stage (`IsStage`) survives that (`StageStays`), whether or
+//! not its view is stale. What a walk aims at is a bound: of a call at a key the key itself. A tree that was dropped takes its number with
+//! it, and of a call whose number is not the name's now nothing is claimed.
 //!
 //! # The laws
 //!
