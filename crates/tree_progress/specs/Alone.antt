@@ -45,8 +45,9 @@ abbrev pub AloneLaw : Type 0
 AloneLaw = (numbers : Tree → Option ℕ) (given : ℕ → Bool) (j : Course) (s : Store) (w : Forest) → HasForest (snapshot_of s numbers given) w → numbers j.tree.name ≡ Some j.tree.number → IsOnKey j.call → IsAimed j
     → (n : ℕ) (new : Store) (a : Stage) (v : Forest) → MovesAlone numbers given j s Root w n new a v → n < alone_steps (now s) j.tree.name
 
--- A call that others went between has pages in mind as they were. It is at the root soon, or changes a page; and the one merge that it may
--- have chosen while its child was smaller leaves 15 more to repair at most
+-- How many steps a call in flight has left at most, if no other call does one from now on. It remembers pages as they were, and others may
+-- have changed them since. So it is soon at the root again, or it changes a page. If it chose a merge while the child was smaller, that one
+-- leaves at most 15 more to repair
 abbrev pub resumed_steps : State → Tree → ℕ
 resumed_steps s t = (to_do s t + 16) * (4 * (tree_pages s t + to_do s t + 16) + 9)
 
