@@ -43,8 +43,8 @@ pub record RunsStraight (operator : Option Merge) (old : Store) (f : InFlight) (
   pub has_turns : last.turns < MAX_LOOPS
   pub ends : StepsBy operator old last (went_of made) new last
 
--- The key lies under the node, and nothing is to be repaired there: at a page that the walk did not come to by the first pointer of an
--- index, and which is not the root, nothing is to be merged either
+-- The key lies under the node, and nothing is to be repaired there. At a page that is not the root, and to which the walk did not come by
+-- the first pointer of an index, nothing is to be merged either
 pub record IsCleanFor (key : Key) (first : Bool) (n : Node) : Type 0 where
   pub is_open : IsOpen n
   pub fits : count n.content ≤ 16
