@@ -27,8 +27,8 @@ pub record Seeks (s : State) (root : ℕ) (lo : Bound Key) (v : View) (looked : 
   pub is : (w : Forest) → WellFormed (nodes_of s) s.roots w → (t : Tree) → s.roots t ≡ Some root
       → (ahead : ℕ) × IsAhead w t 0 v.pid ahead × (ahead + looked ≤ tree_pages s t + 1) × ((e : Key × Key) → In e (contents (nodes_of s) w t) → Below e.0 v.node.lo → is_from lo e.0 ≡ false)
 
--- A search to the left stands at a leaf: all pairs behind the leaf are without the upper bound, and the pages looked at so far,
--- and a walk to each leaf before this one, are no more than a walk to each page
+-- A search to the left is at a leaf. All pairs behind the leaf are without the upper bound; the pages looked at so far, and a walk to each
+-- leaf before this one, are no more than a walk to each page
 pub record SeeksBack (s : State) (root : ℕ) (hi : Bound Key) (v : View) (looked : ℕ) : Type 0 where
   pub read : IsRead s v
   pub is : (w : Forest) → WellFormed (nodes_of s) s.roots w → (t : Tree) → s.roots t ≡ Some root
