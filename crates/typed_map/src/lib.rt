@@ -1,6 +1,6 @@
 //! A map from keys of a type to values of a type, in a tree of a database.
 //!
-//! Both types are the user's own: each has the trait `Spelled`, which says how a value is spelled as a byte string, and proves that the
+//! Both types are the user's own. Each has the trait `Spelled`, which says how a value is spelled as a byte string, and proves that the
 //! bytes are in the order of the values and that no two values are spelled alike. `u64` and `IVec` have it. A type of several parts, as a
 //! station and an hour, is spelled by `ordered_keys`, and so are its laws (`by_parts` of `specs/Typed`); `Reading` of `examples` is one.
 //!
