@@ -71,7 +71,7 @@ class Tree:
         self.log.setdefault(key, []).append((state, value))
 
     def values(self, key, first, last):
-        """What a key had in the states from the first to the last, one after the other; `-` stands for nothing."""
+        """What a key had in the states from the first to the last, one after the other; `-` is nothing."""
         log = self.log.get(key, [])
         at = bisect.bisect_right(log, first, key=lambda it: it[0])
         values = [log[at - 1][1] if at else "-"]
@@ -421,7 +421,7 @@ class Opening:
     # Time.
 
     def in_time(self, events, what):
-        """What ended before another began stands before it."""
+        """What ended before another began is before it."""
         latest = 0
         for event in events:
             require(latest < event.after, what, "are not in the order of time:", event)
@@ -516,7 +516,7 @@ def is_fetch(call, answer, made):
 
 
 def is_transaction(call, made):
-    """Whether an entry is that of a transaction that wrote this. What stood is compared with the maps."""
+    """Whether an entry is that of a transaction that wrote this. What was there is compared with the maps."""
     return made[0] == call
 
 
