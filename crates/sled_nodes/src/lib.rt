@@ -8,6 +8,7 @@
 
 mod among;
 mod ascending;
+mod block;
 mod bounds;
 mod entries;
 mod error;
