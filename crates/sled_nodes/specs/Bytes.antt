@@ -1,11 +1,13 @@
 -- The bytes of a byte string, by where they lie.
 use Rattle.std.specs.Prelude.{◌≡◌, ℕ, zero, suc, List, [], ◌∷◌, take, ◌≤◌}
+use Rattle.std.specs.Arc.{arc_value}
 use Rattle.sled_nodes.specs.declared.ivec.Bytes.{Bytes}
-use Rattle.sled_nodes.specs.declared.ivec.Bytes.TheVariants.{Short, Held}
+use Rattle.sled_nodes.specs.declared.ivec.Bytes.TheVariants.{Short, Held, Long}
 
 abbrev pub bytes_of : Bytes → List ℕ
 bytes_of (Short len bytes) = take len bytes
 bytes_of (Held bytes) = bytes
+bytes_of (Long bytes) = (arc_value bytes).items
 
 -- the first n bytes, with zeros behind a shorter string
 unfoldable pub padded : ℕ → List ℕ → List ℕ
@@ -17,3 +19,4 @@ padded (suc n) (b ∷ bytes) = b ∷ padded n bytes
 abbrev pub IsShort : Bytes → Type 0
 IsShort (Short len bytes) = (len ≤ 22) × (padded 22 (take len bytes) ≡ bytes)
 IsShort (Held bytes) = Unit {0}
+IsShort (Long bytes) = Unit {0}

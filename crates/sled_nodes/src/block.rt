@@ -1,4 +1,4 @@
-//! The bytes of a byte string that do not lie in place: in a block with their count of owners, in five sizes, or in a list of their own.
+//! The bytes of a byte string that do not lie in place: in a block with their count of owners, in five sizes.
 ghost use Rattle.std.specs.Prelude.{◌≡◌, ◌≤◌, ◌<◌, length, IfOk, IfErr};
 ghost use Rattle.sled_nodes.specs.declared.error.Error.TheVariants.{NoMemory};
 
@@ -10,7 +10,8 @@ use std::sync::Arc;
 /// As many bytes at most lie in a block with their count of owners.
 pub const WHOLE: usize = 96;
 
-// Each size fills, with the count of eight bytes, what an allocator gives that rounds up to sixteen. Zeros lie behind the bytes.
+// Each size fills, with the count of eight bytes, what an allocator gives that rounds up to sixteen. Zeros lie behind the bytes. Bytes are
+// read at the same place in each size, so a read does not branch on it.
 #[derive(Drop)]
 enum Room {
     Of32(u8, Arc<[u8; 32]>),
@@ -18,7 +19,6 @@ enum Room {
     Of64(u8, Arc<[u8; 64]>),
     Of80(u8, Arc<[u8; 80]>),
     Of96(u8, Arc<[u8; 96]>),
-    Long(Arc<Vec<u8>>),
 }
 
 /// Bytes that several hold. Contracts see the list of them.
@@ -26,9 +26,9 @@ pub struct Block {
     room: Room,
 }
 
-// By hand, so that whoever lets go of a byte string cites this, and so that short ones have no more code than a test.
+// By hand, so that whoever drops a byte string cites this.
 impl Drop for Block {
-    #[inline(never)]
+    #[inline(always)]
     fn drop(self) {
         let Block { room } = self;
         drop(room);
@@ -47,19 +47,18 @@ impl Model for Block {
 }
 
 impl Block {
-    /// A copy of the bytes. Refused with `NoMemory` alone.
+    /// A copy of at most 96 bytes. Refused with `NoMemory` alone.
     #[inline(never)]
     pub fn from_slice(alloc: Global, bytes: &[u8]) -> Result<Block>
+        requires { length bytes.now ≤ 96 }
         ensures ok { IfOk result (λ made. made ≡ bytes.now) }
         ensures err { IfErr result (λ e. e ≡ NoMemory) }
     {
         if bytes.len() <= 48 {
-            return Block::small(alloc, bytes);
+            Block::small(alloc, bytes)
+        } else {
+            Block::large(alloc, bytes)
         }
-        if bytes.len() <= WHOLE {
-            return Block::large(alloc, bytes);
-        }
-        Block::from_vec(alloc, Vec::from_slice(alloc, bytes)?)
     }
 
     // A copy of at most 48 bytes.
@@ -106,17 +105,8 @@ impl Block {
         Ok(Block { room })
     }
 
-    /// The bytes of a list. Refused with `NoMemory` alone.
-    pub fn from_vec(alloc: Global, bytes: Vec<u8>) -> Result<Block>
-        ensures ok { IfOk result (λ made. made ≡ bytes.items) }
-        ensures err { IfErr result (λ e. e ≡ NoMemory) }
-    {
-        let room = Room::Long(Arc::new(alloc, bytes)?);
-        Ok(Block { room })
-    }
-
     /// The bytes.
-    #[inline(never)]
+    #[inline(always)]
     pub fn as_slice(&self) -> &[u8]
         ensures { result.now ≡ self.now }
     {
@@ -126,12 +116,11 @@ impl Block {
             Room::Of64(len, bytes) => &bytes[..*len as usize],
             Room::Of80(len, bytes) => &bytes[..*len as usize],
             Room::Of96(len, bytes) => &bytes[..*len as usize],
-            Room::Long(bytes) => bytes.as_slice(),
         }
     }
 
     /// The same bytes, for one holder more. Refused with `NoMemory` alone.
-    #[inline(never)]
+    #[inline(always)]
     pub fn share(&self) -> Result<Block>
         ensures ok { IfOk result (λ same. same ≡ self.now) }
         ensures err { IfErr result (λ e. e ≡ NoMemory) }
@@ -142,7 +131,6 @@ impl Block {
             Room::Of64(len, bytes) => Room::Of64(*len, Arc::try_clone(bytes)?),
             Room::Of80(len, bytes) => Room::Of80(*len, Arc::try_clone(bytes)?),
             Room::Of96(len, bytes) => Room::Of96(*len, Arc::try_clone(bytes)?),
-            Room::Long(bytes) => Room::Long(Arc::try_clone(bytes)?),
         };
         Ok(Block { room })
     }

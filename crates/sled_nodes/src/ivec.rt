@@ -19,15 +19,17 @@ use std::cmp::Ordering;
 use std::fmt::{self, Debug, Formatter, Write};
 use std::hash::{Hash, Hasher};
 use std::marker::Model;
+use std::sync::Arc;
 
 // As many bytes lie in place.
 const SHORT: usize = 22;
 
-// Short strings lie in place, with zeros behind them, and clones of a longer one share it.
+// Short strings lie in place, with zeros behind them, and clones of a longer one share it: its block, or its list where no block has room.
 #[derive(Drop)]
 enum Bytes {
     Short(u8, [u8; 22]),
     Held(Block),
+    Long(Arc<Vec<u8>>),
 }
 
 /// A byte string that is never changed. A clone copies at most 22 bytes.
@@ -73,8 +75,13 @@ impl IVec {
                 bytes: Bytes::Short(bytes.len() as u8, short),
             });
         }
+        if bytes.len() <= WHOLE {
+            return Ok(IVec {
+                bytes: Bytes::Held(Block::from_slice(alloc, bytes)?),
+            });
+        }
         Ok(IVec {
-            bytes: Bytes::Held(Block::from_slice(alloc, bytes)?),
+            bytes: Bytes::Long(Arc::new(alloc, Vec::from_slice(alloc, bytes)?)?),
         })
     }
 
@@ -145,7 +152,7 @@ impl IVec {
         bytes.extend_from_slice(front)?;
         bytes.extend_from_slice(back)?;
         Ok(IVec {
-            bytes: Bytes::Held(Block::from_vec(alloc, bytes)?),
+            bytes: Bytes::Long(Arc::new(alloc, bytes)?),
         })
     }
 
@@ -177,6 +184,7 @@ impl IVec {
         match &self.bytes {
             Bytes::Short(len, bytes) => &bytes[..*len as usize],
             Bytes::Held(bytes) => bytes.as_slice(),
+            Bytes::Long(bytes) => bytes.as_slice(),
         }
     }
 
@@ -189,6 +197,7 @@ impl IVec {
         match &self.bytes {
             Bytes::Short(_, bytes) => first_eight(bytes.as_slice()),
             Bytes::Held(bytes) => front_of(bytes.as_slice()),
+            Bytes::Long(bytes) => front_of(bytes.as_slice()),
         }
     }
 
@@ -220,6 +229,9 @@ impl IVec {
             }),
             Bytes::Held(bytes) => Ok(IVec {
                 bytes: Bytes::Held(bytes.share()?),
+            }),
+            Bytes::Long(bytes) => Ok(IVec {
+                bytes: Bytes::Long(Arc::try_clone(bytes)?),
             }),
         }
     }
