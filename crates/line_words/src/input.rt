@@ -1,9 +1,11 @@
 //! The lines of an input, and where they stop: what was printed is out before a read that may wait.
-ghost use Rattle.std.specs.Prelude.{◌≡◌, ◌≤◌, length, true, IfOk, OnOk, IfSome};
+ghost use Rattle.std.specs.Prelude.{◌≡◌, ◌≤◌, length, take, true, [], IfOk, OnOk, IfSome};
 ghost use Rattle.std.specs.Vec.{vec_len};
 ghost use Rattle.std.specs.Io.KnownBytes.{Keeps, IsAtEnd};
 ghost use Rattle.std.specs.Io.BufRead.{take_through, strip_last, DropsThrough};
+ghost use Rattle.line_words.specs.theory.Input.{is_part, CopiesPart};
 
+use crate::search::{LANES, find, in_front};
 use sled_nodes::Error;
 use std::alloc::{AllocError, AllocFailed};
 use std::io::{self, BufRead, ErrorKind, Write};
@@ -43,11 +45,14 @@ struct Held {
     at_end: bool,
 }
 
-// How many bytes there are up to the last line end.
+// How many bytes there are up to the last line end. From the back sixteen bytes are looked at at once.
 fn whole_lines(bytes: &[u8]) -> usize
     ensures { result ≤ length bytes.now }
 {
     let mut end = bytes.len();
+    'sixteen: while end >= LANES && in_front(b'\n', bytes, end - LANES) == LANES {
+        end -= LANES;
+    }
     while end > 0 && bytes[end - 1] != b'\n' {
         end -= 1;
     }
@@ -91,6 +96,47 @@ fn is_at_end<R: BufRead, W: Write>(
     Ok(held.at_end)
 }
 
+// How many bytes there are up to the first line end, or in all, and whether the line ends behind them: so it does where there are none.
+fn up_to_end(bytes: &[u8]) -> (usize, bool)
+    ensures within { result.0 ≤ length bytes.now }
+    ensures part { is_part (take result.0 bytes.now) result.1 }
+    ensures none { result.1 ≡ true → result.0 ≡ 0 → length bytes.now ≡ 0 }
+{
+    match find(b'\n', bytes) {
+        Some(at) => (at + 1, true),
+        None => (bytes.len(), bytes.is_empty()),
+    }
+}
+
+// Copies what the reader holds of a line, and goes past it. Answers whether the line ends there, or the input.
+fn copy_part<R: BufRead>(input: &mut R, line: &mut Vec<u8>) -> Result<bool, Stopped>
+    ensures { IfOk result (CopiesPart (R.remaining input.old) (R.remaining input.new) line.old.items line.new.items) }
+{
+    let held = match input.fill_buf() {
+        Ok(held) => held,
+        Err(e) if e.kind() == ErrorKind::Interrupted => return Ok(false),
+        Err(_) => return Err(Stopped),
+    };
+    let (count, ends) = up_to_end(held);
+    line.extend_from_slice(&held[..count])?;
+    input.consume(count);
+    Ok(ends)
+}
+
+// Copies the next line with the byte that ends it, and goes past it.
+fn copy_line<R: BufRead>(input: &mut R, line: &mut Vec<u8>) -> Result<(), Stopped>
+    requires { line.old.items ≡ [] }
+    ensures bytes { OnOk result (IfSome (R.remaining input.old) (λ xs. line.new.items ≡ take_through 10 xs)) }
+    ensures rest { OnOk result (DropsThrough (R.remaining input.old) (R.remaining input.new) 10) }
+{
+    for _ in 0..u64::MAX {
+        if copy_part(input, line)? {
+            return Ok(());
+        }
+    }
+    Err(Stopped)
+}
+
 /// Reads the next line with the byte that ends it, and answers how long it is: 0 at the end of the input. `left` is how many
 /// bytes of whole lines the reader holds behind the line, so far as that is known. Where a read may wait the output is flushed
 /// first.
@@ -110,9 +156,9 @@ pub fn read_line<R: BufRead, W: Write>(
     if is_at_end(input, output, left)? {
         return Ok(0);
     }
-    let read = input.read_until(b'\n', line)?;
-    *left = left.saturating_sub(read);
-    Ok(read)
+    copy_line(input, line)?;
+    *left = left.saturating_sub(line.len());
+    Ok(line.len())
 }
 
 /// A line without the byte that ends it.

@@ -10,7 +10,7 @@ pub(crate) const LANES: usize = 16;
 
 // How many of the bytes from a place on stand in front of the first that is this one: all of them where none is.
 #[inline(always)]
-fn in_front(byte: u8, bytes: &[u8], at: usize) -> usize
+pub(crate) fn in_front(byte: u8, bytes: &[u8], at: usize) -> usize
     requires { at + 16 ≤ length bytes.now }
     ensures { result ≡ prefix_len (λ b. not (b == byte)) (take 16 (drop at bytes.now)) }
 {
