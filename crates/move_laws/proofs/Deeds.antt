@@ -1,11 +1,11 @@
 -- What a step by which a call goes on does to the pages of its tree: nothing, or one of them changes.
-use Rattle.std.proofs.Common.{◌≡◌, ◌≢◌, ℕ, suc, ◌+◌, ◌-◌, ◌*◌, ◌<◌, ◌≤◌, ◌^◌, Bool, true, false, List, [], ◌∷◌, length, not, nat_eq, Option, Some, None, Result, Ok, Err, MatchOption, option_map, sym, refl, ap, ◌∙◌, subst, inl, inr, ◌⊎◌, arith, le_refl}
+use Rattle.std.proofs.Common.{◌≡◌, ◌≢◌, ℕ, suc, ◌+◌, ◌-◌, ◌*◌, ◌<◌, ◌≤◌, ◌^◌, Bool, true, false, length, not, nat_eq, Option, Some, None, Result, Ok, Err, MatchOption, option_map, sym, refl, ap, ◌∙◌, subst, inl, inr, ◌⊎◌, arith, le_refl}
 use Rattle.std.proofs.lemmas.List.Sums.{length-filter, count_by-le-length}
 use Rattle.sled_nodes.proofs.Basics.{some_is, none_some, same_or_not}
-use Rattle.sled_nodes.specs.Halves.{left_half, right_half, after_receiving}
+use Rattle.sled_nodes.specs.Halves.{after_receiving}
 use Rattle.sled_nodes.specs.Node.{count, after_link, after_confirm}
 use Rattle.sled_nodes.specs.Order.{Key}
-use Rattle.sled_nodes.specs.Posting.{with_pointer, takes_pointer}
+use Rattle.sled_nodes.specs.Posting.{with_pointer}
 use Rattle.sled_nodes.specs.declared.error.Error.{Error}
 use Rattle.sled_nodes.specs.declared.link.Link.{Link}
 use Rattle.sled_nodes.specs.declared.link.Link.TheVariants.{Set, Del, ParentMergeIntention, ParentMergeConfirm, ChildMergeCap}
@@ -13,8 +13,8 @@ use Rattle.sled_nodes.specs.declared.node.Data.{Data}
 use Rattle.sled_nodes.specs.declared.node.Data.TheVariants.{Leaf, Index}
 use Rattle.sled_nodes.specs.declared.node.Node.{Node}
 use Rattle.sled_store.specs.In.{In}
-use Rattle.sled_store.specs.State.{State, nodes_of, Action, PageBecomes, RootBecomes, after}
-use Rattle.sled_store.specs.Store.{Store, now, swaps_as, frees_as, ActsAt}
+use Rattle.sled_store.specs.State.{State, nodes_of, PageBecomes, RootBecomes, after}
+use Rattle.sled_store.specs.Store.{Store, now, swaps_as, frees_as}
 use Rattle.sled_store.specs.Update.{put_at}
 use Rattle.sled_store.specs.theory.Facts.{now_acted, now_acts, now_allocates, put_here, put_elsewhere, put_name_elsewhere}
 use Rattle.sled_store.specs.declared.page.Page.{Page}
@@ -29,18 +29,11 @@ use Rattle.tree_laws.specs.Contents.{next_of, first_of}
 use Rattle.tree_laws.specs.Paths.{tree_pages}
 use Rattle.tree_laws.specs.Snapshot.{Snapshot, snapshot_of, nodes_at, HasForest, IsOrphan, SeenOpen, IsAtVersion}
 use Rattle.tree_laws.specs.Stages.{IsStage}
-use Rattle.tree_laws.specs.theory.Laws.{after_allocation, after_free}
-use Rattle.tree_laws.specs.declared.flight.InstallLeft.{InstallLeft}
-use Rattle.tree_laws.specs.declared.flight.Post.{Post}
-use Rattle.tree_laws.specs.declared.flight.SwapRoot.{SwapRoot}
-use Rattle.tree_laws.specs.declared.flight.Orphan.{Orphan}
-use Rattle.tree_laws.specs.declared.flight.Split.{Split}
 use Rattle.tree_laws.specs.declared.flight.Merge.{Merge}
 use Rattle.tree_laws.specs.declared.flight.Posting.{Posting}
 use Rattle.tree_laws.specs.declared.flight.Posting.TheVariants as posting
 use Rattle.tree_laws.specs.declared.flight.Stage.{Stage}
 use Rattle.tree_laws.specs.declared.flight.Stage.TheVariants as stage
-use Rattle.tree_laws.proofs.Cover.{later_in}
 use Rattle.tree_laws.proofs.Known.{fresh_in, put_few, root_in}
 use Rattle.tree_laws.proofs.Merges.{receives_from}
 use Rattle.tree_laws.proofs.Reading.{one_law}
@@ -49,7 +42,7 @@ use Rattle.tree_laws.proofs.Stable.{now_law}
 use Rattle.tree_laws.proofs.States.{allocate_law, free_law}
 use Rattle.sled_tree.specs.Change.{link_of, decision_at}
 use Rattle.sled_tree.specs.Course.{Course}
-use Rattle.sled_tree.specs.Follows.{TakesWay, OrRefused, links_by, after_install_left, after_swap_root, read_again, sought_again, follows_as, follows_post, follows_split, SplitsPage, Hoists}
+use Rattle.sled_tree.specs.Follows.{TakesWay, OrRefused, links_by, after_install_left, after_swap_root, follows_as, follows_post, follows_split}
 use Rattle.sled_tree.specs.declared.flight.Sequel.{Sequel}
 use Rattle.sled_tree.specs.declared.flight.Sequel.TheVariants.{Go, Decided, Refused}
 use Rattle.tree_progress.specs.Laws.{Lowers, Intends}
@@ -297,22 +290,25 @@ module _ (j : Course) (old new : Store) (numbers : Tree → Option ℕ) (given :
           let e : now new ≡ after (RootBecomes t (Some a.new)) (now old) = ap now y.1 ∙ now_acted (RootBecomes t (Some a.new)) old in
           let l : Lowers (now old) (now new) t 4 = subst (λ z. Lowers (now old) z t 4) (sym e) (swap_lowers m w t number a is named y.0 k) in
           let r = root_at a.old y.0 in
-          inr (inr (subst next_is_calm (sym s) tt, record {
-            rise = 0;
-            changes = record {
-              page = a.old;
-              height = r.0;
-              chained = r.1;
-              elsewhere = λ p off. ap (λ (z : State). nodes_of z p) e;
-              fresh = λ p g live. inl (sym (ap (λ (z : State). z.pages p) e) ∙ live);
-              grows = inl (same _ _ (ap (λ (z : State). grown (nodes_of z a.old)) e));
-              few = l.pages;
-              pages = λ u known off called. let z = is.rooted u known called in let q = shape_of (now old) w is.formed is.below u z.0 z.1 in
-              ap (λ (y : State). tree_pages y u) e ∙ pages_same (now old) (after (RootBecomes t (Some a.new)) (now old)) u (λ h. w.chain (place u h)) z.0 q.0 z.1 (put_name_elsewhere (now old).roots t u (Some a.new) off ∙ z.1) q.1 q.1;
-              others = l.others;
-            };
-            falls = sum _ _ l.here;
-          }))
+          inr (inr (
+            subst next_is_calm (sym s) tt,
+            record {
+              rise = 0;
+              changes = record {
+                page = a.old;
+                height = r.0;
+                chained = r.1;
+                elsewhere = λ p off. ap (λ (z : State). nodes_of z p) e;
+                fresh = λ p g live. inl (sym (ap (λ (z : State). z.pages p) e) ∙ live);
+                grows = inl (same _ _ (ap (λ (z : State). grown (nodes_of z a.old)) e));
+                few = l.pages;
+                pages = λ u known off called. let z = is.rooted u known called in let q = shape_of (now old) w is.formed is.below u z.0 z.1 in
+                    ap (λ (y : State). tree_pages y u) e ∙ pages_same (now old) (after (RootBecomes t (Some a.new)) (now old)) u (λ h. w.chain (place u h)) z.0 q.0 z.1 (put_name_elsewhere (now old).roots t u (Some a.new) off ∙ z.1) q.1 q.1;
+                others = l.others;
+              };
+              falls = sum _ _ l.here;
+            },
+          ))
         where
           same : (x y : ℕ) → x ≡ y → x ≤ y + 0
           same x y e = omega arith
@@ -374,12 +370,15 @@ module _ (j : Course) (old new : Store) (numbers : Tree → Option ℕ) (given :
       let u = k.under named (record { page = record { version = a.parent.version; node = node }; live = here; same = refl }) in
       let l : Intends (now old) (now new) t (count u.node.content) = subst (λ z. Intends (now old) z t (count u.node.content)) (sym e) (intend_lowers m w t number a node u.node x.0 is named k here u.live) in
       let live : nodes_at m a.parent.pid ≡ Some node = ap (option_map (λ (z : Page). z.node)) here in
-      inr (subst next_is_calm (sym x.2) tt, record {
-        changes = changed 0 a.parent.pid (suc k.height) node g e fresh (seen_in (suc k.height) a.parent node k.above.seen here) live (inl (no_larger node (after_link (ParentMergeIntention a.child) node) (le_refl _))) l.pages l.others;
-        here = (node, here);
-        now = λ z s. subst (λ (y : Page). old.versions y.version ≡ false) (some_is (sym (ap (λ (q : State). q.pages a.parent.pid) e ∙ put_here (now old).pages a.parent.pid (Some g)) ∙ s)) fresh;
-        falls = subst (λ o. 3 * to_do (now new) t + 1 ≤ 3 * to_do (now old) t + grown o) (sym u.live) (sum (count u.node.content) _ _ (k.small named (record { page = record { version = a.parent.version; node = node }; live = here; same = refl }) u.node u.live) l.here (l.small));
-      })
+      inr (
+        subst next_is_calm (sym x.2) tt,
+        record {
+          changes = changed 0 a.parent.pid (suc k.height) node g e fresh (seen_in (suc k.height) a.parent node k.above.seen here) live (inl (no_larger node (after_link (ParentMergeIntention a.child) node) (le_refl _))) l.pages l.others;
+          here = (node, here);
+          now = λ z s. subst (λ (y : Page). old.versions y.version ≡ false) (some_is (sym (ap (λ (q : State). q.pages a.parent.pid) e ∙ put_here (now old).pages a.parent.pid (Some g)) ∙ s)) fresh;
+          falls = subst (λ o. 3 * to_do (now new) t + 1 ≤ 3 * to_do (now old) t + grown o) (sym u.live) (sum (count u.node.content) _ _ (k.small named (record { page = record { version = a.parent.version; node = node }; live = here; same = refl }) u.node u.live) l.here (l.small));
+        },
+      )
     where
       sum : (n x y : ℕ) → n ≤ 17 → x + weight n ≤ y + child_weight false n → (n ≤ 3 → x + 1 ≤ y) → 3 * x + 1 ≤ 3 * y + 8 * (n - 3)
       sum n x y f l s = elim (few n) [ inl g ↦ small (s g) | inr g ↦ large g ]

@@ -1,5 +1,5 @@
 -- What several calls may have to repair does not rise while no page of a tree changes, and falls with each change.
-use Rattle.std.proofs.Common.{◌≡◌, ◌≢◌, ℕ, suc, ◌+◌, ◌*◌, ◌≤◌, Bool, false, List, [], ◌∷◌, ◌++◌, Option, Some, None, sym, refl, ap, ◌∙◌, subst, inl, inr, ◌⊎◌, arith, le_refl}
+use Rattle.std.proofs.Common.{◌≡◌, ◌≢◌, ℕ, ◌+◌, ◌*◌, ◌≤◌, Bool, false, List, ◌∷◌, ◌++◌, Option, Some, sym, refl, ap, ◌∙◌, subst, inl, inr, ◌⊎◌, arith}
 use Rattle.sled_nodes.proofs.Basics.{some_is, same_or_not, true_false}
 use Rattle.sled_store.specs.In.{In}
 use Rattle.sled_store.specs.State.{State, nodes_of}
@@ -7,8 +7,7 @@ use Rattle.sled_store.specs.Store.{Store, now}
 use Rattle.sled_store.specs.declared.page.Page.{Page}
 use Rattle.sled_model.specs.declared.tree.Tree.{Tree as NamedTree}
 use Rattle.tree_laws.specs.Forest.{Tree, Forest, Place, place}
-use Rattle.tree_laws.specs.Snapshot.{Snapshot, snapshot_of, nodes_at, HasForest}
-use Rattle.tree_laws.specs.Stages.{IsIntending}
+use Rattle.tree_laws.specs.Snapshot.{Snapshot, snapshot_of, HasForest}
 use Rattle.tree_laws.specs.declared.flight.Merge.{Merge}
 use Rattle.tree_laws.specs.declared.flight.Stage.{Stage}
 use Rattle.tree_laws.specs.declared.flight.Stage.TheVariants as stage

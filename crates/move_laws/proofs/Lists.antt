@@ -1,5 +1,5 @@
 -- Lists of calls, one of which stands between the others.
-use Rattle.std.proofs.Common.{◌≡◌, ℕ, ◌+◌, ◌≤◌, sum_by, flat_map, List, [], ◌∷◌, ◌++◌, sym, refl, ap, ◌∙◌, subst, inl, inr, ◌⊎◌, arith, le_refl}
+use Rattle.std.proofs.Common.{◌≡◌, ℕ, ◌+◌, ◌≤◌, sum_by, flat_map, List, [], ◌∷◌, ◌++◌, sym, refl, subst, inl, inr, ◌⊎◌, arith, le_refl}
 use Rattle.std.proofs.lemmas.List.Sums.{sum_by-cons}
 use Rattle.sled_store.specs.In.{In}
 use Rattle.tree_laws.proofs.Runs.{In-left, In-right, In_cases}

@@ -1,15 +1,14 @@
 -- The pages that calls are to make merging children, over a step of one of several calls.
-use Rattle.std.proofs.Common.{◌≡◌, ◌≢◌, ℕ, suc, ◌+◌, ◌*◌, ◌-◌, ◌≤◌, Bool, true, false, cond, nat_eq, List, [], ◌∷◌, ◌++◌, Option, Some, None, option_map, sym, refl, ap, ◌∙◌, subst, inl, inr, ◌⊎◌, arith, le_refl}
+use Rattle.std.proofs.Common.{◌≡◌, ℕ, suc, Bool, true, false, cond, nat_eq, List, [], ◌∷◌, Option, Some, None, sym, refl, ap, ◌∙◌, subst, inl, inr, ◌⊎◌}
 use Rattle.std.proofs.lemmas.Bool.{eq-eqb, eqb-true}
-use Rattle.sled_nodes.proofs.Basics.{some_is, none_some, same_or_not, true_false}
+use Rattle.sled_nodes.proofs.Basics.{some_is, none_some, true_false}
 use Rattle.sled_nodes.specs.Node.{pointers, Within}
 use Rattle.sled_nodes.specs.Order.{Key}
 use Rattle.sled_nodes.specs.declared.node.Node.{Node}
 use Rattle.sled_store.specs.In.{In}
-use Rattle.sled_store.specs.State.{State, nodes_of}
+use Rattle.sled_store.specs.State.{State}
 use Rattle.sled_store.specs.Store.{Store, now}
 use Rattle.sled_store.specs.declared.page.Page.{Page}
-use Rattle.sled_store.specs.declared.page.View.{View}
 use Rattle.tree_laws.specs.Forest.{Tree, Forest, Place, place, later}
 use Rattle.tree_laws.specs.Snapshot.{Snapshot, snapshot_of, nodes_at, HasForest, IsAtVersion}
 use Rattle.tree_laws.specs.Stages.{IsStage, IsIntending, IsUnder}
@@ -20,11 +19,10 @@ use Rattle.tree_laws.proofs.Cover.{one_cover, one_later}
 use Rattle.tree_laws.proofs.Known.{fresh_in, fresh_node}
 use Rattle.tree_laws.proofs.Receive.{followed}
 use Rattle.tree_laws.proofs.Runs.{In-right}
-use Rattle.sled_tree.specs.Course.{Course}
 use Rattle.move_laws.specs.Among.{IsUnderWay}
-use Rattle.move_laws.specs.Meant.{Flight, flight, has_version, meant_by, meant, grown}
+use Rattle.move_laws.specs.Meant.{Flight, has_version, meant_by, meant}
 use Rattle.move_laws.proofs.Deeds.{Receives}
-use Rattle.move_laws.proofs.Lists.{gathers, gathered, middle, others_in, one_of}
+use Rattle.move_laws.proofs.Lists.{gathers, gathered}
 
 -- a call that is to make a page a merging child, where the index is as it read it
 pub record IsMeant (s : State) (a : Stage) (c : ℕ) : Type 0 where

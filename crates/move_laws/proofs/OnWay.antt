@@ -1,18 +1,15 @@
 -- What a call is at between two of its steps stays so while a page comes or goes that no tree has.
-use Rattle.std.proofs.Common.{◌≡◌, ◌≢◌, ℕ, suc, ◌+◌, ◌*◌, ◌≤◌, Bool, false, Option, Some, option_map, sym, refl, ap, ◌∙◌, subst, inl, inr, ◌⊎◌, arith}
+use Rattle.std.proofs.Common.{◌≡◌, ◌≢◌, ℕ, suc, ◌+◌, ◌*◌, ◌≤◌, Option, Some, option_map, sym, refl, ap, ◌∙◌, subst, inl, inr, ◌⊎◌}
 use Rattle.std.specs.declared.ops.Bound.{Bound}
-use Rattle.sled_nodes.specs.Node.{count}
 use Rattle.sled_nodes.specs.Order.{Key}
-use Rattle.sled_nodes.specs.declared.node.Node.{Node}
 use Rattle.sled_store.specs.In.{In}
 use Rattle.sled_store.specs.State.{State, nodes_of, PageBecomes, after}
-use Rattle.sled_store.specs.Store.{Store, now}
 use Rattle.sled_store.specs.theory.Facts.{put_elsewhere}
 use Rattle.sled_store.specs.declared.page.Page.{Page}
 use Rattle.sled_store.specs.declared.page.View.{View}
 use Rattle.tree_laws.specs.Forest.{Tree, Forest, Place, place}
 use Rattle.tree_laws.specs.Paths.{tree_pages}
-use Rattle.tree_laws.specs.Snapshot.{Snapshot, snapshot_of, nodes_at, HasForest, IsOrphan, SeenOpen, IsAtVersion}
+use Rattle.tree_laws.specs.Snapshot.{Snapshot, nodes_at, HasForest, IsOrphan, SeenOpen, IsAtVersion}
 use Rattle.tree_laws.specs.Stages.{IsStage, IsPlace, IsMerger, child_of}
 use Rattle.tree_laws.specs.declared.flight.Merge.{Merge}
 use Rattle.tree_laws.specs.declared.flight.Posting.{Posting}
@@ -100,15 +97,18 @@ module _ (m : Snapshot) (w : Forest) (is : HasForest m w) (m' : Snapshot) (q : �
 
   pub fresh_stays : (n : ℕ) (a : Stage) → IsStage m w t number j.aim a → IsFresh m w j n a → IsFresh m' w j n a
   fresh_stays n stage.Root s k = subst (λ z. 2 * z + 2 ≤ n) (sym counts) k
-  fresh_stays n (stage.Walk a) s k = (k.0, record {
-    height = k.1.height;
-    here = record { chained = k.1.here.chained; live = node_same a.cursor (off_chain (place t k.1.height) a.cursor k.1.here.chained) ∙ k.1.here.live; awake = k.1.here.awake };
-    begins = k.1.begins;
-    is_reached = reached_stays k.1.height j.aim a.reached k.0.lo a.cursor k.1.is_reached;
-    ahead = k.1.ahead;
-    is_ahead = k.1.is_ahead;
-    few = k.1.few;
-  })
+  fresh_stays n (stage.Walk a) s k = (
+    k.0,
+    record {
+      height = k.1.height;
+      here = record { chained = k.1.here.chained; live = node_same a.cursor (off_chain (place t k.1.height) a.cursor k.1.here.chained) ∙ k.1.here.live; awake = k.1.here.awake };
+      begins = k.1.begins;
+      is_reached = reached_stays k.1.height j.aim a.reached k.0.lo a.cursor k.1.is_reached;
+      ahead = k.1.ahead;
+      is_ahead = k.1.is_ahead;
+      few = k.1.few;
+    },
+  )
   fresh_stays n (stage.Act v) s k = stays v (seen_off 0 v s.0.seen k) k
   fresh_stays n (stage.Give a) s k = absurd k
   fresh_stays n (stage.Split a) s k = (k.0, stays a.page (seen_off s.height a.page s.seen k.1) k.1, k.2, k.3, posting_stays s.height a.page _ a.posting s.posted k.4)
@@ -123,17 +123,20 @@ module _ (m : Snapshot) (w : Forest) (is : HasForest m w) (m' : Snapshot) (q : �
       record { height = k.height; above = above_stays k.height a.parent k.above; small = λ d there. k.small d (sym (node_same a.child off) ∙ there); before = k.before }
   fresh_stays n (stage.Child a) s k = record { height = k.height; merging = merging_stays k.height a k.merging; few = k.few }
   fresh_stays n (stage.Cap a) s k = record { height = k.height; merging = merging_stays k.height a.merge k.merging; child = stays (child_of a) (child_off k.height a.merge k.merging) k.child }
-  fresh_stays n (stage.Seek a) s k = (k.0, record {
-    height = k.1.height;
-    merging = merging_stays k.1.height a.merge k.1.merging;
-    child = node_same a.merge.child (child_off k.1.height a.merge k.1.merging) ∙ k.1.child;
-    here = record { chained = k.1.here.chained; live = node_same a.cursor (off_chain (place t k.1.height) a.cursor k.1.here.chained) ∙ k.1.here.live; awake = k.1.here.awake };
-    low = k.1.low;
-    before = k.1.before;
-    ahead = k.1.ahead;
-    is_ahead = k.1.is_ahead;
-    few = k.1.few;
-  })
+  fresh_stays n (stage.Seek a) s k = (
+    k.0,
+    record {
+      height = k.1.height;
+      merging = merging_stays k.1.height a.merge k.1.merging;
+      child = node_same a.merge.child (child_off k.1.height a.merge k.1.merging) ∙ k.1.child;
+      here = record { chained = k.1.here.chained; live = node_same a.cursor (off_chain (place t k.1.height) a.cursor k.1.here.chained) ∙ k.1.here.live; awake = k.1.here.awake };
+      low = k.1.low;
+      before = k.1.before;
+      ahead = k.1.ahead;
+      is_ahead = k.1.is_ahead;
+      few = k.1.few;
+    },
+  )
   fresh_stays n (stage.Receive a) s k = (stays a.left (seen_off s.height a.left s.seen k.0) k.0, stays a.merge.parent (merger_off s.height a.merge.child a.merge.parent s.merging.merger k.1) k.1, k.2)
   fresh_stays n (stage.Confirm a) s k = stays a.parent (merger_off s.height a.child a.parent s.merger k) k
 

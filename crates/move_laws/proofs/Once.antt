@@ -1,5 +1,5 @@
 -- Sums over pages, in which each of them counts once.
-use Rattle.std.proofs.Common.{◌≡◌, ◌≢◌, ℕ, zero, suc, ◌+◌, ◌≤◌, Bool, true, false, cond, nat_eq, List, [], ◌∷◌, sym, refl, ap, ◌∙◌, subst, inl, inr, ◌⊎◌, arith, le_refl, le_trans}
+use Rattle.std.proofs.Common.{◌≡◌, ◌≢◌, ℕ, ◌+◌, ◌≤◌, Bool, true, false, cond, nat_eq, List, [], ◌∷◌, sym, refl, ap, ◌∙◌, subst, inl, inr, ◌⊎◌, arith, le_trans}
 use Rattle.std.proofs.lemmas.Bool.{eq-eqb, ne_eqb}
 use Rattle.sled_nodes.proofs.Basics.{same_or_not, true_false}
 use Rattle.sled_store.specs.In.{In}

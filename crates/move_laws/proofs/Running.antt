@@ -1,16 +1,15 @@
 -- Steps of several calls in a row are counted.
-use Rattle.std.proofs.Common.{◌≡◌, ℕ, suc, ◌+◌, ◌*◌, ◌<◌, ◌≤◌, Bool, false, sum_by, List, [], ◌∷◌, ◌++◌, Option, Some, None, option_map, sym, refl, ap, ◌∙◌, subst, inl, inr, ◌⊎◌, arith, le_refl}
+use Rattle.std.proofs.Common.{◌≡◌, ℕ, suc, ◌+◌, ◌*◌, ◌<◌, ◌≤◌, Bool, false, sum_by, List, [], ◌∷◌, ◌++◌, Option, Some, option_map, sym, refl, ap, ◌∙◌, subst, inl, inr, ◌⊎◌, arith, le_refl}
 use Rattle.std.proofs.lemmas.List.Sums.{sum_by-cons}
 use Rattle.std.proofs.Math.Nat.{suc-mul, mul_comm, mul-le-mul_left}
 use Rattle.sled_nodes.proofs.Basics.{some_is, true_false, same_or_not}
 use Rattle.sled_store.specs.In.{In}
-use Rattle.sled_store.specs.State.{State, nodes_of}
+use Rattle.sled_store.specs.State.{nodes_of}
 use Rattle.sled_store.specs.Store.{Store, now}
 use Rattle.sled_store.specs.declared.page.Page.{Page}
 use Rattle.tree_laws.specs.Forest.{Tree, Forest}
 use Rattle.tree_laws.specs.Paths.{tree_pages}
 use Rattle.tree_laws.specs.Snapshot.{Snapshot, snapshot_of, HasForest}
-use Rattle.tree_laws.specs.Stages.{owned}
 use Rattle.tree_laws.specs.declared.flight.Stage.{Stage}
 use Rattle.tree_laws.specs.declared.flight.Stage.TheVariants as stage
 use Rattle.sled_tree.specs.Course.{Course}
@@ -163,7 +162,7 @@ module _ (numbers : Tree → Option ℕ) (given : ℕ → Bool) (s : Store) (fir
         → (f : Flight) → In f (l.before ++ flight l.course l.is ∷ l.behind) → tree_pages (now new) f.course.tree.name + all_left (now new) (l.before ++ flight l.course l.is ∷ l.behind) ≤ tree_pages (now s) f.course.tree.name + most
     few_now by pages left f k = elim (one_of l.before l.behind (flight l.course l.is) f k) [
       | inl e ↦ subst (λ (z : Flight). tree_pages (now new) z.course.tree.name + all_left (now new) (l.before ++ flight l.course l.is ∷ l.behind) ≤ tree_pages (now s) z.course.tree.name + most) (sym e)
-      (sum _ _ _ _ _ (pages l.course.tree.name l.course.tree.number own.named) left (few_was (flight l.course l.was) (middle l.before l.behind (flight l.course l.was))))
+          (sum _ _ _ _ _ (pages l.course.tree.name l.course.tree.number own.named) left (few_was (flight l.course l.was) (middle l.before l.behind (flight l.course l.was))))
       | inr o ↦ sum _ _ _ _ _ (pages f.course.tree.name f.course.tree.number (others f o).named) left (few_was f (others_in l.before l.behind (flight l.course l.was) f o))
     ]
       where

@@ -1,9 +1,9 @@
 -- A step by which one of several calls goes on: it brings that call on, or changes a page.
-use Rattle.std.proofs.Common.{◌≡◌, ◌≢◌, ℕ, suc, ◌+◌, ◌*◌, ◌-◌, ◌<◌, ◌≤◌, Bool, false, Option, Some, None, option_map, sym, refl, ap, ◌∙◌, subst, inl, inr, ◌⊎◌, arith, le_refl}
+use Rattle.std.proofs.Common.{◌≡◌, ℕ, ◌+◌, ◌*◌, ◌-◌, ◌<◌, ◌≤◌, Bool, false, Option, Some, None, option_map, sym, refl, ap, ◌∙◌, subst, inl, inr, ◌⊎◌, arith, le_refl}
 use Rattle.sled_nodes.specs.Node.{count}
 use Rattle.sled_nodes.specs.declared.node.Node.{Node}
 use Rattle.sled_store.specs.In.{In}
-use Rattle.sled_store.specs.State.{State, nodes_of, PageBecomes, after}
+use Rattle.sled_store.specs.State.{State, nodes_of}
 use Rattle.sled_store.specs.Store.{Store, now}
 use Rattle.sled_store.specs.theory.Facts.{put_elsewhere}
 use Rattle.sled_store.specs.declared.page.Page.{Page}
@@ -94,7 +94,7 @@ module _ (numbers : Tree → Option ℕ) (given : ℕ → Bool) (old new : Store
     going = r.2;
     small = r.3;
     keeps = λ f u k on. subst (λ (z : Forest). IsGoing m' z f.course k f.stage) (sym s.same)
-    (going_stays m w is m' s.page s.becomes s.is s.stray f.course f.course.tree.number u.named (counts f.course.tree.name f.course.tree.number u.named) k f.stage u.knows.0 on);
+        (going_stays m w is m' s.page s.becomes s.is s.stray f.course f.course.tree.number u.named (counts f.course.tree.name f.course.tree.number u.named) k f.stage u.knows.0 on);
   }
     where
       out : (x : Place) → ¬ (In s.page (w.chain x))
