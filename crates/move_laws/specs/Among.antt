@@ -1,0 +1,45 @@
+-- Steps of several calls in flight, in whatever turn.
+use Rattle.std.specs.Prelude.{◌≡◌, ℕ, suc, ◌≤◌, Bool, List, ◌∷◌, ◌++◌, Option, Some}
+use Rattle.sled_store.specs.In.{In}
+use Rattle.sled_store.specs.State.{nodes_of}
+use Rattle.sled_store.specs.Store.{Store, now}
+use Rattle.sled_model.specs.State.{IsOnKey}
+use Rattle.tree_laws.specs.Forest.{Tree, Forest}
+use Rattle.tree_laws.specs.Snapshot.{HasForest, snapshot_of}
+use Rattle.tree_laws.specs.declared.flight.Stage.{Stage}
+use Rattle.sled_tree.specs.Course.{Course}
+use Rattle.sled_tree.specs.Stages.{Knows}
+use Rattle.tree_progress.specs.Alone.{GoesOnAlone}
+use Rattle.tree_progress.specs.Steps.{HasHalves}
+use Rattle.move_laws.specs.Meant.{Flight, flight, moves_bound}
+
+-- A call on a key in flight that knows at its stage what every such call knows there. A split that it has begun has the halves that a
+-- split makes
+pub record IsUnderWay (numbers : Tree → Option ℕ) (given : ℕ → Bool) (s : Store) (w : Forest) (f : Flight) : Type 0 where
+  pub named : numbers f.course.tree.name ≡ Some f.course.tree.number
+  pub on_key : IsOnKey f.course.call
+  pub knows : Knows (snapshot_of s numbers given) w f.course f.stage
+  pub halves : HasHalves (nodes_of (now s)) f.stage
+
+-- A step by which one of several calls goes on. The others are where they were, and know still what they need
+pub record GoesOnAmong (numbers : Tree → Option ℕ) (given : ℕ → Bool) (old : Store) (fs : List Flight) (w : Forest) (new : Store) (gs : List Flight) (v : Forest) : Type 0 where
+  pub course : Course
+  pub was : Stage
+  pub is : Stage
+  pub before : List Flight
+  pub behind : List Flight
+  pub from : fs ≡ before ++ flight course was ∷ behind
+  pub to : gs ≡ before ++ flight course is ∷ behind
+  pub goes : GoesOnAlone numbers given course old was w new is v
+  pub others : (f : Flight) → In f (before ++ behind) → Knows (snapshot_of new numbers given) v f.course f.stage
+
+-- so many of them in a row, of whichever call each time
+pub data MovesAmong (numbers : Tree → Option ℕ) (given : ℕ → Bool) (s : Store) (fs : List Flight) (w : Forest) : ℕ → Store → List Flight → Forest → Type 0 where
+  Begins : MovesAmong numbers given s fs w 0 s fs w
+  Moves : {n : ℕ} {b c : Store} {gs hs : List Flight} {u v : Forest} → MovesAmong numbers given s fs w n b gs u → GoesOnAmong numbers given b gs u c hs v → MovesAmong numbers given s fs w (suc n) c hs v
+
+-- Of calls on keys in flight, however many there are, whatever their stages are and whatever was left half done, no more steps go on in a
+-- row than the pages tell, whichever call does each of them
+abbrev pub AmongLaw : Type 0
+AmongLaw = (numbers : Tree → Option ℕ) (given : ℕ → Bool) (s : Store) (fs : List Flight) (w : Forest) → HasForest (snapshot_of s numbers given) w → ((f : Flight) → In f fs → IsUnderWay numbers given s w f)
+    → (n : ℕ) (new : Store) (gs : List Flight) (v : Forest) → MovesAmong numbers given s fs w n new gs v → n ≤ moves_bound (now s) fs
