@@ -1,6 +1,6 @@
 -- The walk of a call over a clean path, and its last step.
 use native.Mathlib.Omega.{arith}
-use Rattle.std.proofs.Common.{◌≡◌, ℕ, ◌+◌, ◌<◌, ◌≤◌, Bool, true, false, List, [], ◌∷◌, ◌++◌, Option, Some, None, Result, Ok, Err, sym, refl, ap, ◌∙◌, subst}
+use Rattle.std.proofs.Common.{◌≡◌, ℕ, ◌+◌, ◌<◌, ◌≤◌, Bool, true, false, List, [], ◌∷◌, ◌++◌, Option, Some, None, Result, Ok, Err, IfOk, IfErr, sym, refl, ap, ◌∙◌, subst}
 use Rattle.std.specs.declared.ops.Bound.{Bound}
 use Rattle.std.specs.declared.ops.Bound.TheVariants.{Included}
 use Rattle.sled_nodes.specs.Among.{IsPointer}
@@ -18,9 +18,11 @@ use Rattle.sled_model.specs.Maps.{Merge}
 use Rattle.sled_model.specs.State.{IsOnKey}
 use Rattle.sled_model.specs.declared.TheConstants.{MAX_LOOPS}
 use Rattle.sled_model.specs.declared.call.Call.{Call}
+use Rattle.sled_model.specs.declared.call.Call.TheVariants.{Get}
 use Rattle.sled_model.specs.declared.decision.Decision.{Decision}
 use Rattle.sled_model.specs.declared.decision.Effect.TheVariants as effect
 use Rattle.sled_model.specs.declared.reply.Reply.{Reply}
+use Rattle.sled_model.specs.declared.reply.Reply.TheVariants.{Value}
 use Rattle.sled_model.specs.declared.tree.Tree.{Tree}
 use Rattle.tree_laws.specs.Snapshot.{LiesUnder}
 use Rattle.tree_laws.specs.Stages.{by_pointer}
@@ -44,7 +46,7 @@ use Rattle.sled_tree.proofs.Facts.{flies_by_these}
 use Rattle.sled_tree.proofs.Known.{aims}
 use Rattle.sled_tree.proofs.Linking.{link_done, link_refused}
 use Rattle.sled_tree.proofs.Replying.{read_law}
-use Rattle.tree_quick.specs.theory.Quick.{as_begun, RunsStraight, IsCleanFor, IsRead, FindsLeaf, LeadsToLeaf, comes_to, links_now}
+use Rattle.tree_quick.specs.theory.Quick.{as_begun, RunsStraight, IsCleanFor, IsGet, IsRead, FindsLeaf, LeadsToLeaf, comes_to, links_now}
 use Rattle.tree_quick.specs.declared.quick.AtLeaf.TheVariants.{Replies, Links}
 
 -- ---- the walk
@@ -196,6 +198,15 @@ module _ (operator : Option Merge) (call : Call) (content : Data) (d : Decision)
       go None off = refl
       go (Some reply) e = silent (sym (ap (λ (z : Decision). link_of z.effect (key_of call)) e) ∙ l)
 
+-- a get changes nothing, and replies with the value there
+get_replies : (operator : Option Merge) (call : Call) → IsGet call → (content : Data) → comes_to operator call content (Replies (Value (value_at content (key_of call))))
+get_replies operator (Get key) is content = refl
+get_replies operator other is content = absurd is
+
+pub get_on_key : (call : Call) → IsGet call → IsOnKey call
+get_on_key (Get key) is = refl
+get_on_key other is = absurd is
+
 -- the leaf was not changed since it was read
 pub unchanged : {change : Rattle.sled_nodes.specs.declared.node.Node.Node → Rattle.sled_nodes.specs.declared.node.Node.Node} {pid version : ℕ} {old new : Store} {present : Option ℕ} → version_now old pid ≡ Some version → Changes change pid version old new (Err present) → ⊥
 unchanged now c = c.is.2 (c.is.1 ∙ now)
@@ -229,6 +240,11 @@ module _ (operator : Option Merge) (s : Store) (f : InFlight) (view : View) (k :
     has_turns = has_one;
     ends = by_read (went.Decided reply) (comes_to_reply s k.last view k.leaf k.clean k.meets reply (subst IsOnKey (sym call_is) on_key) (ap (λ c. reply_at c view.node.content) call_is ∙ comes));
   }
+
+  -- of a get always,
+  pub leaf_tells : IsGet call → (made : Result Reply Error) → IfOk made (λ reply. reply ≡ Value (value_at view.node.content (key_of call))) → IfErr made (λ e. e ≡ NoMemory) → RunsStraight operator s f made s
+  leaf_tells get (Ok reply) told none = leaf_replies reply (subst (λ r. comes_to operator call view.node.content (Replies r)) (sym told) (get_replies operator call get view.node.content))
+  leaf_tells get (Err e) told none = leaf_refuses e none
 
   -- or the change is linked
   abbrev acting : InFlight

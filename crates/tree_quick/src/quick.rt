@@ -1,12 +1,16 @@
 //! A whole call on a key over a clean path.
-ghost use Rattle.std.specs.Prelude.{◌≡◌, true, IfOk, IfErr, IfSome, IfNone, Some};
+ghost use Rattle.std.specs.Prelude.{◌≡◌, true, IfOk, IfErr, IfSome, IfNone, Option, Some};
 ghost use Rattle.std.specs.Option.{option_map};
 ghost use Rattle.sled_nodes.specs.declared.error.Error.TheVariants.{NoMemory};
 ghost use Rattle.sled_store.specs.Store.{now};
+ghost use Rattle.sled_nodes.specs.Node.{value_at};
+ghost use Rattle.sled_model.specs.Answer.{key_of};
+ghost use Rattle.sled_model.specs.Maps.{Merge};
 ghost use Rattle.sled_model.specs.State.{IsOnKey};
+ghost use Rattle.sled_model.specs.declared.reply.Reply.TheVariants.{Value};
 ghost use Rattle.sled_tree.specs.Passing.{IsUnchanged};
 ghost use Rattle.sled_tree.specs.declared.flight.InFlight.{InFlight};
-ghost use Rattle.tree_quick.specs.theory.Quick.{as_begun, RunsStraight, IsCleanFor, IsRead, FindsLeaf, LeadsToLeaf, comes_to, links_now};
+ghost use Rattle.tree_quick.specs.theory.Quick.{as_begun, RunsStraight, IsCleanFor, IsGet, IsRead, FindsLeaf, LeadsToLeaf, comes_to, links_now};
 
 use sled_model::{Call, Decision, Effect, MergeOperator, Reply, Tree};
 use sled_nodes::{Data, Link, Node, Pid, Result};
@@ -171,16 +175,38 @@ fn end_at<P: Pages, M: MergeOperator>(
     }
 }
 
-/// Makes a call on a key of a tree, where nothing is to be repaired on the way to its leaf, by the steps that a call in flight makes there.
-/// Else it does nothing, and answers `None`.
-///
-/// ```
-/// match make_quick(&mut pages, alloc, operator, &tree, &call) {
-///     Some(made) => made, // It was decided or refused.
-///     None => (),         // It is to be made in flight, from its begin.
-/// }
-/// ```
-pub fn make_quick<P: Pages, M: MergeOperator>(
+// The reply of a get at its leaf, which was just read.
+#[inline(always)]
+fn value_of(leaf: View, call: &Call) -> Result<Reply>
+    ensures ok { IfOk result (λ reply. reply ≡ Value (value_at leaf.node.content (key_of call.now))) }
+    ensures err { IfErr result (λ e. e ≡ NoMemory) }
+{
+    let found = leaf.node.get(call.key());
+    drop(leaf);
+    match found {
+        Ok(value) => Ok(Reply::Value(value)),
+        Err(e) => Err(e),
+    }
+}
+
+// Makes a get. It is apart from the calls that may change something, so that they do not slow it down.
+#[inline(never)]
+fn get_quick<P: Pages>(pages: &P, alloc: Global, tree: &Tree, call: &Call) -> Option<Result<Reply>>
+    requires { IsGet call.now }
+    ensures { IfSome result (λ made. (operator : Option Merge) → RunsStraight operator (P.store pages.now) (as_begun tree.now call.now) made (P.store pages.now)) }
+{
+    let Some(root) = pages.root(tree.name.as_ref()) else {
+        return None;
+    };
+    let Some(leaf) = clean_leaf(pages, alloc, root, call.key()) else {
+        return None;
+    };
+    Some(value_of(leaf, call))
+}
+
+// Makes a call that may change its leaf.
+#[inline(never)]
+fn change_quick<P: Pages, M: MergeOperator>(
     pages: &mut P,
     alloc: Global,
     operator: Option<&M>,
@@ -198,4 +224,31 @@ pub fn make_quick<P: Pages, M: MergeOperator>(
         return None;
     };
     Some(end_at(pages, alloc, operator, call, leaf))
+}
+
+/// Makes a call on a key of a tree, where nothing is to be repaired on the way to its leaf, by the steps that a call in flight makes there.
+/// Else it does nothing, and answers `None`.
+///
+/// ```
+/// match make_quick(&mut pages, alloc, operator, &tree, &call) {
+///     Some(made) => made, // It was decided or refused.
+///     None => (),         // It is to be made in flight, from its begin.
+/// }
+/// ```
+#[inline(always)]
+pub fn make_quick<P: Pages, M: MergeOperator>(
+    pages: &mut P,
+    alloc: Global,
+    operator: Option<&M>,
+    tree: &Tree,
+    call: &Call,
+) -> Option<Result<Reply>>
+    requires { IsOnKey call.now }
+    ensures made { IfSome result (λ made. RunsStraight (option_map (λ o. M.meant o.now) operator.entry) (P.store pages.old) (as_begun tree.now call.now) made (P.store pages.new)) }
+    ensures nothing { IfNone result (pages.new ≡ pages.old) }
+{
+    match call {
+        Call::Get(_) => get_quick(pages, alloc, tree, call),
+        _ => change_quick(pages, alloc, operator, tree, call),
+    }
 }

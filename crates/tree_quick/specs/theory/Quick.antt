@@ -14,6 +14,7 @@ use Rattle.sled_model.specs.Maps.{Merge}
 use Rattle.sled_model.specs.State.{IsOnKey}
 use Rattle.sled_model.specs.declared.TheConstants.{MAX_LOOPS}
 use Rattle.sled_model.specs.declared.call.Call.{Call}
+use Rattle.sled_model.specs.declared.call.Call.TheVariants.{Get}
 use Rattle.sled_model.specs.declared.reply.Reply.{Reply}
 use Rattle.sled_model.specs.declared.tree.Tree.{Tree}
 use Rattle.tree_laws.specs.Snapshot.{LiesUnder}
@@ -50,6 +51,10 @@ pub record IsCleanFor (key : Key) (first : Bool) (n : Node) : Type 0 where
   pub fits : count n.content ≤ 16
   pub settled : first ≡ false → 3 < count n.content
   pub under : LiesUnder (Included key) n
+
+abbrev pub IsGet : Call → Type 0
+IsGet (Get key) = Unit {0}
+IsGet other = ⊥
 
 -- the page as the store has it, which is readable
 pub record IsRead (s : Store) (pid : ℕ) (view : View) : Type 0 where

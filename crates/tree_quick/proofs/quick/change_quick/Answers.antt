@@ -1,7 +1,7 @@
 use Rattle.std.proofs.Common.{refl, sym, ap, ◌∙◌}
 use Rattle.sled_store.specs.Store.{now}
 use Rattle.tree_quick.specs.theory.Quick.{as_begun}
-use Rattle.tree_quick.proofs.quick.make_quick.Goals as goal
+use Rattle.tree_quick.proofs.quick.change_quick.Goals as goal
 
 pub returns-clause-made : goal.returns-clause-made
 returns-clause-made g c =
