@@ -18,7 +18,7 @@ use Rattle.sled_tree.specs.declared.flight.Sequel.TheVariants.{Go}
 use Rattle.tree_progress.specs.Steps.{HasHalves}
 use Rattle.tree_progress.proofs.Alone.{less_left}
 use Rattle.tree_progress.proofs.Halves.{halves_law}
-use Rattle.move_laws.specs.Among.{IsUnderWay, GoesOnAmong, MovesAmong, Begins, Moves, AmongLaw}
+use Rattle.move_laws.specs.Among.{IsUnderWay, GoesOnAmong, MovesAmong, Begins, Moves, AmongLaw, LeftLaw}
 use Rattle.move_laws.specs.Meant.{Flight, flight, all_left, moves_bound}
 use Rattle.move_laws.proofs.Falling.{still_all, repairs_all, takes_all}
 use Rattle.move_laws.proofs.Deeds.{Changes}
@@ -248,6 +248,23 @@ module _ (numbers : Tree → Option ℕ) (given : ℕ → Bool) (s : Store) (fir
           ]
         ]
 
+    weaker : (x y : ℕ) → x + 1 ≤ y → x ≤ y
+    weaker x y u = omega arith
+
+    left_now : all_left (now new) (l.before ++ flight l.course l.is ∷ l.behind) ≤ all_left (now old) (l.before ++ flight l.course l.was ∷ l.behind)
+    left_now =
+        let a = pick m w l.before l.behind (flight l.course l.was) r.ahead going_was in
+        elim (steps numbers given old new w v r.formed l.goes.formed l.course a.0 l.was l.is own l.goes a.2) [
+          | inl k ↦ still_all numbers given old new w v r.formed l.course l.was l.is l.before l.behind own others k
+          | inr x ↦ weaker _ _ (elim x.1 [
+            | inl k ↦ repairs_all numbers given old new w v r.formed l.course l.was l.is l.before l.behind own others x.0 k
+            | inr k ↦ takes_all numbers given old new w v r.formed l.course l.was l.is l.before l.behind own others x.0 k.0 k.1 k.2
+          ])
+        ]
+
+    left : all_left (now new) gs ≤ all_left (now old) fs
+    left = subst (λ z. all_left (now new) z ≤ all_left (now old) fs) (sym l.to) (subst (λ z. all_left (now new) (l.before ++ flight l.course l.is ∷ l.behind) ≤ all_left (now old) z) (sym l.from) left_now)
+
     step : IsRunning new gs v (suc i)
     step = subst (λ z. IsRunning new z v (suc i)) (sym l.to) step_now
 
@@ -269,3 +286,8 @@ module _ (numbers : Tree → Option ℕ) (given : ℕ → Bool) (s : Store) (fir
 
 pub among_law : AmongLaw
 among_law numbers given s fs w is under n new gs v m = few_steps numbers given s fs (runs numbers given s fs w (start numbers given s fs w is under) n new gs v m)
+
+pub left_law : LeftLaw
+left_law numbers given old fs w is under new gs v l =
+    let r = start numbers given old fs w is under in
+    record { left = left numbers given old fs old new fs gs w v 0 r l; under = (step numbers given old fs old new fs gs w v 0 r l).under }

@@ -11,7 +11,7 @@ use Rattle.sled_tree.specs.Course.{Course}
 use Rattle.sled_tree.specs.Stages.{Knows}
 use Rattle.tree_progress.specs.Alone.{GoesOnAlone}
 use Rattle.tree_progress.specs.Steps.{HasHalves}
-use Rattle.move_laws.specs.Meant.{Flight, flight, moves_bound}
+use Rattle.move_laws.specs.Meant.{Flight, flight, all_left, moves_bound}
 
 -- A call on a key in flight that knows at its stage what every such call knows there. A split that it has begun has the halves that a
 -- split makes
@@ -43,3 +43,13 @@ pub data MovesAmong (numbers : Tree → Option ℕ) (given : ℕ → Bool) (s : 
 abbrev pub AmongLaw : Type 0
 AmongLaw = (numbers : Tree → Option ℕ) (given : ℕ → Bool) (s : Store) (fs : List Flight) (w : Forest) → HasForest (snapshot_of s numbers given) w → ((f : Flight) → In f fs → IsUnderWay numbers given s w f)
     → (n : ℕ) (new : Store) (gs : List Flight) (v : Forest) → MovesAmong numbers given s fs w n new gs v → n ≤ moves_bound (now s) fs
+
+-- What such a step leaves: the calls may have no more to repair than before, and each of them knows still what it needs
+pub record LeavesAmong (numbers : Tree → Option ℕ) (given : ℕ → Bool) (old : Store) (fs : List Flight) (new : Store) (gs : List Flight) (v : Forest) : Type 0 where
+  pub left : all_left (now new) gs ≤ all_left (now old) fs
+  pub under : (f : Flight) → In f gs → IsUnderWay numbers given new v f
+
+-- A step of any of several calls leaves this
+abbrev pub LeftLaw : Type 0
+LeftLaw = (numbers : Tree → Option ℕ) (given : ℕ → Bool) (old : Store) (fs : List Flight) (w : Forest) → HasForest (snapshot_of old numbers given) w → ((f : Flight) → In f fs → IsUnderWay numbers given old w f)
+    → (new : Store) (gs : List Flight) (v : Forest) → GoesOnAmong numbers given old fs w new gs v → LeavesAmong numbers given old fs new gs v

@@ -14,10 +14,20 @@
 //! Nothing is done here.
 #![tactic(auto)]
 
-ghost use Rattle.move_laws.specs.Among.{AmongLaw};
+ghost use Rattle.move_laws.specs.Among.{AmongLaw, LeftLaw};
 
-/// Does nothing. Of calls on keys in flight on well-formed pages, however many there are, whatever their stages are and whatever was left
-/// half done, no more steps go on in a row than `moves_bound` tells of the pages, whichever call does each of them.
+/// Does nothing. A step by which one of several calls on keys goes on leaves what they may have to repair (`all_left`) as it is, or lowers
+/// it. Each of them knows then what it needs, and a split that it has begun has the halves that a split makes.
+///
+/// ```
+/// law_left(); // From here on a proof knows it.
+/// ```
+pub fn law_left()
+    ensures { LeftLaw }
+{}
+
+/// Does nothing. Of calls on keys in flight on well-formed pages no more steps go on in a row than `moves_bound` tells of the pages,
+/// whichever call does each of them. So it is however many calls there are, at whatever stages, and whatever was left half done.
 ///
 /// ```
 /// law_among(); // From here on a proof knows it.
