@@ -38,10 +38,12 @@ fn began_with<P: Pages, L: Ledger, M: MergeOperator>(
 
 impl<P: Pages, L: Ledger, M: MergeOperator> Db<P, L, M> {
     /// Takes the state out, once all callers are done. All handles that were made must be handed in, in any order; where none was made the
-    /// empty list is all. Each handle's list is compared with the history: it must be that of the entries with its number, in order, and
-    /// the history must have no others; and what the state began with must be what the database had when it was shared. Where it is not
-    /// so, the database and the handles are given back, and the state stays under its lock. The history of the state is legal, up to the maps
-    /// now while its database is open; a crash may leave the maps after each entry and part of it, from the last flush on; and its ids rise.
+    /// empty list is all. Each handle's list is compared with the history: it must be that of the entries with its number, in order. The
+    /// history must have no others, and the state must have begun with what the database had when it was shared. Where it is not so, the
+    /// database and the handles are given back, and the state stays under its lock.
+    ///
+    /// The history of the state is legal, up to the maps now while its database is open. A crash may leave the maps after each entry and part
+    /// of it, from the last flush on. The ids in it rise.
     ///
     /// ```
     /// match shared.gather(rt, handles) {

@@ -1,8 +1,8 @@
 //! One database for many callers, with the history of what they made.
 //!
 //! A `Db` holds a machine under a lock, and each caller has a `Handle` to it. The lock is taken for one step of one call, and is free between
-//! two steps, so the calls of several threads go on side by side. Each call on a key and each whole call that is decided is noted: at the
-//! end of the history, with the number of the caller whose step decided it, and at the end of that caller's own list. A `Clear` or an
+//! two steps, so the calls of several threads go on side by side. Each call on a key and each whole call that is decided is noted at the end
+//! of the history, with the number of the caller whose step decided it. It comes to the end of that caller's own list too. A `Clear` or an
 //! `Import` that is refused midway is noted with the parts that it did. A read under one lock, which takes no slot, is noted with what it
 //! told: a value, a pair, a count, a page of a range, the names of the trees, or an export (`specs/Reads`).
 //!

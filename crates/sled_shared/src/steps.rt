@@ -229,8 +229,8 @@ impl<P: Pages, L: Ledger, M: MergeOperator> State<P, L, M> {
     }
 
     /// What scans did, in the order of their steps, each with its slot and the length of the history then: they began, gave a pair, or ended.
-    /// Those lengths never fall. It is empty where the database was shared by `new`; by `new_noting_scans` it has all that scans did since, as
-    /// long as `keeps_scans` is true.
+    /// Those lengths never fall. As long as `keeps_scans` is true, each `begin` and each `step` notes what it was of a scan. Else it notes
+    /// nothing, as where the database was shared by `new`.
     ///
     /// ```
     /// let gave = state.scans().len();

@@ -199,9 +199,9 @@ where
 }
 
 impl<P: Pages + Sync, L: Ledger, M: MergeOperator> Handle<P, L, M> {
-    /// Runs a closure as a transaction of a tree: all that it writes is made, or nothing. It is one step under the lock, so nobody writes
-    /// between what it read and what it wrote. What it wrote comes to the end of this caller's list, also where that is nothing, with what
-    /// stood before at each key that it wrote.
+    /// Runs a closure as a transaction of a tree: all that it writes is made, or nothing. It is one step under the lock. What it wrote comes to
+    /// the end of this caller's list, also where that is nothing, with what stood before at each key that it wrote: the closure was run over
+    /// maps that had this there. Of keys that it read and did not write the list tells nothing.
     ///
     /// Behind it comes the flush that the closure asked for. Of a transaction that is given up or refused nothing comes to the list; but where
     /// the flush is refused what it wrote stands, and is there.
