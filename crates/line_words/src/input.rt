@@ -123,7 +123,8 @@ fn copy_part<R: BufRead>(input: &mut R, line: &mut Vec<u8>) -> Result<bool, Stop
     Ok(ends)
 }
 
-// Copies the next line with the byte that ends it, and goes past it.
+// Copies the next line with the byte that ends it, and goes past it. Out of line, since most lines are read where they lie.
+#[inline(never)]
 fn copy_line<R: BufRead>(input: &mut R, line: &mut Vec<u8>) -> Result<(), Stopped>
     requires { line.old.items ≡ [] }
     ensures bytes { OnOk result (IfSome (R.remaining input.old) (λ xs. line.new.items ≡ take_through 10 xs)) }
