@@ -282,11 +282,15 @@ impl MemoryDisk {
     }
 
     /// What a crash leaves: a file of its own, all of it on the disk, which refuses no call. The numbers choose among all that the
-    /// disk may leave. Of each write since the last sync, the first of them first: of a single byte within the file whether it is
-    /// lost (1) or not (0); else how many bytes of it come to be past the old end, and then of each byte whether it is the new
-    /// one (0), the old one (1) or any other (2 more than that one). Of a cut how many bytes it leaves of those to be cut off. A
-    /// write behind the end of what is left is lost, and no number chooses. Refused with `NoMemory` alone, and then no number
-    /// has chosen.
+    /// disk may leave: of each call since the last sync, the first of them first.
+    ///
+    /// - Of a write of a single byte within the file, a number says whether it is lost (1) or not (0).
+    /// - Of any other write, the first number says how many bytes come to be past the old end. Then a number for each byte says
+    ///   whether it is the new one (0), the old one (1) or any other (2 more than that one).
+    /// - Of a write behind the end of what is left, nothing is left, and no number chooses.
+    /// - Of a cut, a number says how many bytes it leaves of those to be cut off.
+    ///
+    /// Refused with `NoMemory` alone, and then no number has chosen.
     ///
     /// ```
     /// let mut choices = Choices::new(Vec::new(alloc)); // Numbers that are used up choose 0.

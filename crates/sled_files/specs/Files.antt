@@ -7,8 +7,8 @@ use Rattle.sled_files.specs.Change.{Durable}
 use Rattle.sled_files.specs.Standing.{StandsAt, IsBlank, IsOlder, AreFor}
 use Rattle.sled_files.specs.Lasting.{EachPair}
 
--- the files, whether the second is the one that counts, where the closed gate of its log is, how long the snapshot is that it begins
--- with, its generation, and whether a call of a disk was refused, so that nothing is known of the file but what a crash may leave
+-- The files, whether the second is the one that counts, where the closed gate of its log is, how long the snapshot is that it begins
+-- with, and its generation. And whether a call of a disk was refused: then nothing is known of its file but what a crash may leave
 pub record Files (D : Type 0) : Type 0 where
   pub first : D
   pub second : D

@@ -10,7 +10,7 @@ use Rattle.sled_files.specs.Change.{nothing_yet, changed_all, AreOfStore}
 use Rattle.sled_files.specs.Header.{magic, format, header}
 use Rattle.sled_files.specs.Standing.{all_changes, IsBlank, OfGeneration, IsOlder}
 
--- the bytes say whose file it is where the header of the first block stands
+-- the bytes say whose file it is, where the header of the first block is
 abbrev pub HasMagic : List ℕ → Type 0
 HasMagic bytes = take 8 (drop 17 bytes) ≡ magic
 
@@ -49,7 +49,7 @@ pub record Breaks (place : ℕ) (bytes : List ℕ) : Type 0 where
 abbrev pub HasNoFlaw : List ℕ → Type 0
 HasNoFlaw bytes = IsBlank bytes ⊎ ((generation : ℕ) × OfGeneration bytes generation)
 
--- what is wrong with a file alone. The header begins behind the 17 bytes that stand before the first payload
+-- what is wrong with a file alone. The header begins behind the 17 bytes that are before the first payload
 abbrev pub IsFlawOf : OpenError → List ℕ → Type 0
 IsFlawOf NotAStore bytes = (HasNoFlaw bytes → ⊥) × (HasMagic bytes → ⊥)
 IsFlawOf (OtherFormat other) bytes = HasMagic bytes × HasOtherFormat other bytes

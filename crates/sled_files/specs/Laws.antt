@@ -23,8 +23,8 @@ FlushEnds = (limits : Limits) (s : Store) (d : Durable) (bytes : List ℕ) (p : 
 abbrev pub NewStoreLasts : Type 0
 NewStoreLasts = (generation : ℕ) (d : Durable) (first second left : List ℕ) → AreBlank first second → IsBegun first generation d left → AreBlank left second ⊎ AreFor left second d
 
--- What a store that is opened has of the one before: a state that a crash may leave of it, the mark that was set aside or a higher one
--- that was asked for, and all numbers below the limits count as given
+-- What a store that is opened has of the one before: a state that a crash may leave of it, and the mark that was set aside or a higher
+-- one that was asked for. All numbers below the limits count as given
 pub record GoesOn (asked : List ℕ) (limits : Limits) (before opened : Store) : Type 0 where
   pub base : IsCrashState before opened.base
   pub recent : opened.recent ≡ []

@@ -54,9 +54,9 @@ is_why_closed e first second = is_why_unopened e first second
 abbrev pub IsTold : OpenError → OpenError → Type 0
 IsTold flaw told = (told ≡ flaw) ⊎ is_refusal told
 
--- What a crash leaves of two disks from when they are given to be opened until they are given back, in a store or as they were refused:
--- of each what it might have left of it before; of the first, where both files are blank, also what is left of a store's first file
--- while it is begun
+-- What a crash leaves of two disks from when they are given to be opened until they are given back, in a store or as they were refused.
+-- Of each it is what might have been left of it before. Of the first, where both files are blank, it is also what is left of a store's
+-- first file while it is begun
 pub record LeavesWhileOpened {D : Type 0} (seen : D → List ℕ) (moment : D → ℕ) (left_since : D → ℕ → List ℕ → Type 0) (may_leave : D → List ℕ → Type 0) (first second first_then second_then : D) : Type 0 where
   pub first_is : (c : List ℕ) → left_since first_then (moment first) c → may_leave first c ⊎ (AreBlank (seen first) (seen second) × IsBegun (seen first) 1 nothing_yet c)
   pub second_is : (c : List ℕ) → left_since second_then (moment second) c → may_leave second c

@@ -8,8 +8,8 @@ use Rattle.sled_files.specs.Files.{Files, IsReady}
 use Rattle.sled_files.specs.Lasting.{Limits, IsLasting, EachPair}
 use Rattle.sled_files.specs.Pending.{IsPending}
 
--- the pages in memory, the files, the bytes that the next flush adds to them, the mark, the limits, a mark that may be in the files
--- though it was refused, and how many calls were refused for a fault of the files
+-- The pages in memory, the files, the bytes that the next flush adds to them, the mark, and the limits. A mark that may be in the
+-- files though it was refused, and how many calls were refused for a fault of the files
 pub record Stored (D : Type 0) : Type 0 where
   pub pages : MemPages
   pub files : Files D

@@ -643,8 +643,8 @@ impl<D: Disk + Send> Pages for FilePages<D> {
     ghost given = { λ f. given_over f };
 }
 
-/// Does nothing. It tells that whatever a crash leaves of the two files now is right for the store: a state that `Pages` allows, its
-/// mark or one that a disk refused, and limits below which are all page numbers and versions that were given.
+/// Does nothing. It tells that whatever a crash leaves of the two files now is right for the store. They have a state that `Pages`
+/// allows, its mark or one that a disk refused, and limits below which are all page numbers and versions that were given.
 ///
 /// ```
 /// law_lasts(&store); // From here on a proof knows what a crash may leave now.

@@ -16,7 +16,7 @@ const MAGIC: u64 = 0x6b65_7661_6e6e_6f64;
 
 const FORMAT: u32 = 1;
 
-// How many bytes of a block stand before its payload.
+// How many bytes of a block are before its payload.
 const AHEAD: usize = 17;
 
 /// Why files are not opened as a store.
@@ -70,7 +70,7 @@ fn begins_with_magic(bytes: &[u8]) -> bool
     }
 }
 
-// Whether the name of the format stands where the first payload of a log begins.
+// Whether the name of the format is where the first payload of a log begins.
 fn has_magic(bytes: &[u8]) -> bool
     ensures { IsTrue result ↔ HasMagic bytes.now }
 {

@@ -21,7 +21,8 @@ impl<D: Disk> FilePages<D> {
 
     /// Opens a store in two files: the one that they stand for, as a crash or a drop left it, or a new one where both are blank. What
     /// the files have is brought to the disks first. Refused where they are of none (`NotAStore`, `OtherFormat`, `Decayed`), for want
-    /// of memory, or by a disk. Then the disks are handed back. Nothing was written on them but where both were blank.
+    /// of memory, or by a disk. Then the disks are handed back: a crash leaves what it might have left before. Where both were blank,
+    /// it may also leave a part of a new store.
     ///
     /// ```
     /// match FilePages::open(alloc, first, second) {

@@ -11,10 +11,10 @@ use crate::two_files::TwoFiles;
 use sled_disk::{Disk, DiskError};
 use sled_nodes::{Error, Fault, Result};
 
-/// The code of the fault that no page number, version or generation is left.
+/// The code of the fault that no page number or version is left.
 pub const USED_UP: u32 = 3;
 
-/// The code of the fault that a disk has no room.
+/// The code of the fault that a disk has no room, or that the log or its generation would be too large.
 pub const DISK_FULL: u32 = 4;
 
 /// The code of the fault that a disk failed in another way, or that one refused a call before.

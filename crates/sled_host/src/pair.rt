@@ -1,5 +1,5 @@
 //! The two files of a store, in a folder: made where they are not there, locked, and opened.
-ghost use Rattle.std.specs.Prelude.{◌≡◌, IfOk};
+ghost use Rattle.std.specs.Prelude.{◌≡◌, true, IfOk};
 ghost use Rattle.sled_disk.specs.Disk.{Only};
 ghost use Rattle.sled_host.specs.Host.{bytes_of, outcomes_of, faults_of};
 
@@ -47,9 +47,9 @@ pub enum HostError {
     Locked,
     /// The file system has no locks.
     NoLocks(io::Error),
-    /// At the path of the store stands something else than a folder.
+    /// At the path of the store is something else than a folder.
     NotAFolder,
-    /// At the name of a file stands something else than a regular file, or it was put there as the file was opened.
+    /// At the name of a file is something else than a regular file, or it was put there as the file was opened.
     NotAFile,
     /// A call of the system failed.
     Io(io::Error),
@@ -96,6 +96,8 @@ pub fn open_pair(rt: &HostRuntime, path: &str, opening: Opening) -> Result<Pair,
     ensures first { IfOk result (λ pair. Only (bytes_of pair.first) (outcomes_of pair.first)) }
     ensures second { IfOk result (λ pair. Only (bytes_of pair.second) (outcomes_of pair.second)) }
     ensures unfailing { IfOk result (λ pair. (faults_of pair.first ≡ 0) × (faults_of pair.second ≡ 0)) }
+    // Files that cannot be locked are opened only where that is allowed.
+    ensures locked { IfOk result (λ pair. opening.needs_lock ≡ true → pair.is_locked ≡ true) }
 {
     let is_new = opening.creates && make_folder(rt, path)?;
     let folder = folder_at(rt, path)?;
@@ -137,6 +139,7 @@ fn open_file(
 ) -> Result<(HostFile, bool), HostError>
     ensures durable { IfOk result (λ it. Only (bytes_of it.0) (outcomes_of it.0)) }
     ensures unfailing { IfOk result (λ it. faults_of it.0 ≡ 0) }
+    ensures locked { IfOk result (λ it. opening.needs_lock ≡ true → it.1 ≡ true) }
 {
     let path = folder.join(rt.alloc(), name)?;
     let file = open_or_make(rt, path.as_str(), opening.creates)?;
@@ -183,7 +186,9 @@ fn open_old(rt: &HostRuntime, path: &str) -> Result<File, HostError> {
 }
 
 // Locks a file for as long as it is open, and says whether that could be done.
-fn lock(file: &File, needs_lock: bool) -> Result<bool, HostError> {
+fn lock(file: &File, needs_lock: bool) -> Result<bool, HostError>
+    ensures { IfOk result (λ is_locked. needs_lock ≡ true → is_locked ≡ true) }
+{
     match file.try_lock() {
         Ok(()) => Ok(true),
         Err(TryLockError::WouldBlock) => Err(HostError::Locked),
@@ -208,7 +213,7 @@ fn sync_folder(rt: &HostRuntime, path: &str) -> io::Result<()> {
     File::open(rt, path)?.sync_all()
 }
 
-// Brings the name of a folder to the disk. One that was there may stand in a folder that this process cannot read.
+// Brings the name of a folder to the disk. One that was there may be in a folder that this process cannot read.
 fn sync_parent(rt: &HostRuntime, mut folder: PathBuf, is_new: bool) -> io::Result<()> {
     if !folder.pop() {
         return Ok(());

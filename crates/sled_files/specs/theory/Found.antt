@@ -8,7 +8,7 @@ use Rattle.sled_files.specs.Header.{magic, format, header}
 use Rattle.sled_files.specs.Standing.{IsBlank}
 use Rattle.sled_files.specs.Flaws.{HasMagic, format_in, IsCutShort, IsFlawOf}
 
--- a log of this generation: what stands behind the header of its first payload, the other payloads, and its closed gate
+-- a log of this generation: what is behind the header of its first payload, the other payloads, and its closed gate
 pub record IsFileOf (bytes : List ℕ) (generation gate : ℕ) (first : List ℕ) (others : List (List ℕ)) : Type 0 where
   pub fits : generation < 2 ^ 64
   pub log : log_of digest bytes ≡ Ok ((header generation ++ first) ∷ others)
