@@ -1,17 +1,23 @@
-//! Calls of a store in memory, and of one in the making, each under the contract that it has. The edits in `must-fail` show what these
-//! contracts rule out: each does something to the store before the call or after it, turns an argument, or gives another answer.
+//! Calls of a store in memory, of one in the making and of any store, and of what spells and reads its changes, each under the contract
+//! that it has. The edits in `must-fail` show what these contracts rule out: each does something to the store before the call or after it,
+//! turns an argument, or gives another answer.
 #![tactic(auto)]
 
+mod any;
+mod bytes;
 mod making;
 
-ghost use Rattle.std.specs.Prelude.{◌≡◌, IfOk};
+ghost use Rattle.std.specs.Prelude.{◌≡◌, IfOk, OnOk, false, length};
 ghost use Rattle.std.specs.Option.{option_map};
 ghost use Rattle.sled_nodes.specs.Node.{after_link};
 ghost use Rattle.sled_nodes.specs.declared.link.Link.TheVariants.{Set};
-ghost use Rattle.sled_store.specs.Store.{Changes, now, view_of};
+ghost use Rattle.sled_store.specs.Crash.{Crashes};
+ghost use Rattle.sled_store.specs.Store.{Changes, after_flush, now, view_of};
 ghost use Rattle.sled_pages.specs.Memory.{parts_of, store_of};
 ghost use Rattle.sled_pages.specs.Parts.{ChangesParts, linked};
 
+pub use any::link_any;
+pub use bytes::{change_of, node_of, push_mark};
 pub use making::{finish, put_link};
 use sled_nodes::{IVec, Link, Pid, Result, Version};
 use sled_pages::MemPages;
@@ -40,4 +46,20 @@ pub fn link(
     let value = IVec::from_slice(alloc, value)?;
     let link = Link::Set(IVec::from_slice(alloc, key)?, value);
     pages.link(pid, version, link)
+}
+
+/// A flush of a store in memory, which counts the actions.
+pub fn flush(pages: &mut MemPages) -> Result<usize>
+    requires { (now (store_of pages.old)).in_group ≡ false }
+    ensures ok { OnOk result (store_of pages.new ≡ after_flush (store_of pages.old)) }
+    ensures count { IfOk result (λ n. n ≡ length (store_of pages.old).recent) }
+{
+    pages.flush()
+}
+
+/// What a crash leaves that keeps so many of the actions since the last flush.
+pub fn crash(pages: MemPages, keep: usize) -> Result<MemPages>
+    ensures { IfOk result (λ left. Crashes keep (store_of pages) (store_of left)) }
+{
+    pages.crash(keep)
 }
