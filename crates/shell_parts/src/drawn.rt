@@ -1,18 +1,18 @@
 //! Drawings of a tree of a database, and counts of its pages, from the pages as they are.
 
+use crate::home::Home;
 use shell_words::choices::Drawing;
 use shell_words::tell::{Result, Told, tell_refused};
 use sled::Db;
 use sled_draw::draw::draw;
 use sled_draw::levels::count_levels;
 use sled_model::{MergeOperator, Tree};
-use sled_pages::MemPages;
 use std::alloc::Global;
 
 /// Adds a drawing of a tree, or how many pages it has.
-pub fn tell_drawn<M: MergeOperator>(
+pub fn tell_drawn<H: Home, M: MergeOperator>(
     alloc: Global,
-    db: &Db<MemPages, M>,
+    db: &Db<H::Store, M>,
     tree: &Tree,
     drawing: Option<Drawing>,
     out: &mut Told,
@@ -22,7 +22,7 @@ pub fn tell_drawn<M: MergeOperator>(
     }
     let (pages, name) = (db.pages(), tree.name.as_ref());
     let drawn = match drawing {
-        Some(drawing) => draw(alloc, pages, name, drawing, &mut out.text),
+        Some(drawing) => draw(alloc, pages, H::kept(pages), name, drawing, &mut out.text),
         None => count_levels(alloc, pages, name, &mut out.text),
     };
     match drawn {
