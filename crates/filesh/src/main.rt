@@ -1,11 +1,13 @@
-//! The shell over a database in files. Its argument is the folder of the database, which is made where it is not there.
-//! What it prints is not proved: it is safe, and it ends.
+//! The shell over a database in files. Its argument is the folder of the database, which is made where it is not there. Without an
+//! argument the files are in memory, and last as long as the program. What it prints is not proved: it is safe, and it ends.
 #![tactic(auto)]
 
 mod files;
+mod place;
 
 use files::Files;
 use line_words::input::Stopped;
+use place::{Folder, Memory};
 use shell_lines::shell::run;
 use std::env;
 use std::io::{BufReader, BufWriter, IsTerminal, Write};
@@ -15,14 +17,24 @@ use std::process::ExitCode;
 fn run_in_folder(rt: &HostRuntime, path: &str, output: &mut impl Write) -> Result<bool, Stopped> {
     let input = BufReader::new(rt.alloc(), rt.reader())?;
     let prompts = rt.stdin().is_terminal();
-    run(rt, Files::new(rt, path), input, output, prompts)
+    let home = Files::new(rt.alloc(), Folder { rt, path });
+    run(rt, home, input, output, prompts)
+}
+
+// Runs standard input on files in memory: whether each line could be read.
+fn run_in_memory(rt: &HostRuntime, output: &mut impl Write) -> Result<bool, Stopped> {
+    let input = BufReader::new(rt.alloc(), rt.reader())?;
+    let prompts = rt.stdin().is_terminal();
+    let home = Files::new(rt.alloc(), Memory::new(rt.alloc()));
+    run(rt, home, input, output, prompts)
 }
 
 fn run_names(rt: &HostRuntime, names: &[String], output: &mut impl Write) -> Result<bool, Stopped> {
     match names {
+        [] => run_in_memory(rt, output),
         [path] => run_in_folder(rt, path.as_str(), output),
         _ => {
-            writeln!(output, "usage: filesh FOLDER")?;
+            writeln!(output, "usage: filesh [FOLDER]")?;
             Err(Stopped)
         }
     }

@@ -140,8 +140,16 @@ impl<P: Pages, H: Home<Store = P, Opened = Db<P, Operator>>> Shell<P, H> {
 
     // Draws the current tree, or counts its pages.
     fn show(&mut self, session: &Session<P, Operator>, drawing: Option<Drawing>) -> Result<()> {
-        let out = &mut self.lines.out;
-        tell_drawn::<H, Operator>(self.lines.alloc, session.db(), session.tree(), drawing, out)
+        let (db, tree) = (session.db(), session.tree());
+        let kept = H::kept(db.pages());
+        tell_drawn(
+            self.lines.alloc,
+            db,
+            tree,
+            kept,
+            drawing,
+            &mut self.lines.out,
+        )
     }
 
     // Says how large all trees are, and the files, where there are some.

@@ -5,13 +5,13 @@ use shell_words::table::Verb;
 use shell_words::tell::{Result, Told};
 use sled_nodes::Error;
 use sled_pages::MemPages;
-use sled_store::Pages;
 
 /// What the database of a shell lives in: how its store is made and opened, what lines make of it between two openings, and what is told
 /// of it.
 pub trait Home: Drop {
-    /// The store of the database.
-    type Store: Pages;
+    /// The store of the database, one of pages. That it is one stands where a home is asked for, and not here: a bound that a generic type
+    /// meets cannot be proved of a block.
+    type Store: Drop;
 
     /// The store between two openings.
     type Held: Drop;
