@@ -144,7 +144,7 @@ impl<W> Files<W> {
     where
         W: Place<P>,
     {
-        self.behind = behind(verb);
+        self.behind = behind_of(verb);
         match verb {
             Verb::Crash => self.place.crash(store, out),
             Verb::Recover => self.recovered(store, out),
@@ -181,7 +181,7 @@ impl<W> Files<W> {
 }
 
 // What an opening comes behind that a line asks for.
-fn behind(verb: Verb) -> Behind {
+fn behind_of(verb: Verb) -> Behind {
     match verb {
         Verb::Crash => Behind::Crash,
         _ => Behind::Another,
@@ -219,8 +219,8 @@ fn tell_found<P: Pages>(db: &Db<P, Operator>, out: &mut Told) -> Result<bool> {
     Ok(true)
 }
 
-// The homes in a folder and in memory are two blocks of the same lines: no proof is found for one block that is generic over its store, which
-// has to be `Send`.
+// The homes in a folder and in memory are two blocks of the same lines: one block that is generic over its store, which is `Send`, cannot be
+// proved yet.
 
 type InFiles = FilePages<HostFile>;
 

@@ -9,7 +9,7 @@ use sled_host::{HostFile, Opening, Pair, open_pair};
 use std::alloc::Global;
 use std::io::Write;
 
-/// Where the store of a database is. That it is one of pages stands where a place is asked for, as for a home.
+/// Where the store of a database is. Whoever asks for a place says that it is one of pages, as for a home.
 pub trait Place<P>: Drop {
     /// The store as it is at first. Where it is not opened, why not is added, as of all of these.
     fn first(&mut self, out: &mut Told) -> Result<P>;

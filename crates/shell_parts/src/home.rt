@@ -9,8 +9,7 @@ use sled_pages::MemPages;
 /// What the database of a shell lives in: how its store is made and opened, what lines make of it between two openings, and what is told
 /// of it.
 pub trait Home: Drop {
-    /// The store of the database, one of pages. That it is one stands where a home is asked for, and not here: a bound that a generic type
-    /// meets cannot be proved of a block.
+    /// The store of the database. Whoever asks for a home says that it is one of pages: here no block could be proved whose store is generic.
     type Store: Drop;
 
     /// The store between two openings.
