@@ -127,23 +127,37 @@ const NUMBERS: usize = 100;
 // Opens two files, or says why there are none.
 fn open_files(
     alloc: Global,
-    first: sled_disk::Result<MemoryDisk>,
-    second: sled_disk::Result<MemoryDisk>,
+    files: sled_disk::Result<(MemoryDisk, MemoryDisk)>,
     out: &mut Told,
 ) -> Result<FilePages<MemoryDisk>> {
-    match (first, second) {
-        (Ok(first), Ok(second)) => open_store(alloc, (first, second), out),
-        others => {
-            drop(others);
+    match files {
+        Ok(files) => open_store(alloc, files, out),
+        Err(error) => {
+            drop(error);
             tell(out, &[Text(b"not opened: there was no memory\n")])?;
             Err(Stopped)
         }
     }
 }
 
-// An empty file.
-fn new_file(alloc: Global) -> sled_disk::Result<MemoryDisk> {
-    MemoryDisk::new(alloc, Vec::new(alloc))
+// Two files, if there is the second one.
+fn both(
+    first: MemoryDisk,
+    second: sled_disk::Result<MemoryDisk>,
+) -> sled_disk::Result<(MemoryDisk, MemoryDisk)> {
+    match second {
+        Ok(second) => Ok((first, second)),
+        Err(error) => {
+            drop(first);
+            Err(error)
+        }
+    }
+}
+
+// Two empty files.
+fn new_files(alloc: Global) -> sled_disk::Result<(MemoryDisk, MemoryDisk)> {
+    let first = MemoryDisk::new(alloc, Vec::new(alloc))?;
+    both(first, MemoryDisk::new(alloc, Vec::new(alloc)))
 }
 
 impl Memory {
@@ -172,11 +186,21 @@ impl Memory {
         drop(choices);
         left
     }
+
+    // What a crash leaves of two files.
+    fn left_of_both(
+        &mut self,
+        first: &MemoryDisk,
+        second: &MemoryDisk,
+    ) -> sled_disk::Result<(MemoryDisk, MemoryDisk)> {
+        let left = self.left(first)?;
+        both(left, self.left(second))
+    }
 }
 
 impl Place<FilePages<MemoryDisk>> for Memory {
     fn first(&mut self, out: &mut Told) -> Result<FilePages<MemoryDisk>> {
-        open_files(self.alloc, new_file(self.alloc), new_file(self.alloc), out)
+        open_files(self.alloc, new_files(self.alloc), out)
     }
 
     fn crash(
@@ -185,10 +209,10 @@ impl Place<FilePages<MemoryDisk>> for Memory {
         out: &mut Told,
     ) -> Result<FilePages<MemoryDisk>> {
         let (first, second) = store.into_disks();
-        let left = (self.left(&first), self.left(&second));
+        let left = self.left_of_both(&first, &second);
         drop(first);
         drop(second);
-        open_files(self.alloc, left.0, left.1, out)
+        open_files(self.alloc, left, out)
     }
 
     fn empty(
