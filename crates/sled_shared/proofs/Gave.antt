@@ -30,11 +30,11 @@ gave_one slot ns x = gave_more slot ns (x ∷ []) ∙ ap (λ l. gave_in slot ns 
 
 pub gave_none : (slot : ℕ) (ns : List ScanNote) → ((n : ScanNote) → In n ns → n.slot ≢ slot) → gave_in slot ns ≡ []
 gave_none slot [] h = refl
-gave_none slot (n ∷ ns) h = go (nat_eq n.slot slot) refl
+gave_none slot (n ∷ ns) h = go (nat_eq n.slot slot) refl (gave_none slot ns (λ m i. h m (inr i)))
   where
-    go : (b : Bool) → nat_eq n.slot slot ≡ b → gave_in slot (n ∷ ns) ≡ []
-    go true e = absurd (h n (inl refl) (eqb-true n.slot slot e))
-    go false e = ap (λ b. cond b (pair_of n.did) [] ++ gave_in slot ns) e ∙ gave_none slot ns (λ m i. h m (inr i))
+    go : (b : Bool) → nat_eq n.slot slot ≡ b → gave_in slot ns ≡ [] → gave_in slot (n ∷ ns) ≡ []
+    go true e rest = absurd (h n (inl refl) (eqb-true n.slot slot e))
+    go false e rest = ap (λ b. cond b (pair_of n.did) [] ++ gave_in slot ns) e ∙ rest
 
 pub note_left : (n : ScanNote) (ns ms : List ScanNote) → In n ns → In n (ns ++ ms)
 note_left n [] ms h = absurd h

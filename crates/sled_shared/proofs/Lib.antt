@@ -24,4 +24,5 @@ pub mod Scanning
 pub mod Copied
 pub mod UnderWay
 pub mod Gave
+pub mod ScanSteps
 pub mod ScanStates

@@ -40,12 +40,12 @@ Pair = Key × Key
 
 -- ---- runs that go on
 
-pub more_step : {a m b : Configuration} {ss : List Step} {os : List Outcome} {s : Step} {o : Outcome} {added : List Maps} → RunsBeside a ss os m → Transition m s o b added → RunsBeside a (ss ++ s ∷ []) (os ++ o ∷ []) b
+abbrev pub more_step : {a m b : Configuration} {ss : List Step} {os : List Outcome} {s : Step} {o : Outcome} {added : List Maps} → RunsBeside a ss os m → Transition m s o b added → RunsBeside a (ss ++ s ∷ []) (os ++ o ∷ []) b
 more_step NoSteps t = OneMore t NoSteps
 more_step (OneMore one rest) t = OneMore one (more_step rest t)
 more_step (OneBeside change rest) t = OneBeside change (more_step rest t)
 
-pub more_change : {a m b : Configuration} {ss : List Step} {os : List Outcome} → RunsBeside a ss os m → ChangesBeside m b → RunsBeside a ss os b
+abbrev pub more_change : {a m b : Configuration} {ss : List Step} {os : List Outcome} → RunsBeside a ss os m → ChangesBeside m b → RunsBeside a ss os b
 more_change NoSteps c = OneBeside c NoSteps
 more_change (OneMore one rest) c = OneMore one (more_change rest c)
 more_change (OneBeside change rest) c = OneBeside change (more_change rest c)
@@ -56,45 +56,45 @@ yields_more slot (OneMore {step = x} {steps = ss} {outcome = y} {outcomes = os} 
     ap (λ l. cond (is_own slot x) (given_by y) [] ++ l) (yields_more slot rest s o) ∙ sym (append_assoc (cond (is_own slot x) (given_by y) []) (yielded slot ss os) (cond (is_own slot s) (given_by o) []))
 yields_more slot (OneBeside change rest) s o = yields_more slot rest s o
 
-throughout_as : {is so : State → Type 0} → ((s : State) → is s → so s) → {a b : Configuration} {ss : List Step} {os : List Outcome} (run : RunsBeside a ss os b) → Throughout is run → Throughout so run
-throughout_as f (NoSteps {s = s}) h = f s.state h
-throughout_as f (OneMore {a = a} one rest) h = (f a.state h.0, throughout_as f rest h.1)
-throughout_as f (OneBeside {a = a} change rest) h = (f a.state h.0, throughout_as f rest h.1)
+throughout_as : (is so : State → Type 0) → ((s : State) → is s → so s) → {a b : Configuration} {ss : List Step} {os : List Outcome} (run : RunsBeside a ss os b) → Throughout is run → Throughout so run
+throughout_as is so f (NoSteps {s = s}) h = f s.state h
+throughout_as is so f (OneMore {a = a} one rest) h = (f a.state h.0, throughout_as is so f rest h.1)
+throughout_as is so f (OneBeside {a = a} change rest) h = (f a.state h.0, throughout_as is so f rest h.1)
 
-throughout_step : {is : State → Type 0} {a m b : Configuration} {ss : List Step} {os : List Outcome} {s : Step} {o : Outcome} {added : List Maps} (run : RunsBeside a ss os m) (t : Transition m s o b added)
+throughout_step : (is : State → Type 0) {a m b : Configuration} {ss : List Step} {os : List Outcome} {s : Step} {o : Outcome} {added : List Maps} (run : RunsBeside a ss os m) (t : Transition m s o b added)
     → Throughout is run → is b.state → Throughout is (more_step run t)
-throughout_step NoSteps t h i = (h, i)
-throughout_step (OneMore one rest) t h i = (h.0, throughout_step rest t h.1 i)
-throughout_step (OneBeside change rest) t h i = (h.0, throughout_step rest t h.1 i)
+throughout_step is NoSteps t h i = (h, i)
+throughout_step is (OneMore one rest) t h i = (h.0, throughout_step is rest t h.1 i)
+throughout_step is (OneBeside change rest) t h i = (h.0, throughout_step is rest t h.1 i)
 
-throughout_change : {is : State → Type 0} {a m b : Configuration} {ss : List Step} {os : List Outcome} (run : RunsBeside a ss os m) (c : ChangesBeside m b) → Throughout is run → is b.state → Throughout is (more_change run c)
-throughout_change NoSteps c h i = (h, i)
-throughout_change (OneMore one rest) c h i = (h.0, throughout_change rest c h.1 i)
-throughout_change (OneBeside change rest) c h i = (h.0, throughout_change rest c h.1 i)
+throughout_change : (is : State → Type 0) {a m b : Configuration} {ss : List Step} {os : List Outcome} (run : RunsBeside a ss os m) (c : ChangesBeside m b) → Throughout is run → is b.state → Throughout is (more_change run c)
+throughout_change is NoSteps c h i = (h, i)
+throughout_change is (OneMore one rest) c h i = (h.0, throughout_change is rest c h.1 i)
+throughout_change is (OneBeside change rest) c h i = (h.0, throughout_change is rest c h.1 i)
 
-own_step : {slot : ℕ} {is : State → Type 0} {a m b : Configuration} {ss : List Step} {os : List Outcome} {s : Step} {o : Outcome} {added : List Maps} (run : RunsBeside a ss os m) (t : Transition m s o b added)
+own_step : (slot : ℕ) (is : State → Type 0) {a m b : Configuration} {ss : List Step} {os : List Outcome} {s : Step} {o : Outcome} {added : List Maps} (run : RunsBeside a ss os m) (t : Transition m s o b added)
     → AtOwnSteps slot is run → (is_own slot s ≡ true → is m.state) → AtOwnSteps slot is (more_step run t)
-own_step NoSteps t h i = (i, tt)
-own_step (OneMore one rest) t h i = (h.0, own_step rest t h.1 i)
-own_step (OneBeside change rest) t h i = own_step rest t h i
+own_step slot is NoSteps t h i = (i, tt)
+own_step slot is (OneMore one rest) t h i = (h.0, own_step slot is rest t h.1 i)
+own_step slot is (OneBeside change rest) t h i = own_step slot is rest t h i
 
-own_change : {slot : ℕ} {is : State → Type 0} {a m b : Configuration} {ss : List Step} {os : List Outcome} (run : RunsBeside a ss os m) (c : ChangesBeside m b) → AtOwnSteps slot is run → AtOwnSteps slot is (more_change run c)
-own_change NoSteps c h = tt
-own_change (OneMore one rest) c h = (h.0, own_change rest c h.1)
-own_change (OneBeside change rest) c h = own_change rest c h
+own_change : (slot : ℕ) (is : State → Type 0) {a m b : Configuration} {ss : List Step} {os : List Outcome} (run : RunsBeside a ss os m) (c : ChangesBeside m b) → AtOwnSteps slot is run → AtOwnSteps slot is (more_change run c)
+own_change slot is NoSteps c h = tt
+own_change slot is (OneMore one rest) c h = (h.0, own_change slot is rest c h.1)
+own_change slot is (OneBeside change rest) c h = own_change slot is rest c h
 
 -- what is so at some moment of a run is so where something else is, which is so throughout
-both_at : {is so : State → Type 0} {a b : Configuration} {ss : List Step} {os : List Outcome} (run : RunsBeside a ss os b) → AtSomeMoment is run → Throughout so run → (s : State) × is s × so s
-both_at (NoSteps {s = s}) h t = (s.state, h, t)
-both_at (OneMore {a = a} one rest) (inl h) t = (a.state, h, t.0)
-both_at (OneMore one rest) (inr h) t = both_at rest h t.1
-both_at (OneBeside {a = a} change rest) (inl h) t = (a.state, h, t.0)
-both_at (OneBeside change rest) (inr h) t = both_at rest h t.1
+both_at : (is so : State → Type 0) {a b : Configuration} {ss : List Step} {os : List Outcome} (run : RunsBeside a ss os b) → AtSomeMoment is run → Throughout so run → (s : State) × is s × so s
+both_at is so (NoSteps {s = s}) h t = (s.state, h, t)
+both_at is so (OneMore {a = a} one rest) (inl h) t = (a.state, h, t.0)
+both_at is so (OneMore one rest) (inr h) t = both_at is so rest h t.1
+both_at is so (OneBeside {a = a} change rest) (inl h) t = (a.state, h, t.0)
+both_at is so (OneBeside change rest) (inr h) t = both_at is so rest h t.1
 
-own_of : {slot : ℕ} {is so both : State → Type 0} → ((s : State) → is s → so s → both s) → {a b : Configuration} {ss : List Step} {os : List Outcome} (run : RunsBeside a ss os b) → AtOwnSteps slot is run → Throughout so run → AtOwnSteps slot both run
-own_of f NoSteps h t = tt
-own_of f (OneMore {a = a} one rest) h t = ((λ e. f a.state (h.0 e) t.0), own_of f rest h.1 t.1)
-own_of f (OneBeside change rest) h t = own_of f rest h t.1
+own_of : (slot : ℕ) (is so both : State → Type 0) → ((s : State) → is s → so s → both s) → {a b : Configuration} {ss : List Step} {os : List Outcome} (run : RunsBeside a ss os b) → AtOwnSteps slot is run → Throughout so run → AtOwnSteps slot both run
+own_of slot is so both f NoSteps h t = tt
+own_of slot is so both f (OneMore {a = a} one rest) h t = ((λ e. f a.state (h.0 e) t.0), own_of slot is so both f rest h.1 t.1)
+own_of slot is so both f (OneBeside change rest) h t = own_of slot is so both f rest h t.1
 
 -- ---- a step, and the scan in a slot
 
@@ -109,6 +109,13 @@ numbered_of s f e =
     let of_open = first_none (cond s.is_open None (Some IsClosed)) (first_of (foreign_test s.name (f.tree ∷ [])) (dropped_test s (f.tree ∷ []))) of_all in
     let of_tree = first_none (foreign_test s.name (f.tree ∷ [])) (dropped_test s (f.tree ∷ [])) of_open.1 in
     tree_is s f.tree (s.trees f.tree.name) refl (passed (is_number f.tree.number (s.trees f.tree.name)) (IsDropped f.tree.name) of_tree.1)
+
+-- .. and the database is open
+pub opens_of : (s : State) (f : CallInFlight) → must_refuse s (ToStep f) ≡ None → s.is_open ≡ true
+opens_of s f e =
+    let of_all = (first_none (must_refuse_of s (f.tree ∷ [])) (operator_test s (ToStep f)) e).0 in
+    let of_open = first_none (cond s.is_open None (Some IsClosed)) (first_of (foreign_test s.name (f.tree ∷ [])) (dropped_test s (f.tree ∷ []))) of_all in
+    passed s.is_open IsClosed of_open.0
 
 -- the call that stands in the slot after a step of it stood there before, on the same tree, and no test refused the step
 pub record WentOn (slot : ℕ) (s : State) (g : CallInFlight) : Type 0 where
@@ -172,7 +179,7 @@ module _ {moments : List Maps} {notes : List ScanNote} {slot from to : ℕ} {tre
   bounds = record { lo = lo; hi = hi; back = back }
 
   -- the run up to the calls in flight now, whatever changed beside them
-  here_now : ChangesBeside w.now a
+  pub here_now : ChangesBeside w.now a
   here_now = record { slots = sym w.slots_are; slots_given = sym w.given_are; ascend = ascend }
 
   abbrev run : RunsBeside w.begun w.steps w.outcomes a
@@ -182,7 +189,7 @@ module _ {moments : List Maps} {notes : List ScanNote} {slot from to : ℕ} {tre
   scanned = scan_law w.before w.begun a tree lo hi back slot w.none w.steps w.outcomes w.ascend w.begins run
 
   moments_of : IsOfMoment moments from to a.state → Throughout (IsOfMoment moments from to) run
-  moments_of at = throughout_change w.run here_now w.moments_are at
+  moments_of at = throughout_change (IsOfMoment moments from to) w.run here_now w.moments_are at
 
   -- what a pair of the run is at a moment
   pair_at : (e : Pair) (s : State) → HasPair tree e s → IsOfMoment moments from to s → AtOneMoment moments from to (IsPairOf tree e)
@@ -197,7 +204,7 @@ module _ {moments : List Maps} {notes : List ScanNote} {slot from to : ℕ} {tre
 
   -- the pair that it gives now
   pub gives_seen : IsOfMoment moments from to a.state → (key value : Key) (b : Configuration) (maps : List Maps) → Transition a (step.Step slot) (outcome.Yielded key value) b maps → AtOneMoment moments from to (IsPairOf tree (key, value))
-  gives_seen at key value b maps t = let x = both_at run (scanned.seen key value b maps t) (moments_of at) in pair_at (key, value) x.0 x.1 x.2
+  gives_seen at key value b maps t = let x = both_at (HasPair tree (key, value)) (IsOfMoment moments from to) run (scanned.seen key value b maps t) (moments_of at) in pair_at (key, value) x.0 x.1 x.2
 
   key_at : (key : Key) → AtEachMoment moments from to (IsKeyOf tree key) → (s : State) → IsNumbered tree s → IsOfMoment moments from to s → HasKey tree key s
   key_at key each s n m =
@@ -209,7 +216,7 @@ module _ {moments : List Maps} {notes : List ScanNote} {slot from to : ℕ} {tre
   pub ends_complete : IsOfMoment moments from to a.state → (reply : Reply) (b : Configuration) (maps : List Maps) → Transition a (step.Step slot) (outcome.Decided reply) b maps
       → (key : Key) → is_in_range bounds key ≡ true → AtEachMoment moments from to (IsKeyOf tree key) → (value : Key) × In (key, value) (gave_in slot notes)
   ends_complete at reply b maps t key inside each =
-      let x = scanned.complete reply b maps t key inside (own_of (key_at key each) run (own_change w.run here_now w.numbered) (moments_of at)) in
+      let x = scanned.complete reply b maps t key inside (own_of slot (IsNumbered tree) (IsOfMoment moments from to) (HasKey tree key) (key_at key each) run (own_change slot (IsNumbered tree) w.run here_now w.numbered) (moments_of at)) in
       (x.0, subst (λ l. In (key, x.0) l) w.gives x.1)
 
   -- a step more
@@ -223,7 +230,7 @@ module _ {moments : List Maps} {notes : List ScanNote} {slot from to : ℕ} {tre
     pub under_way_step : {after : List Maps} {later : ℕ} → GoesOn moments after → to ≤ later → (noted : List ScanNote) → gave_in slot noted ≡ gave_in slot notes ++ cond (is_own slot s) (given_by o) [] → IsOfMoment moments from to a.state → IsOfMoment after from later b.state
         → ((g : CallInFlight) → b.state.slots slot ≡ Some g → WasThere slot s a.state g) → (g : CallInFlight) → b.state.slots slot ≡ Some g
         → IsUnderWay after noted slot from later tree lo hi back b.state.slots b.state.slots_given
-    under_way_step goes l noted same at at_b was g e = record {
+    under_way_step {after = after} {later = later} goes l noted same at at_b was g e = record {
       before = w.before;
       begun = w.begun;
       now = b;
@@ -237,14 +244,14 @@ module _ {moments : List Maps} {notes : List ScanNote} {slot from to : ℕ} {tre
       slots_are = refl;
       given_are = refl;
       its = λ f k. let x = was f k in let y = w.its x.flying x.here in (x.same.0 ∙ y.0, x.same.1 ∙ y.1);
-      moments_are = throughout_step run t (throughout_as (λ z h. still_at goes l h) run (moments_of at)) at_b;
-      numbered = own_step run t (own_change w.run here_now w.numbered) (λ own. let x = was g e in subst (λ (z : Tree). IsNumbered z a.state) (w.its x.flying x.here).0 (numbered_of a.state x.flying (x.free own)));
+      moments_are = throughout_step (IsOfMoment after from later) run t (throughout_as (IsOfMoment moments from to) (IsOfMoment after from later) (λ z h. still_at goes l h) run (moments_of at)) at_b;
+      numbered = own_step slot (IsNumbered tree) run t (own_change slot (IsNumbered tree) w.run here_now w.numbered) (λ own. let x = was g e in subst (λ (z : Tree). IsNumbered z a.state) (w.its x.flying x.here).0 (numbered_of a.state x.flying (x.free own)));
     }
 
   -- .. or a change beside
   pub under_way_change : {after : List Maps} {later : ℕ} (b : Configuration) → GoesOn moments after → to ≤ later → b.state.slots ≡ a.state.slots → b.state.slots_given ≡ a.state.slots_given → Ascend b.state → IsOfMoment moments from to a.state → IsOfMoment after from later b.state
       → IsUnderWay after notes slot from later tree lo hi back b.state.slots b.state.slots_given
-  under_way_change b goes l same given asc at at_b =
+  under_way_change {after = after} {later = later} b goes l same given asc at at_b =
       let change : ChangesBeside a b = record { slots = same; slots_given = given; ascend = asc } in
       record {
         before = w.before;
@@ -260,6 +267,6 @@ module _ {moments : List Maps} {notes : List ScanNote} {slot from to : ℕ} {tre
         slots_are = refl;
         given_are = refl;
         its = λ f k. w.its f (sym (ap (λ z. z slot) same) ∙ k);
-        moments_are = throughout_change run change (throughout_as (λ z h. still_at goes l h) run (moments_of at)) at_b;
-        numbered = own_change run change (own_change w.run here_now w.numbered);
+        moments_are = throughout_change (IsOfMoment after from later) run change (throughout_as (IsOfMoment moments from to) (IsOfMoment after from later) (λ z h. still_at goes l h) run (moments_of at)) at_b;
+        numbered = own_change slot (IsNumbered tree) run change (own_change slot (IsNumbered tree) w.run here_now w.numbered);
       }

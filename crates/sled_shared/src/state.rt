@@ -34,9 +34,9 @@ impl<P: Pages, L: Ledger, M> Model for State<P, L, M> {
 
     ghost use Rattle.std.specs.Prelude.{length};
     ghost use Rattle.sled_shared.specs.Scans.{AreInOrder};
-    ghost use Rattle.sled_shared.specs.theory.UnderWay.{ScansAre};
+    ghost use Rattle.sled_shared.specs.theory.UnderWay.{MachineScans};
 
-    ghost invariant = { λ s. (is : IsState P.store s.machine (contents_of s.opening.value.items) (entry_values s.history.items) s.calls.total) × AreInOrder 0 s.scans.notes (length s.history.items) × ScansAre P.store s.machine is.crashes.moments (length (entry_values s.history.items)) s.scans };
+    ghost invariant = { λ s. (is : IsState P.store s.machine (contents_of s.opening.value.items) (entry_values s.history.items) s.calls.total) × AreInOrder 0 s.scans.notes (length s.history.items) × MachineScans P.store s.machine is.crashes.moments (length (entry_values s.history.items)) s.scans };
 }
 
 impl<P: Pages, L: Ledger, M: MergeOperator> State<P, L, M> {

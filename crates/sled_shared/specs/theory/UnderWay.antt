@@ -1,9 +1,9 @@
 -- What is known of the scans that are under way.
-use Rattle.std.specs.Prelude.{◌≡◌, ◌≤◌, ℕ, Bool, true, List, Option, Some}
+use Rattle.std.specs.Prelude.{◌≡◌, ◌≤◌, ℕ, Bool, true, not, List, Option, Some}
 use Rattle.std.specs.declared.ops.Bound.{Bound}
 use Rattle.sled_nodes.specs.Order.{Key}
 use Rattle.sled_store.specs.In.{In}
-use Rattle.sled_store.specs.Store.{Store}
+use Rattle.sled_store.specs.Store.{Store, now}
 use Rattle.sled_model.specs.Maps.{Maps}
 use Rattle.sled_model.specs.State.{State, NamedTree, CallInFlight, maps_of}
 use Rattle.sled_model.specs.Transition.{Configuration, Transition}
@@ -16,7 +16,6 @@ use Rattle.sled_model.specs.declared.outcome.Outcome.TheVariants.{Begun}
 use Rattle.scan_laws.specs.Scanned.{Ascend, RunsBeside, NoSteps, OneMore, OneBeside, AtOwnSteps, yielded}
 use Rattle.sled_calls.specs.Values.{MachineValue, slots_of}
 use Rattle.sled_shared.specs.Moments.{AtOneMoment}
-use Rattle.sled_shared.specs.Sound.{IsOpen}
 use Rattle.sled_shared.specs.Scanned.{AreScanned, gave_in}
 use Rattle.sled_shared.specs.Scans.{ScansValue}
 use Rattle.sled_shared.specs.declared.scans.Scanned.TheVariants as did
@@ -59,8 +58,12 @@ pub record IsUnderWay (moments : List Maps) (notes : List ScanNote) (slot from t
 
 -- What is known of the scans that were noted: what they gave; and while notes are kept and the database is open, how those that are in flight came
 -- to what they gave
-pub record ScansAre {P M : Type 0} (store : P → Store) (m : MachineValue P M) (moments : List Maps) (to : ℕ) (scans : ScansValue) : Type 0 where
+pub record ScansAre (is_open : Bool) (slots : ℕ → Option CallInFlight) (slots_given : ℕ) (moments : List Maps) (to : ℕ) (scans : ScansValue) : Type 0 where
   pub gave : AreScanned moments scans.notes
-  pub bounded : (n : ScanNote) → In n scans.notes → (n.slot ≤ m.slots_given) × (n.at ≤ to)
-  pub under_way : scans.keeps ≡ true → IsOpen store m → (n : ScanNote) (tree : Tree) (lo hi : Bound Key) (back : Bool) → In n scans.notes → n.did ≡ did.Begun tree (Scan lo hi back)
-      → (f : CallInFlight) → slots_of m.flights n.slot ≡ Some f → IsUnderWay moments scans.notes n.slot n.at to tree lo hi back (slots_of m.flights) m.slots_given
+  pub bounded : (n : ScanNote) → In n scans.notes → (n.slot ≤ slots_given) × (n.at ≤ to)
+  pub under_way : scans.keeps ≡ true → is_open ≡ true → (n : ScanNote) (tree : Tree) (lo hi : Bound Key) (back : Bool) → In n scans.notes → n.did ≡ did.Begun tree (Scan lo hi back)
+      → (f : CallInFlight) → slots n.slot ≡ Some f → IsUnderWay moments scans.notes n.slot n.at to tree lo hi back slots slots_given
+
+-- .. in a machine
+abbrev pub MachineScans : {P M : Type 0} → (P → Store) → MachineValue P M → List Maps → ℕ → ScansValue → Type 0
+MachineScans store m = ScansAre (not (now (store m.db.pages)).in_group) (slots_of m.flights) m.slots_given
