@@ -52,7 +52,10 @@ end_no_begin e = cc
 some_none : {Q X : Type 0} {x : X} {xs : List X} → x ∷ xs ≡ [] → Q
 some_none e = cc
 
-no_pair : {X : Type 0} (b : Bool) → cond b [] [] ≡ ([] : List X)
+abbrev no_pairs : List (Key × Key)
+no_pairs = []
+
+no_pair : (b : Bool) → cond b no_pairs no_pairs ≡ no_pairs
 no_pair true = refl
 no_pair false = refl
 
@@ -86,12 +89,8 @@ was_open a (step.Abandon i) other b maps t e = absurd t
 gave_step : (slot i n : ℕ) (o : Outcome) (notes : List ScanNote) → gave_in slot (notes ++ noted_at i n (scanned_of o)) ≡ gave_in slot notes ++ cond (nat_eq i slot) (given_by o) []
 gave_step slot i n o notes = go o
   where
-    none : (b : Bool) → [] ≡ cond b [] []
-    none true = refl
-    none false = refl
-
-    nothing : gave_in slot (notes ++ []) ≡ gave_in slot notes ++ cond (nat_eq i slot) [] []
-    nothing = ap (gave_in slot) (append-nil notes) ∙ sym (append-nil (gave_in slot notes)) ∙ ap (λ l. gave_in slot notes ++ l) (none (nat_eq i slot))
+    nothing : gave_in slot (notes ++ []) ≡ gave_in slot notes ++ cond (nat_eq i slot) no_pairs no_pairs
+    nothing = ap (gave_in slot) (append-nil notes) ∙ sym (append-nil (gave_in slot notes)) ∙ ap (λ l. gave_in slot notes ++ l) (sym (no_pair (nat_eq i slot)))
 
     go : (o : Outcome) → gave_in slot (notes ++ noted_at i n (scanned_of o)) ≡ gave_in slot notes ++ cond (nat_eq i slot) (given_by o) []
     go (outcome.Yielded key value) = gave_one slot notes (record { slot = i; at = n; did = did.Gave key value })
@@ -285,10 +284,10 @@ module _ (A B : Configuration) (moments after : List Maps) (to later : ℕ) (goe
 
     -- no note is of the new slot
     apart : (n : ScanNote) → In n scans.notes → n.slot ≢ slot
-    apart n i e = later n.slot slot A.state.slots_given (h.bounded n i).0 t.is.0.next e
+    apart n i e = behind n.slot slot A.state.slots_given (h.bounded n i).0 t.is.0.next e
       where
-        later : (n m g : ℕ) → n ≤ g → m ≡ g + 1 → n ≡ m → ⊥
-        later n m g x f e = absurd (omega (arith, x, f, e))
+        behind : (n m g : ℕ) → n ≤ g → m ≡ g + 1 → n ≡ m → ⊥
+        behind n m g x f e = absurd (omega (arith, x, f, e))
 
     -- a scan that begins
     module _ (lo hi : Bound Key) (back : Bool) (is : call ≡ Scan lo hi back) where
@@ -299,7 +298,7 @@ module _ (A B : Configuration) (moments after : List Maps) (to later : ℕ) (goe
           (λ e. gives_none (gave_nothing moments scans.notes slot to tree2 (record { lo = lo2; hi = hi2; back = back2 }) apart) (begin_note lo hi back) refl (λ key value x. gave_no_begin (sym x)) (λ x. end_no_begin (sym x))))
 
       none_now : gave_in slot (scans.notes ++ begin_note lo hi back ∷ []) ≡ []
-      none_now = gave_one slot scans.notes (begin_note lo hi back) ∙ ap (λ ps. ps ++ cond (nat_eq slot slot) [] []) (gave_none slot scans.notes apart) ∙ no_pair (nat_eq slot slot)
+      none_now = gave_one slot scans.notes (begin_note lo hi back) ∙ ap (λ ps. ps ++ cond (nat_eq slot slot) no_pairs no_pairs) (gave_none slot scans.notes apart) ∙ no_pair (nat_eq slot slot)
 
       same_pairs : (other : ℕ) → gave_in other (scans.notes ++ begin_note lo hi back ∷ []) ≡ gave_in other scans.notes ++ []
       same_pairs other = gave_one other scans.notes (begin_note lo hi back) ∙ ap (λ ps. gave_in other scans.notes ++ ps) (no_pair (nat_eq slot other))
@@ -324,9 +323,6 @@ module _ (A B : Configuration) (moments after : List Maps) (to later : ℕ) (goe
         moments_are = at_b e to more;
         numbered = tt;
       }
-
-      begun_known : ScansValue → Type 0
-      begun_known new = KnownOf B after later new
 
       scans_begun : scans.keeps ≡ true → KnownOf B after later (record { keeps = true; notes = scans.notes ++ begin_note lo hi back ∷ [] })
       scans_begun k = record {
