@@ -5,3 +5,4 @@ pub mod Reading
 pub mod Orders
 pub mod Scanning
 pub mod Copied
+pub mod UnderWay
