@@ -6,7 +6,6 @@ pub mod Once
 pub mod Equal
 pub mod WholeMakes
 pub mod WholeTests
-pub mod Moments
 pub mod Leading
 pub mod WholeAdds
 pub mod Fetching
@@ -22,7 +21,3 @@ pub mod ReadMakes
 pub mod Replying
 pub mod Scanning
 pub mod Copied
-pub mod UnderWay
-pub mod Gave
-pub mod ScanSteps
-pub mod ScanStates

@@ -8,8 +8,6 @@ pub mod Scans
 pub mod Values
 pub mod WholeMade
 pub mod History
-pub mod Moments
-pub mod Scanned
 pub mod Crashes
 pub mod Sound
 pub mod Steps
@@ -27,7 +25,6 @@ pub use Rattle.sled_store.specs as sled_store
 pub use Rattle.sled_batch.specs as sled_batch
 pub use Rattle.sled_model.specs as sled_model
 pub use Rattle.tree_laws.specs as tree_laws
-pub use Rattle.scan_laws.specs as scan_laws
 pub use Rattle.sled_tree.specs as sled_tree
 pub use Rattle.tree_reads.specs as tree_reads
 pub use Rattle.tree_pages.specs as tree_pages

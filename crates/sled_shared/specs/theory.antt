@@ -5,4 +5,3 @@ pub mod Reading
 pub mod Orders
 pub mod Scanning
 pub mod Copied
-pub mod UnderWay

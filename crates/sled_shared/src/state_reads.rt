@@ -25,7 +25,6 @@ impl<P: Pages, L: Ledger, M: MergeOperator> State<P, L, M> {
         ensures machine { self.new.machine ≡ self.old.machine }
         ensures scans { self.new.scans ≡ self.old.scans }
     {
-        self.machine.audit();
         let Caller {
             number,
             made,
@@ -51,7 +50,6 @@ impl<P: Pages, L: Ledger, M: MergeOperator> State<P, L, M> {
         ensures machine { self.new.machine ≡ self.old.machine }
         ensures scans { self.new.scans ≡ self.old.scans }
     {
-        self.machine.audit();
         let Caller {
             number,
             made,
@@ -77,7 +75,6 @@ impl<P: Pages, L: Ledger, M: MergeOperator> State<P, L, M> {
         ensures machine { self.new.machine ≡ self.old.machine }
         ensures scans { self.new.scans ≡ self.old.scans }
     {
-        self.machine.audit();
         let Caller {
             number,
             made,
