@@ -1,5 +1,5 @@
 -- An image laid down page by page.
-use Rattle.std.proofs.Common.{◌≡◌, ℕ, ◌+◌, ◌-◌, ◌^◌, ◌<◌, ◌≤◌, Bool, true, false, cond, ◌&&◌, nat_eq, nat_le, nat_lt, List, [], ◌∷◌, ◌++◌, Option, Some, None, refl, sym, ap, subst, ◌∙◌, arith, length-append, length, take, get_or, add-one}
+use Rattle.std.proofs.Common.{◌≡◌, ℕ, ◌+◌, ◌-◌, ◌^◌, ◌<◌, ◌≤◌, Bool, true, false, cond, ◌&&◌, nat_eq, nat_le, nat_lt, List, [], ◌∷◌, ◌++◌, Option, Some, None, refl, sym, ap, ◌∙◌, arith, length-append}
 use Rattle.std.specs.Option.{option_map}
 use Rattle.std.specs.List.{find, list_all}
 use Rattle.std.specs.Ordering.{nat_cmp}
@@ -15,21 +15,14 @@ use Rattle.sled_nodes.specs.Order.{Key}
 use Rattle.sled_nodes.specs.Node.{pointers}
 use Rattle.sled_nodes.specs.Image.{last_of, node_in, root_in, all_of, all_named, all_numbers}
 use Rattle.sled_nodes.specs.declared.node.Node.{Node}
-use Rattle.sled_store.specs.Update.{put_at, put_name}
+use Rattle.sled_store.specs.Update.{put_name}
 use Rattle.sled_store.specs.Roots.{roots_of}
 use Rattle.sled_store.proofs.Roots.{same_test}
 use Rattle.sled_store.specs.declared.page.Page.{Page}
 use Rattle.sled_pages.specs.declared.memory.slots.Slot.{Slot}
 use Rattle.sled_pages.specs.Parts.{node_of, alone}
-use Rattle.sled_pages.specs.theory.Held.{Holds, ReachesTo}
-use Rattle.sled_pages.specs.theory.Laid.{IsLaid}
-use Rattle.sled_pages.specs.Numbered.{numbered}
-use Rattle.sled_pages.specs.Building.{IsUnused}
-use Rattle.sled_pages.specs.declared.memory.slots.Slots.{Slots}
-use Rattle.sled_pages.proofs.Rebuilding.{at_number}
-use Rattle.std.proofs.Math.Path.{fun_ext}
-use Rattle.std.proofs.Math.Seq.{take-suc}
-use Rattle.sled_pages.specs.Slots.{slot_in, given_in, slots_of, given_of}
+use Rattle.sled_pages.specs.theory.Held.{Holds}
+use Rattle.sled_pages.specs.Slots.{slot_in, given_in}
 use Rattle.sled_pages.specs.Joined.{joined}
 use Rattle.sled_pages.specs.Table.{slot_given, page_of}
 use Rattle.sled_pages.specs.theory.Table.{table}
@@ -105,120 +98,49 @@ roots_up_to roots least given h e = all_weaker (λ r. nat_le r.1 least) (λ r. g
     le_of : (a b : ℕ) → nat_le a b ≡ true → a ≤ b
     le_of a b f = grind (arith, nat_tests)
 
--- nothing yet
-pub holds_nothing : (slots : ℕ → Option Slot) → ((p : ℕ) → slots p ≡ None) → Holds [] slots 0
-holds_nothing slots none = record {
-  nodes = λ p. ap (option_map (λ (x : Slot). node_of x.page)) (none p);
-  parts = λ p. ap (option_map (λ (x : Slot). x.page)) (none p);
-  below = λ p. ap (slot_given 0) (none p);
-  counted = refl;
-}
-
-pub nothing_numbered : (own : ℕ → Option Slot) → own ≡ (λ _. None) → (p : ℕ) → numbered own p ≡ None
-nothing_numbered own none p = rw none (elim (nat_eq p 0) as (λ b. cond b None None ≡ None) [ true ↦ refl | false ↦ refl ])
-
 -- one page more
-pub holds_more : (image : List (ℕ × Node)) (m n : ℕ → Option Slot) (next k pid : ℕ) (slot : Slot) (node : Node) → k ≡ pid → slot.version ≡ next → node_of slot.page ≡ node → slot.page ≡ alone node →
-    ((q : ℕ) → n q ≡ cond (nat_eq k q) (Some slot) (m q)) → Holds image m next → Holds (image ++ (pid, node) ∷ []) n (next + 1)
-holds_more image m n next k pid slot node same v d bare test h = rw (← same, ← d) (
+pub holds_more : (image : List (ℕ × Node)) (m n : BTreeMap ℕ (Option Slot)) (least last last' next k pid : ℕ) (slot : Slot) (node : Node) → k ≡ pid → slot.version ≡ next → node_of slot.page ≡ node → slot.page ≡ alone node → last ≤ last' → k ≤ last' → last' < 2 ^ 64 → all_named (λ p. nat_le p last') (node_of slot.page) ≡ true →
+    ((q : ℕ) → get nat_cmp n q ≡ cond (is_at (nat_cmp k) q) (Some (Some slot)) (get nat_cmp m q)) → Holds image m least last next → Holds (image ++ (pid, node) ∷ []) n least last' (next + 1)
+holds_more image m n least last last' next k pid slot node same v d bare a b f names up h = rw (← same, ← d) (
     let bare : slot.page ≡ alone (node_of slot.page) = bare ∙ ap alone (sym d) in
+    let test : (p : ℕ) → get nat_cmp n p ≡ cond (nat_eq k p) (Some (Some slot)) (get nat_cmp m p) = λ p. up p ∙ ap (λ t. cond t (Some (Some slot)) (get nat_cmp m p)) (sym (unsigned_ties k p)) in
     let more : (p : ℕ) → node_in (image ++ (k, node_of slot.page) ∷ []) p ≡ cond (nat_eq k p) (Some (node_of slot.page)) (node_in image p) = λ p. last_more (λ q. nat_eq q p) image k (node_of slot.page) in
     record {
-      nodes = λ p. ap (option_map (λ (x : Slot). node_of x.page)) (test p)
-          ∙ (elim (nat_eq k p) as (λ t. option_map (λ (x : Slot). node_of x.page) (cond t (Some slot) (m p)) ≡ cond t (Some (node_of slot.page)) (node_in image p)) [ true ↦ refl | false ↦ h.nodes p ]
+      nodes = λ p. ap (λ o. option_map (λ (x : Slot). node_of x.page) (joined o)) (test p)
+          ∙ (elim (nat_eq k p) as (λ t. option_map (λ (x : Slot). node_of x.page) (joined (cond t (Some (Some slot)) (get nat_cmp m p))) ≡ cond t (Some (node_of slot.page)) (node_in image p)) [ true ↦ refl | false ↦ h.nodes p ]
           ∙ sym (more p));
-      parts = λ p. ap (option_map (λ (x : Slot). x.page)) (test p)
-          ∙ (elim (nat_eq k p) as (λ t. option_map (λ (x : Slot). x.page) (cond t (Some slot) (m p)) ≡ option_map alone (cond t (Some (node_of slot.page)) (node_in image p))) [ true ↦ ap (λ y. Some y) bare | false ↦ h.parts p ]
+      parts = λ p. ap (λ o. option_map (λ (x : Slot). x.page) (joined o)) (test p)
+          ∙ (elim (nat_eq k p) as (λ t. option_map (λ (x : Slot). x.page) (joined (cond t (Some (Some slot)) (get nat_cmp m p))) ≡ option_map alone (cond t (Some (node_of slot.page)) (node_in image p))) [ true ↦ ap (λ y. Some y) bare | false ↦ h.parts p ]
           ∙ ap (option_map alone) (sym (more p)));
-      below = λ p. ap (slot_given (next + 1)) (test p)
-          ∙ elim (nat_eq k p) as (λ t. slot_given (next + 1) (cond t (Some slot) (m p)) ≡ true) [ true ↦ at_next next slot.version v | false ↦ slot_later next (m p) (h.below p) ];
+      numbers = numbers_more image last last' k (node_of slot.page) a b names h.numbers;
+      bounded = λ p l. more p ∙ (ap (λ t. cond t (Some (node_of slot.page)) (node_in image p)) (apart k p (omega arith)) ∙ h.bounded p (omega arith));
+      below = λ p. ap (λ o. slot_given (next + 1) (joined o)) (test p)
+          ∙ elim (nat_eq k p) as (λ t. slot_given (next + 1) (joined (cond t (Some (Some slot)) (get nat_cmp m p))) ≡ true) [ true ↦ at_next next slot.version v | false ↦ slot_later next (joined (get nat_cmp m p)) (h.below p) ];
+      fits = f;
+      least_is = let l = h.least_is in omega arith;
       counted = ap (λ c. c + 1) h.counted ∙ sym (simp length-append);
     })
-
--- in a map
-pub map_more : (m n : BTreeMap ℕ (Option Slot)) (k : ℕ) (slot : Slot) → ((q : ℕ) → get nat_cmp n q ≡ cond (is_at (nat_cmp k) q) (Some (Some slot)) (get nat_cmp m q)) → (q : ℕ) → joined (get nat_cmp n q) ≡ cond (nat_eq k q) (Some slot) (joined (get nat_cmp m q))
-map_more m n k slot up q = ap joined (up q ∙ ap (λ t. cond t (Some (Some slot)) (get nat_cmp m q)) (sym (unsigned_ties k q)))
-    ∙ elim (nat_eq k q) as (λ t. joined (cond t (Some (Some slot)) (get nat_cmp m q)) ≡ cond t (Some slot) (joined (get nat_cmp m q))) [ true ↦ refl | false ↦ refl ]
-
--- at a place
-pub place_more : (own mid new : ℕ → Option Slot) (i k : ℕ) (slot : Slot) → nat_lt 0 k ≡ true → i ≡ k - 1 → mid ≡ own → new ≡ put_at mid i (Some slot) → (q : ℕ) → numbered new q ≡ cond (nat_eq k q) (Some slot) (numbered own q)
-place_more own mid new i k slot h e same put q = rw (put, same, e) (by (nat_eq q 0) refl)
-  where
-    at_zero : nat_eq q 0 ≡ true → nat_eq k q ≡ false
-    at_zero f = grind (arith, nat_tests, h)
-
-    here : nat_eq q 0 ≡ false → nat_eq k q ≡ true → nat_eq (q - 1) (k - 1) ≡ true
-    here f g = grind (arith, nat_tests, h)
-
-    elsewhere : nat_eq q 0 ≡ false → nat_eq k q ≡ false → nat_eq (q - 1) (k - 1) ≡ false
-    elsewhere f g = grind (arith, nat_tests, h)
-
-    test : nat_eq q 0 ≡ false → (b : Bool) → nat_eq k q ≡ b → nat_eq (q - 1) (k - 1) ≡ b
-    test f true g = here f g
-    test f false g = elsewhere f g
-
-    by : (b : Bool) → nat_eq q 0 ≡ b → cond b None (cond (nat_eq (q - 1) (k - 1)) (Some slot) (own (q - 1))) ≡ cond (nat_eq k q) (Some slot) (cond b None (own (q - 1)))
-    by true f = sym (ap (λ t. cond t (Some slot) None) (at_zero f))
-    by false f = ap (λ t. cond t (Some slot) (own (q - 1))) (test f (nat_eq k q) refl)
-
--- one number more that has a place
-pub positive_more : (image : List (ℕ × Node)) (i : ℕ) (d : ℕ × Node) → i < length image → nat_lt 0 (get_or image i d).0 ≡ true → list_all (λ e. nat_lt 0 e.0) (take i image) ≡ true → list_all (λ e. nat_lt 0 e.0) (take (i + 1) image) ≡ true
-positive_more image i d h some all = rw add-one (ap (list_all (λ e. nat_lt 0 e.0)) (take-suc image i d h) ∙ all_push (λ e. nat_lt 0 e.0) (take i image) (get_or image i d) all some)
-
--- how far an image with one page more reaches
-pub reaches_more : (image : List (ℕ × Node)) (i least a b : ℕ) (d : ℕ × Node) → i < length image → a ≤ b → (get_or image i d).0 ≤ b → all_named (λ p. nat_le p b) (get_or image i d).1 ≡ true → ReachesTo (take i image) least a → ReachesTo (take (i + 1) image) least b
-reaches_more image i least a b d h l k n r =
-    let split : take (i + 1) image ≡ take i image ++ get_or image i d ∷ [] = rw add-one (take-suc image i d h) in
-    let low = r.least_is in
-    subst (λ es. ReachesTo es least b) (sym split) (record {
-      numbers = numbers_more (take i image) a b (get_or image i d).0 (get_or image i d).1 l k n r.numbers;
-      bounded = λ p f. last_more (λ q. nat_eq q p) (take i image) (get_or image i d).0 (get_or image i d).1 ∙ (ap (λ t. cond t (Some (get_or image i d).1) (node_in (take i image) p)) (apart (get_or image i d).0 p (omega arith)) ∙ r.bounded p (omega arith));
-      least_is = omega arith;
-    })
-
--- no page has a place behind that of the last number
-pub nothing_behind : (image : List (ℕ × Node)) (own : ℕ → Option Slot) (least last next : ℕ) → Holds image (numbered own) next → ReachesTo image least last → IsUnused last own
-nothing_behind image own least last next h r = record {
-  none = λ i k. at_number own i (i + 1) (omega arith) (omega arith) ∙ gone (numbered own (i + 1)) (h.nodes (i + 1) ∙ r.bounded (i + 1) (omega arith));
-}
-  where
-    gone : (o : Option Slot) → option_map (λ (x : Slot). node_of x.page) o ≡ None → o ≡ None
-    gone None e = refl
-    gone (Some x) e = cc
-
--- all of it by place
-pub laid_by_place : (image : List (ℕ × Node)) (s : Slots) (own : ℕ → Option Slot) (least last next : ℕ) → slots_of s ≡ numbered own → ((p : ℕ) → given_of s p ≡ nat_le p last) → Holds image (numbered own) next → ReachesTo image least last → IsLaid image least s next
-laid_by_place image s own least last next e g h r =
-    let all : given_of s ≡ (λ p. nat_le p last) = fun_ext g in
-    let low = r.least_is in
-    record {
-      nodes = λ p. ap (λ f. option_map (λ (x : Slot). node_of x.page) (f p)) e ∙ h.nodes p;
-      parts = λ p. ap (λ f. option_map (λ (x : Slot). x.page) (f p)) e ∙ h.parts p;
-      given = subst (λ f. all_numbers f image ≡ true) (sym all) r.numbers;
-      least_given = λ p k. g p ∙ le_is p last (omega arith);
-      below = λ p. ap (λ f. slot_given next (f p)) e ∙ h.below p;
-    }
 
 not_above : (last p : ℕ) → nat_le p last ≡ false → last < p
 not_above last p e = grind (arith, nat_tests)
 
 -- all of it
-pub laid : (image : List (ℕ × Node)) (foreign : BTreeMap ℕ (Option Slot)) (own : ℕ → Option Slot) (least last next p : ℕ) → own ≡ (λ _. None) → Holds image (λ p. joined (get nat_cmp foreign p)) next → ReachesTo image least last → option_map (λ (x : Slot). node_of x.page) (slot_in last foreign own p) ≡ node_in image p
-laid image foreign own least last next p o h r = rw o (
+pub laid : (image : List (ℕ × Node)) (foreign : BTreeMap ℕ (Option Slot)) (own : ℕ → Option Slot) (least last next p : ℕ) → own ≡ (λ _. None) → Holds image foreign least last next → option_map (λ (x : Slot). node_of x.page) (slot_in last foreign own p) ≡ node_in image p
+laid image foreign own least last next p o h = rw o (
     elim (nat_le p last) as (λ b. nat_le p last ≡ b → option_map (λ (x : Slot). node_of x.page) (cond b (joined (get nat_cmp foreign p)) None) ≡ node_in image p) [
       | true ↦ λ e. h.nodes p
-      | false ↦ λ e. sym (r.bounded p (not_above last p e))
+      | false ↦ λ e. sym (h.bounded p (not_above last p e))
     ] refl)
 
-pub laid_parts : (image : List (ℕ × Node)) (foreign : BTreeMap ℕ (Option Slot)) (own : ℕ → Option Slot) (least last next p : ℕ) → own ≡ (λ _. None) → Holds image (λ p. joined (get nat_cmp foreign p)) next → ReachesTo image least last → option_map (λ (x : Slot). x.page) (slot_in last foreign own p) ≡ option_map alone (node_in image p)
-laid_parts image foreign own least last next p o h r = rw o (
+pub laid_parts : (image : List (ℕ × Node)) (foreign : BTreeMap ℕ (Option Slot)) (own : ℕ → Option Slot) (least last next p : ℕ) → own ≡ (λ _. None) → Holds image foreign least last next → option_map (λ (x : Slot). x.page) (slot_in last foreign own p) ≡ option_map alone (node_in image p)
+laid_parts image foreign own least last next p o h = rw o (
     elim (nat_le p last) as (λ b. nat_le p last ≡ b → option_map (λ (x : Slot). x.page) (cond b (joined (get nat_cmp foreign p)) None) ≡ option_map alone (node_in image p)) [
       | true ↦ λ e. h.parts p
-      | false ↦ λ e. ap (option_map alone) (sym (r.bounded p (not_above last p e)))
+      | false ↦ λ e. ap (option_map alone) (sym (h.bounded p (not_above last p e)))
     ] refl)
 
-pub laid_below : (image : List (ℕ × Node)) (foreign : BTreeMap ℕ (Option Slot)) (own : ℕ → Option Slot) (last next p : ℕ) → own ≡ (λ _. None) → Holds image (λ p. joined (get nat_cmp foreign p)) next → slot_given next (slot_in last foreign own p) ≡ true
-laid_below image foreign own last next p o h = rw o (
+pub laid_below : (image : List (ℕ × Node)) (foreign : BTreeMap ℕ (Option Slot)) (own : ℕ → Option Slot) (least last next p : ℕ) → own ≡ (λ _. None) → Holds image foreign least last next → slot_given next (slot_in last foreign own p) ≡ true
+laid_below image foreign own least last next p o h = rw o (
     elim (nat_le p last) as (λ b. slot_given next (cond b (joined (get nat_cmp foreign p)) None) ≡ true) [
       | true ↦ h.below p
       | false ↦ refl

@@ -73,7 +73,7 @@ linked_page : (version : ℕ) (link : Link) (o : Option Slot) → option_map pag
 linked_page version link None = refl
 linked_page version link (Some s) = ap (λ n. Some (record { version = version; node = n })) (node_linked link s.page)
 
-pub at_number : (own : ℕ → Option Slot) (i pid : ℕ) → 0 < pid → i ≡ pid - 1 → own i ≡ numbered own pid
+at_number : (own : ℕ → Option Slot) (i pid : ℕ) → 0 < pid → i ≡ pid - 1 → own i ≡ numbered own pid
 at_number own i pid h e = by (nat_eq pid 0) refl
   where
     positive : nat_eq pid 0 ≡ true → ⊥

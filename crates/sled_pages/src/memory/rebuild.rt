@@ -1,5 +1,5 @@
 //! A store in the making.
-ghost use Rattle.std.specs.Prelude.{◌≡◌, ◌+◌, ◌^◌, ◌<◌, [], None, true, is_some, OnOk, OnErr, IfErr};
+ghost use Rattle.std.specs.Prelude.{◌≡◌, ◌+◌, ◌-◌, ◌^◌, ◌<◌, [], None, true, is_some, OnOk, OnErr, IfErr};
 ghost use Rattle.sled_nodes.specs.declared.error.Error.TheVariants.{NoMemory};
 ghost use Rattle.sled_store.specs.Update.{put_at};
 ghost use Rattle.sled_pages.specs.Blocks.{lies_of, has_of};
@@ -10,7 +10,7 @@ use super::MemPages;
 use super::back::set_root;
 use super::blocks::Blocks;
 use super::linked::Linked;
-use super::slots::{Slot, Slots, place_of};
+use super::slots::{Slot, Slots};
 use sled_nodes::{IVec, Link, Node, Pid, Result, Shared, Version};
 use std::alloc::Global;
 
@@ -31,6 +31,14 @@ pub struct Rebuild {
     last: u64,
     next_version: u64,
     ghost building: { IsBuilding (lies_of pages) roots.items last next_version },
+}
+
+// The place of a number's slot.
+fn place_of(pid: Pid) -> usize
+    requires { 0 < pid }
+    ensures { result ≡ pid - 1 }
+{
+    (pid.0 - 1) as usize
 }
 
 // Takes out the slot at a place, if there is one. Then the place is there for another.

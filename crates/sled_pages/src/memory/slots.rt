@@ -1,5 +1,5 @@
 //! Pages by number, as the store in memory keeps them.
-ghost use Rattle.std.specs.Prelude.{◌≡◌, ℕ, ◌+◌, ◌-◌, ◌^◌, ◌<◌, ◌||◌, Some, None, true, false, nat_eq, nat_le, IfOk, IfErr, IfSome, OnOk, IsTrue, ◌↔◌, OnErr, is_some};
+ghost use Rattle.std.specs.Prelude.{◌≡◌, ℕ, ◌+◌, ◌^◌, ◌<◌, ◌||◌, Some, None, true, false, nat_eq, nat_le, IfOk, IfErr, IfSome, OnOk, IsTrue, ◌↔◌, OnErr, is_some};
 ghost use Rattle.std.specs.Option.{option_copied};
 ghost use Rattle.std.specs.Vec.{vec_len, vec_capacity};
 ghost use Rattle.sled_nodes.specs.declared.error.Error.TheVariants.{NoMemory};
@@ -16,8 +16,6 @@ ghost use Rattle.std.specs.BTreeMap.{get};
 ghost use Rattle.sled_pages.specs.Joined.{joined};
 ghost use Rattle.std.specs.Prelude.{nat_lt, nat_le, ◌&&◌};
 ghost use Rattle.sled_pages.specs.Numbered.{numbered};
-ghost use Rattle.std.specs.List.{list_all};
-ghost use Rattle.sled_pages.specs.theory.Held.{ReachesTo};
 
 use super::blocks::Blocks;
 use super::linked::Linked;
@@ -74,15 +72,14 @@ pub fn link_slot(
     }
 }
 
-/// Slots by number. The pages of an image may have any numbers: where they lie far apart they are in an ordered map up to `last`, and those
-/// that were added since lie in order behind. Else `last` is 0, and all lie by place. Numbers whose slots are gone for good lose their
-/// places, so that these take no memory.
+/// Slots by number. Those of an image have any numbers up to `last`; those that were added since lie in order behind. Numbers whose
+/// slots are gone for good lose their places, so that these take no memory.
 #[derive(Drop)]
 pub struct Slots {
     from_image: bool,
     last: u64,
     foreign: BTreeMap<u64, Option<Slot>>,
-    // how many numbers behind `last` were given
+    // how many numbers behind the last one of the image were given
     given: u64,
     own: Blocks,
     ghost known: { IsKnown from_image foreign },
@@ -102,46 +99,6 @@ pub fn reserve_one<T>(list: &mut Vec<T>) -> Result<()>
         list.reserve_exact(len / 8 + 8)?;
     }
     Ok(())
-}
-
-/// The place of a number's slot: that of the number 1 is the first.
-pub fn place_of(pid: Pid) -> usize
-    ensures { result ≡ pid - 1 }
-{
-    pid.0.saturating_sub(1) as usize
-}
-
-// Pages lie by place if at least one of so many numbers has one: then places take a fixed number of times the memory of the pages.
-const NUMBERS_A_PAGE: u64 = 4;
-
-// The greatest of this number and all that the pages of an image have or name.
-fn greatest_number(pages: &[(Pid, Node)], least: u64) -> u64
-    ensures { ReachesTo pages.now least result }
-{
-    let mut last = least;
-    for page in pages {
-        last = page.1.greatest(last.max(page.0.0));
-    }
-    last
-}
-
-// Whether a number can have a place.
-fn can_have_place(pid: Pid) -> bool
-    ensures { result ≡ nat_lt 0 pid }
-{
-    pid.0 > 0
-}
-
-// Whether the pages of an image are to lie by place, up to this number.
-fn lie_dense(pages: &[(Pid, Node)], last: u64) -> bool
-    ensures { result ≡ true → list_all (λ e. nat_lt 0 e.0) pages.now ≡ true }
-{
-    for page in pages {
-        if !can_have_place(page.0) {
-            return false;
-        }
-    }
-    last / NUMBERS_A_PAGE <= pages.len() as u64
 }
 
 impl Slots {
@@ -171,12 +128,7 @@ impl Slots {
         ensures ok { IfOk result (λ laid. IsLaid pages.items least laid.0 laid.1) }
         ensures err { IfErr result (λ e. e ≡ NoMemory) }
     {
-        let last = greatest_number(pages.as_slice(), least);
-        if lie_dense(pages.as_slice(), last) {
-            let (own, next) = Slots::lay_by_place(alloc, pages)?;
-            return Ok((Slots::by_place(alloc, own, last), next));
-        }
-        let (foreign, next) = Slots::lay(alloc, pages)?;
+        let (foreign, last, next) = Slots::lay(alloc, pages, least)?;
         Ok((
             Slots {
                 from_image: true,
@@ -189,17 +141,20 @@ impl Slots {
         ))
     }
 
-    // The pages of an image by number, and the first version that none has.
+    // The pages of an image by number, the greatest number of all, and the first version that none has.
     fn lay(
         alloc: Global,
         pages: Vec<(Pid, Node)>,
-    ) -> Result<(BTreeMap<u64, Option<Slot>>, u64)>
-        ensures ok { IfOk result (λ laid. Holds pages.items (λ p. joined (get nat_cmp laid.0 p)) laid.1) }
+        least: u64,
+    ) -> Result<(BTreeMap<u64, Option<Slot>>, u64, u64)>
+        ensures ok { IfOk result (λ held. Holds pages.items held.0 least held.1 held.2) }
         ensures err { IfErr result (λ e. e ≡ NoMemory) }
     {
         let mut foreign = BTreeMap::new(alloc);
+        let mut last = least;
         let mut next = 0;
         for (pid, node) in pages {
+            last = node.greatest(last.max(pid.0));
             let base = Shared::new(alloc, node)?;
             let page = Linked::new(base);
             let slot = Slot {
@@ -209,45 +164,7 @@ impl Slots {
             drop(foreign.insert(pid.0, Some(slot))?);
             next += 1;
         }
-        Ok((foreign, next))
-    }
-
-    // The same by place.
-    fn lay_by_place(alloc: Global, pages: Vec<(Pid, Node)>) -> Result<(Blocks, u64)>
-        requires { list_all (λ e. nat_lt 0 e.0) pages.items ≡ true }
-        ensures ok { IfOk result (λ laid. Holds pages.items (numbered (lies_of laid.0)) laid.1) }
-        ensures err { IfErr result (λ e. e ≡ NoMemory) }
-    {
-        let mut own = Blocks::new(alloc);
-        let mut next = 0;
-        for (pid, node) in pages {
-            let place = place_of(pid);
-            own.make(alloc, place)?;
-            let base = Shared::new(alloc, node)?;
-            let page = Linked::new(base);
-            let slot = Slot {
-                version: Version(next),
-                page,
-            };
-            drop(own.put(place, Some(slot)));
-            next += 1;
-        }
-        Ok((own, next))
-    }
-
-    // The slots of an image that lie by place. All numbers up to the last one count as given.
-    fn by_place(alloc: Global, own: Blocks, last: u64) -> Slots
-        requires { IsUnused last (lies_of own) }
-        ensures slots { slots_of result ≡ numbered (lies_of own) }
-        ensures given { (p : ℕ) → given_of result p ≡ nat_le p last }
-    {
-        Slots {
-            from_image: true,
-            last: 0,
-            foreign: BTreeMap::new(alloc),
-            given: last,
-            own,
-        }
+        Ok((foreign, last, next))
     }
 
     /// The slot of a number.
