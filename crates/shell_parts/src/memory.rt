@@ -93,8 +93,11 @@ impl Home for Memory {
         Some(store)
     }
 
-    fn refuses(&self, _verb: Verb, _arguments: &Arguments) -> Option<&'static str> {
-        None
+    fn refuses(&self, verb: Verb, _arguments: &Arguments) -> Option<&'static str> {
+        match verb {
+            Verb::Compact => Some("is for a store in files"),
+            _ => None,
+        }
     }
 
     fn mark(&self) -> u64 {
