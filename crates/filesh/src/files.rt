@@ -7,7 +7,7 @@ use shell_words::arguments::Arguments;
 use shell_words::choices::Drawing;
 use shell_words::operators::Operator;
 use shell_words::table::Verb;
-use shell_words::tell::{Result, Told, answered, tell, tell_numbered, tell_refused};
+use shell_words::tell::{Result, Told, answered, tell, tell_numbered};
 use sled::Db;
 use sled_disk::MemoryDisk;
 use sled_files::{FilePages, FileStats};
@@ -31,9 +31,6 @@ enum Behind {
     // The first one tells only of a database that was found.
     Nothing,
     Crash,
-    Compaction,
-    // Why the log is not begun anew is told already.
-    Refusal,
     Another,
 }
 
@@ -136,25 +133,6 @@ impl<W> Files<W> {
         }
     }
 
-    // Makes all durable in a log that is begun anew. Where that is refused, why is added, and the store stays as it is.
-    fn compacted<P: Pages>(&mut self, store: P, out: &mut Told) -> Result<P>
-    where
-        W: Place<P>,
-    {
-        let mut store = store;
-        let Err(error) = W::compact(&mut store) else {
-            return Ok(store);
-        };
-        self.behind = Behind::Refusal;
-        match tell_refused(out, error) {
-            Ok(()) => Ok(store),
-            Err(stopped) => {
-                drop(store);
-                Err(stopped)
-            }
-        }
-    }
-
     // What a line makes of the store.
     fn changed<P: Pages>(
         &mut self,
@@ -172,7 +150,6 @@ impl<W> Files<W> {
             Verb::Recover => self.recovered(store, out),
             Verb::New => self.emptied(store, out),
             Verb::Mark => Ok(self.marked(store, arguments.number())),
-            Verb::Compact => self.compacted(store, out),
             _ => Ok(store),
         }
     }
@@ -196,9 +173,7 @@ impl<W> Files<W> {
     fn told<P: Pages>(&self, db: &Db<P, Operator>, out: &mut Told) -> Result<bool> {
         let opening: &[u8] = match self.behind {
             Behind::Nothing => return tell_found(db, out),
-            Behind::Refusal => return Ok(false),
             Behind::Crash => b"recovered",
-            Behind::Compaction => b"compacted",
             Behind::Another => b"opened",
         };
         tell(out, &[Text(opening)]).map(|()| true)
@@ -209,7 +184,6 @@ impl<W> Files<W> {
 fn behind_of(verb: Verb) -> Behind {
     match verb {
         Verb::Crash => Behind::Crash,
-        Verb::Compact => Behind::Compaction,
         _ => Behind::Another,
     }
 }

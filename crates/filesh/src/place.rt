@@ -19,9 +19,6 @@ pub trait Place<P>: Drop {
 
     /// A store with nothing in it, in place of this one.
     fn empty(&mut self, store: P, out: &mut Told) -> Result<P>;
-
-    /// Makes all durable in a log that is begun anew.
-    fn compact(store: &mut P) -> sled_nodes::Result<()>;
 }
 
 // A store in these files, as they stand for one.
@@ -113,10 +110,6 @@ impl Place<FilePages<HostFile>> for Folder<'_> {
         drop(first);
         drop(second);
         self.store(out)
-    }
-
-    fn compact(store: &mut FilePages<HostFile>) -> sled_nodes::Result<()> {
-        store.compact()
     }
 }
 
@@ -229,9 +222,5 @@ impl Place<FilePages<MemoryDisk>> for Memory {
     ) -> Result<FilePages<MemoryDisk>> {
         drop(store);
         self.first(out)
-    }
-
-    fn compact(store: &mut FilePages<MemoryDisk>) -> sled_nodes::Result<()> {
-        store.compact()
     }
 }

@@ -104,9 +104,7 @@ impl<P: Pages, H: Home<Store = P, Opened = Db<P, Operator>>> Shell<P, H> {
             Verb::Mark if number < self.home.mark() => self
                 .lines
                 .tell_below(number, self.home.mark()),
-            Verb::Reopen | Verb::Compact | Verb::Refuse | Verb::Unreadable | Verb::Mark
-                if state.is_closed() =>
-            {
+            Verb::Reopen | Verb::Refuse | Verb::Unreadable | Verb::Mark if state.is_closed() => {
                 tell_refused(&mut self.lines.out, Error::Corruption(GROUP_IS_OPEN))
             }
             Verb::Sweep(_) | Verb::Run if self.is_swept || self.lines.is_in_file() => {
@@ -116,7 +114,6 @@ impl<P: Pages, H: Home<Store = P, Opened = Db<P, Operator>>> Shell<P, H> {
             Verb::Crash
             | Verb::New
             | Verb::Reopen
-            | Verb::Compact
             | Verb::Refuse
             | Verb::Unreadable
             | Verb::Mark
@@ -242,7 +239,7 @@ impl<P: Pages, H: Home<Store = P, Opened = Db<P, Operator>>> Shell<P, H> {
         }
     }
 
-    // Takes down the trees that an opening got, and tells of it; of the current tree where it is another one than before.
+    // Takes down the trees that an opening got, and tells of it; of the current tree where it is another one than before a crash.
     fn tell_opened(&mut self, session: &mut Session<P, Operator>) -> Result<()> {
         self.names.begin(session.tree())?;
         let is_same = self.take_again(session)?;

@@ -18,11 +18,10 @@ pub enum State<P: Pages, H: Home<Store = P, Opened = Db<P, Operator>>> {
 }
 
 impl<P: Pages, H: Home<Store = P, Opened = Db<P, Operator>>> State<P, H> {
-    /// The name of the tree that is to be current again behind what a line asks for: that of the current tree, behind a crash and a log
-    /// that is begun anew.
+    /// The name of the tree that is to be current again behind what a line asks for: that of the current tree, behind a crash.
     pub fn name_behind(&self, verb: Verb) -> Result<Option<IVec>> {
         match (self, verb) {
-            (State::Open(session), Verb::Crash | Verb::Compact) => {
+            (State::Open(session), Verb::Crash) => {
                 let name = session.tree().name.clone();
                 Ok(Some(answered(name)?))
             }

@@ -93,11 +93,8 @@ impl Home for Memory {
         Some(store)
     }
 
-    fn refuses(&self, verb: Verb, _arguments: &Arguments) -> Option<&'static str> {
-        match verb {
-            Verb::Compact => Some("is for a store in files"),
-            _ => None,
-        }
+    fn refuses(&self, _verb: Verb, _arguments: &Arguments) -> Option<&'static str> {
+        None
     }
 
     fn mark(&self) -> u64 {
