@@ -1,7 +1,7 @@
 -- The calls in flight of a machine have the halves of the splits that they have begun.
-use Rattle.std.proofs.Common.{◌≡◌, ℕ, ◌<◌, List, Option, Some, None, option_map, sym, refl, ap, ◌∙◌, subst, inl, inr}
+use Rattle.std.proofs.Common.{◌≡◌, ◌≢◌, ℕ, zero, suc, ◌<◌, List, Option, Some, None, option_map, sym, refl, ap, ◌∙◌, subst, inl, inr}
 use Rattle.std.proofs.lemmas.List.{append_cancel_left}
-use Rattle.sled_nodes.proofs.Basics.{none_some, some_is}
+use Rattle.sled_nodes.proofs.Basics.{none_some, some_is, same_or_not}
 use Rattle.sled_nodes.specs.Ranges.{Range}
 use Rattle.sled_nodes.specs.declared.node.Data.{Data}
 use Rattle.sled_nodes.specs.declared.node.Data.TheVariants.{Leaf, Index}
@@ -15,10 +15,12 @@ use Rattle.sled_model.specs.Maps.{Maps, Merge}
 use Rattle.sled_model.specs.Refusal.{ToStep, must_refuse, turns_limit}
 use Rattle.sled_model.specs.State.{State, CallInFlight, range_of}
 use Rattle.sled_model.specs.Transition.{transition_as}
+use Rattle.sled_model.specs.declared.call.Call.{Call}
 use Rattle.sled_model.specs.declared.outcome.Outcome.{Outcome}
 use Rattle.sled_model.specs.declared.outcome.Outcome.TheVariants as outcome
 use Rattle.sled_model.specs.declared.outcome.Step.{Step}
 use Rattle.sled_model.specs.declared.outcome.Step.TheVariants as step
+use Rattle.sled_model.specs.declared.tree.Tree.{Tree}
 use Rattle.tree_laws.proofs.Stable.{is_number}
 use Rattle.tree_laws.specs.Action.{AreHalvesOf, IsSplit}
 use Rattle.tree_laws.specs.Forest.{Forest}
@@ -38,10 +40,12 @@ use Rattle.tree_progress.proofs.Halves.{halves_law}
 use Rattle.tree_progress.specs.Steps.{HasHalves}
 use Rattle.sled.specs.Flights.{call_in_flight_of, follows_as, HasMore}
 use Rattle.sled.specs.Values.{db_state, snapshot_of_db}
+use Rattle.sled_calls.specs.Finish.{steps_of, outcomes_of, RunsToEnd, Completes}
+use Rattle.sled_calls.specs.Run.{MachineSteps, NoCalls, OneCall}
 use Rattle.sled_calls.specs.Step.{MachineStepContract, FollowsAt, slot_of}
 use Rattle.sled_calls.specs.StepsInSlot.{flight_after}
 use Rattle.sled_calls.specs.Values.{MachineValue, kept_at, slots_of, configuration_of}
-use Rattle.machine_laws.specs.Moves.{IsSound, IsReached, BeginsEmpty, Steps, Calls, MachineHalvesLaw}
+use Rattle.machine_laws.specs.Moves.{IsSound, IsReached, BeginsEmpty, Steps, Finishes, CompletesOne, Calls, MachineHalvesLaw}
 
 -- A page that is split and its left half tell the right half
 same_entries : (n l a b : Data) → AreHalvesOf n l a → AreHalvesOf n l b → a ≡ b
@@ -179,12 +183,35 @@ module _ {P M : Type 0} (store : P → Store) (number : P → ℕ) (meant : M �
     | inr off ↦ let was = sym (k.slots.others slot off) ∙ is in still a b x y slot f was is (h slot f was)
   ]
 
+  -- steps of one slot alone: what stands in it then has its halves by the last of them, and the other slots are as they were
+  finished_own : (slot n : ℕ) (o : Outcome) (a b : MachineValue P M) → MachineSteps store number meant a (steps_of slot n) (outcomes_of n o) b → (g : InFlight) → kept_at b.flights slot ≡ Some g → HasHalves (nodes_of (now (store b.db.pages))) g.stage
+  finished_own slot zero o a b (OneCall k NoCalls) g is = own a b slot g is (step.Step slot) o k refl
+  finished_own slot (suc n) o a b (OneCall {m = m} k rest) g is = finished_own slot n o m b rest g is
+
+  finished_others : (slot n : ℕ) (o : Outcome) (a b : MachineValue P M) → MachineSteps store number meant a (steps_of slot n) (outcomes_of n o) b → (q : ℕ) → q ≢ slot → kept_at b.flights q ≡ kept_at a.flights q
+  finished_others slot zero o a b (OneCall k NoCalls) q off = k.slots.others q (λ e. off (sym (some_is e)))
+  finished_others slot (suc n) o a b (OneCall {m = m} k rest) q off = finished_others slot n o m b rest q off ∙ k.slots.others q (λ e. off (sym (some_is e)))
+
+  finishes_on : (a m b : MachineValue P M) (slot : ℕ) (o : Outcome) → IsSound store a → IsSound store b → ((q : ℕ) → q ≢ slot → kept_at m.flights q ≡ kept_at a.flights q) → RunsToEnd store number meant m slot o b → HasAll a → HasAll b
+  finishes_on a m b slot o x y same k h q f is = elim (same_or_not q slot) [
+    | inl e ↦ finished_own slot k.moves o m b k.each f (ap (kept_at b.flights) (sym e) ∙ is)
+    | inr off ↦ let was = sym (finished_others slot k.moves o m b k.each q off ∙ same q off) ∙ is in still a b x y q f was is (h q f was)
+  ]
+
+  completes_on : (a b : MachineValue P M) (tree : Tree) (call : Call) (o : Outcome) → IsSound store a → IsSound store b → Completes store number meant a tree call o b → HasAll a → HasAll b
+  completes_on a b tree call o x y (inl k) h = steps_on a b (step.Begin tree call) o x y k.reaches h
+  completes_on a b tree call o x y (inr k) h = finishes_on a k.begun b k.slot o x y (λ q off. k.begins.slots.others q (λ e. off (sym (some_is e)))) k.finishes h
+
   pub reached_sound : (m : MachineValue P M) → IsReached store number meant m → IsSound store m
   reached_sound m (BeginsEmpty is none) = is
   reached_sound m (Steps before k is) = is
+  reached_sound m (Finishes before k is) = is
+  reached_sound m (CompletesOne before k is) = is
   reached_sound m (Calls before k is) = is
 
   pub machine_halves_law : MachineHalvesLaw store number meant
   machine_halves_law m (BeginsEmpty is none) slot f there = none_some (sym (none slot) ∙ there)
   machine_halves_law m (Steps {a = a} {s = s} {o = o} before k is) slot f there = steps_on a m s o (reached_sound a before) is k (machine_halves_law a before) slot f there
+  machine_halves_law m (Finishes {a = a} {slot = own} {o = o} before k is) slot f there = finishes_on a a m own o (reached_sound a before) is (λ q off. refl) k (machine_halves_law a before) slot f there
+  machine_halves_law m (CompletesOne {a = a} {tree = tree} {call = call} {o = o} before k is) slot f there = completes_on a m tree call o (reached_sound a before) is k (machine_halves_law a before) slot f there
   machine_halves_law m (Calls {a = a} before k is) slot f there = still a m (reached_sound a before) is slot f (k slot f there) there (machine_halves_law a before slot f (k slot f there))

@@ -6,16 +6,19 @@ use Rattle.sled_store.specs.State.{nodes_of}
 use Rattle.sled_store.specs.Store.{Store, now}
 use Rattle.sled_model.specs.Maps.{Merge}
 use Rattle.sled_model.specs.State.{range_of, IsOnKey}
+use Rattle.sled_model.specs.declared.call.Call.{Call}
 use Rattle.sled_model.specs.declared.outcome.Outcome.{Outcome}
 use Rattle.sled_model.specs.declared.outcome.Outcome.TheVariants.{Moved}
 use Rattle.sled_model.specs.declared.outcome.Step.{Step}
 use Rattle.sled_model.specs.declared.outcome.Step.TheVariants as step
+use Rattle.sled_model.specs.declared.tree.Tree.{Tree}
 use Rattle.sled_tree.specs.Course.{course_of}
 use Rattle.sled_tree.specs.declared.flight.InFlight.{InFlight}
 use Rattle.tree_progress.specs.Steps.{HasHalves}
 use Rattle.move_laws.specs.Meant.{Flight, flight, moves_bound}
 use Rattle.sled.specs.Sound.{IsDb}
 use Rattle.sled.specs.Values.{numbers_of, snapshot_of_db}
+use Rattle.sled_calls.specs.Finish.{RunsToEnd, Completes}
 use Rattle.sled_calls.specs.Sound.{IsMachine}
 use Rattle.sled_calls.specs.Step.{MachineStepContract}
 use Rattle.sled_calls.specs.Values.{MachineValue, kept_at}
@@ -47,11 +50,13 @@ pub record IsSound {P M : Type 0} (store : P → Store) (m : MachineValue P M) :
   pub db : IsDb store m.db
   pub calls : IsMachine (snapshot_of_db store m.db) m.flights m.slots_given
 
--- A machine that began with no call in flight. It made steps, of whichever kind; and calls that are none, as a transaction, after which
--- no call is in flight that was not before
+-- A machine that began with no call in flight. It made steps, of whichever kind; all steps of a call to its end, of one in flight or of one
+-- that began; and calls that are no steps, as a transaction, after which no call is in flight that was not before
 pub data IsReached {P M : Type 0} (store : P → Store) (flush_number : P → ℕ) (meant : M → Merge) : MachineValue P M → Type 0 where
   BeginsEmpty : {m : MachineValue P M} → IsSound store m → ((slot : ℕ) → kept_at m.flights slot ≡ None) → IsReached store flush_number meant m
   Steps : {a b : MachineValue P M} {s : Step} {o : Outcome} → IsReached store flush_number meant a → MachineStepContract store flush_number meant a s o b → IsSound store b → IsReached store flush_number meant b
+  Finishes : {a b : MachineValue P M} {slot : ℕ} {o : Outcome} → IsReached store flush_number meant a → RunsToEnd store flush_number meant a slot o b → IsSound store b → IsReached store flush_number meant b
+  CompletesOne : {a b : MachineValue P M} {tree : Tree} {call : Call} {o : Outcome} → IsReached store flush_number meant a → Completes store flush_number meant a tree call o b → IsSound store b → IsReached store flush_number meant b
   Calls : {a b : MachineValue P M} → IsReached store flush_number meant a → ((slot : ℕ) (f : InFlight) → kept_at b.flights slot ≡ Some f → kept_at a.flights slot ≡ Some f) → IsSound store b → IsReached store flush_number meant b
 
 -- Of each call in flight of such a machine a split that it has begun has the halves that a split makes
