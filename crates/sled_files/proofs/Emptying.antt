@@ -31,7 +31,7 @@ pub behind_still : {generation : ℕ} {other c : List ℕ} → IsBlank other ⊎
 behind_still {generation} behind (inl same) = subst (λ (l : List ℕ). IsBlank l ⊎ IsOlder generation l) (sym same) behind
 behind_still behind (inr blank) = inl blank
 
--- what follows from a fact of a call that succeeds
-pub on_ok : {T E A B : Type 0} → (r : Result T E) → (A → B) → OnOk r A → OnOk r B
-on_ok (Ok x) f a = f a
-on_ok (Err e) f a = a
+-- what held of a file that a call leaves as it is, where the call is done
+pub still_ok : {T E D B : Type 0} (r : Result T E) (P : D → Type 0) (old new : D) → new ≡ old → P old → OnOk r B → OnOk r (P new)
+still_ok (Ok x) P old new is holds done = subst P (sym is) holds
+still_ok (Err e) P old new is holds done = done

@@ -7,10 +7,6 @@ use Rattle.sled_disk.specs.declared.disk.DiskError.TheVariants as disk
 use Rattle.sled_files.specs.Files.{Files, IsRefused}
 use Rattle.sled_files.specs.Stored.{Stored}
 
--- no page number or version is left
-abbrev pub used_up : ℕ
-used_up = 3
-
 -- a disk has no room, or the log or its generation would be too large
 abbrev pub disk_full : ℕ
 disk_full = 4
