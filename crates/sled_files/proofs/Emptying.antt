@@ -1,6 +1,6 @@
 -- What a crash leaves of a file that is emptied.
 use Rattle.std.proofs.Common.{◌≡◌, inl, inr, ℕ, ◌≤◌, List, [], ◌∷◌, length, sym, subst}
-use Rattle.std.specs.Prelude.{◌⊎◌, Result, Ok, Err, OnOk}
+use Rattle.std.specs.Prelude.{◌⊎◌}
 use Rattle.sled_disk.specs.Disk.{Only, NoMore, Elapses, LeavesOnly, Torn, Shortened, written}
 use Rattle.sled_log.specs.Log.{closed}
 use Rattle.sled_log.proofs.Moments.{begun, one_more, joined_runs}
@@ -30,8 +30,3 @@ module _ {D : Type 0} (seen : D → List ℕ) (moment : D → ℕ) (left_since :
 pub behind_still : {generation : ℕ} {other c : List ℕ} → IsBlank other ⊎ IsOlder generation other → IsEmptied other c → IsBlank c ⊎ IsOlder generation c
 behind_still {generation} behind (inl same) = subst (λ (l : List ℕ). IsBlank l ⊎ IsOlder generation l) (sym same) behind
 behind_still behind (inr blank) = inl blank
-
--- what held of a file that a call leaves as it is, where the call is done
-pub still_ok : {T E D B : Type 0} (r : Result T E) (P : D → Type 0) (old new : D) → new ≡ old → P old → OnOk r B → OnOk r (P new)
-still_ok (Ok x) P old new is holds done = subst P (sym is) holds
-still_ok (Err e) P old new is holds done = done

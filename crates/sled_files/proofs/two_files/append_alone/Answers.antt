@@ -1,11 +1,12 @@
 use Rattle.std.proofs.Common.{◌+◌, ◌<◌, ◌++◌, ◌∷◌, [], length, sym, subst}
 use Rattle.sled_disk.specs.Disk.{Only, LeavesOnly}
 use Rattle.sled_log.specs.Log.{IsLog}
-use Rattle.sled_log.specs.Append.{IsBlockFor, IsBeforeOrAfter}
+use Rattle.sled_log.specs.Append.{IsBeforeOrAfter}
 use Rattle.sled_files.specs.Files.{picked, KeepsTime}
 use Rattle.sled_files.specs.theory.Begun.{IsEmptied}
 use Rattle.sled_files.proofs.Pairs.{picked_has}
-use Rattle.sled_files.proofs.Emptying.{emptied_not, still_ok}
+use Rattle.sled_log.proofs.Appending.{on_ok}
+use Rattle.sled_files.proofs.Emptying.{emptied_not}
 use Rattle.sled_files.proofs.two_files.append_alone.Goals as goal
 
 pub empty_other-requires : goal.empty_other-requires
@@ -28,12 +29,13 @@ returns-clause-any_moment g c b =
     subst (λ (x : g.row.D.Denot). LeavesOnly disk.moment disk.left_since (picked c.args.is_second c.args.first.now c.args.second.now) x (IsBeforeOrAfter b)) (sym c.empty_other.ensures.one) (c.append_to_one.ensures.any_moment b)
 
 pub returns-clause-durable : goal.returns-clause-durable
-returns-clause-durable g c = still_ok c.empty_other.result (λ (x : g.row.D.Denot). Only (g.D.Disk.seen x) (g.D.Disk.may_leave x)) _ _ c.empty_other.ensures.one c.in_ok-append_to_one.ensures.durable c.empty_other.ensures.short
+returns-clause-durable g c = on_ok c.empty_other.result (λ short. subst (λ (x : g.row.D.Denot). Only (g.D.Disk.seen x) (g.D.Disk.may_leave x)) (sym c.empty_other.ensures.one) c.in_ok-append_to_one.ensures.durable) c.empty_other.ensures.short
 
 pub returns-clause-place : goal.returns-clause-place
-returns-clause-place g c = still_ok c.empty_other.result (λ (x : g.row.D.Denot). c.args.gate + length c.args.block.now < length (g.D.Disk.seen x)) _ _ c.empty_other.ensures.one c.in_ok-append_to_one.ensures.place c.empty_other.ensures.short
+returns-clause-place g c = on_ok c.empty_other.result (λ short. subst (λ (x : g.row.D.Denot). c.args.gate + length c.args.block.now < length (g.D.Disk.seen x)) (sym c.empty_other.ensures.one) c.in_ok-append_to_one.ensures.place) c.empty_other.ensures.short
 
 pub returns-clause-next : goal.returns-clause-next
 returns-clause-next g c =
-    let block = g.D.Disk.seen (picked c.args.is_second c.args.first.now c.args.second.now) in
-    still_ok c.empty_other.result (λ (x : g.row.D.Denot). (b : IsBlockFor block c.args.gate c.args.block.now) → IsLog b.digest (g.D.Disk.seen x) (b.payloads ++ b.payload ∷ []) (c.args.gate + length c.args.block.now)) _ _ c.empty_other.ensures.one c.in_ok-append_to_one.ensures.next c.empty_other.ensures.short
+    on_ok c.empty_other.result
+    (λ short b. subst (λ (x : g.row.D.Denot). IsLog b.digest (g.D.Disk.seen x) (b.payloads ++ b.payload ∷ []) (c.args.gate + length c.args.block.now)) (sym c.empty_other.ensures.one) (c.in_ok-append_to_one.ensures.next b))
+    c.empty_other.ensures.short
