@@ -4,8 +4,8 @@ use Rattle.sled_log.specs.Log.{IsLog}
 use Rattle.sled_log.specs.Append.{IsBeforeOrAfter}
 use Rattle.sled_files.specs.Files.{picked, KeepsTime}
 use Rattle.sled_files.specs.theory.Begun.{IsEmptied}
-use Rattle.sled_files.proofs.Pairs.{picked_has}
 use Rattle.sled_log.proofs.Appending.{on_ok}
+use Rattle.sled_files.proofs.Pairs.{picked_has}
 use Rattle.sled_files.proofs.Emptying.{emptied_not}
 use Rattle.sled_files.proofs.two_files.append_alone.Goals as goal
 
