@@ -1,0 +1,12 @@
+pub mod Moves
+pub use Rattle.sled_nodes.specs as sled_nodes
+pub use Rattle.sled_store.specs as sled_store
+pub use Rattle.sled_model.specs as sled_model
+pub use Rattle.tree_laws.specs as tree_laws
+pub use Rattle.sled_tree.specs as sled_tree
+pub use Rattle.tree_progress.specs as tree_progress
+pub use Rattle.move_laws.specs as move_laws
+pub use Rattle.tree_scans.specs as tree_scans
+pub use Rattle.tree_steps.specs as tree_steps
+pub use Rattle.sled.specs as sled
+pub use Rattle.sled_calls.specs as sled_calls

@@ -1,0 +1,39 @@
+//! Laws: of the steps in a row of a machine one is decided or refused before long.
+//!
+//! A machine's calls in flight share their pages: each repairs what others left half done, and what one changes sends others back to the
+//! root. Here it is said that they do not do so for ever. Of calls on keys no more steps come out as `Moved` in a row than `moves_bound` of
+//! `move_laws` tells, a number of the pages and of the calls in flight, whichever slot each step is of. So of one step more at least one
+//! tells its caller something: a reply or why the call is refused.
+//!
+//! It is said of the calls together: one of them may be overtaken for ever by others that are decided. A scan may be in a slot, but a step of
+//! it is none of those in the row. Nothing is said of the time that a step takes.
+//!
+//! Nothing is done here. The laws are concluded from the public contract of a step of a machine alone (`MachineStepContract` of
+//! `sled_calls`).
+#![tactic(auto)]
+
+ghost use Rattle.machine_laws.specs.Moves.{MachineHalvesLaw, MovesLaw};
+
+use sled_model::MergeOperator;
+use sled_store::Pages;
+
+/// Does nothing. Of each call in flight of a machine that began with none, a split that it has begun has the halves that a split makes
+/// (`HasHalves` of `tree_progress`), whatever steps and calls were made since, scans and whole calls included.
+///
+/// ```
+/// law_machine_halves::<MemPages, Adds>(); // From here on a proof knows it.
+/// ```
+pub fn law_machine_halves<P: Pages, M: MergeOperator>()
+    ensures { MachineHalvesLaw P.store P.flush_number M.meant }
+{}
+
+/// Does nothing. Of a machine that began with no call in flight no more steps of calls on keys come out as `Moved` in a row than
+/// `moves_bound` of `move_laws` tells of the pages and the calls in flight as the row begins. So it is whichever slot each step is of, however
+/// many calls there are, at whatever stages, and whatever was left half done.
+///
+/// ```
+/// law_moves::<MemPages, Adds>(); // From here on a proof knows it.
+/// ```
+pub fn law_moves<P: Pages, M: MergeOperator>()
+    ensures { MovesLaw P.store P.flush_number M.meant }
+{}
