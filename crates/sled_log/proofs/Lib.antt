@@ -1,4 +1,4 @@
 mod LogLemmas
 pub mod Moments
-pub mod Appending
+mod Appending
 pub mod ReadingLemmas
