@@ -1,5 +1,5 @@
 -- The order of byte strings by their fronts.
-use Rattle.std.proofs.Common.{◌≡◌, ℕ, zero, suc, ◌+◌, ◌-◌, ◌*◌, ◌%◌, ◌^◌, ◌<◌, ◌≤◌, [], ◌∷◌, ◌++◌, refl, sym, ap, subst, ◌∙◌, inl, inr, arith, pow-suc, mul_comm, take, drop, length, get_or, replicate, length-drop, append_assoc}
+use Rattle.std.proofs.Common.{Global, ◌≡◌, ℕ, zero, suc, ◌+◌, ◌-◌, ◌*◌, ◌%◌, ◌^◌, ◌<◌, ◌≤◌, [], ◌∷◌, ◌++◌, refl, sym, ap, subst, ◌∙◌, inl, inr, arith, pow-suc, mul_comm, take, drop, length, get_or, replicate, length-drop, append_assoc}
 use Rattle.std.proofs.Math.Nat.{pow-le-pow_right}
 use Rattle.std.proofs.Math.Arith.{mod-mul}
 use Rattle.std.proofs.lemmas.Bool.{cases_order, lt-ltb, le-ltb, ne_eqb}
@@ -12,9 +12,11 @@ use Rattle.std.specs.Cmp.Lexicographic.{slice_cmp, nat_list_cmp_total}
 use Rattle.std.specs.declared.cmp.Ordering.{Ordering}
 use Rattle.std.specs.declared.cmp.Ordering.TheVariants.{Less, Equal, Greater}
 use Rattle.sled_nodes.specs.Order.{Key}
+use Rattle.std.specs.Arc.{arc_value}
+use Rattle.std.specs.declared.sync.Arc.{Arc}
 use Rattle.sled_nodes.specs.Bytes.{padded, IsShort}
 use Rattle.sled_nodes.specs.declared.ivec.Bytes.{Bytes}
-use Rattle.sled_nodes.specs.declared.ivec.Bytes.TheVariants.{Short}
+use Rattle.sled_nodes.specs.declared.ivec.Bytes.TheVariants.{Short, Middle}
 use Rattle.sled_nodes.specs.theory.Fronts.{front, AreBehind}
 
 abbrev pub bytes_cmp : Key → Key → Ordering
@@ -213,6 +215,9 @@ front-in array a k n h e is = is ∙ ap (from_be_bytes w64) (ap (take 8) (sym e)
 
 pub short_padded : (bytes : Bytes) (len : ℕ) (array : Key) → bytes ≡ Short len array → IsShort bytes → padded 22 (take len array) ≡ array
 short_padded bytes len array e h = (subst IsShort e h).1
+
+pub middle_padded : (bytes : Bytes) (len : ℕ) (array : Arc Key Global) → bytes ≡ Middle len array → IsShort bytes → padded 56 (take len (arc_value array)) ≡ arc_value array
+middle_padded bytes len array e h = (subst IsShort e h).1
 
 pub array-long : (array a : Key) (k : ℕ) → 8 ≤ k → padded k a ≡ array → 8 ≤ length array
 array-long array a k h e = let l : k ≡ length array = sym (length-padded k a) ∙ ap length e in omega arith

@@ -3,4 +3,3 @@ pub mod Places
 pub mod Rising
 pub mod Fronts
 pub mod Stripped
-pub mod Block

@@ -11,7 +11,6 @@ ghost use Rattle.sled_nodes.specs.theory.Fronts.{front};
 ghost use Rattle.sled_nodes.specs.Bytes.{padded};
 ghost use Rattle.sled_nodes.specs.declared.error.Error.TheVariants.{NoMemory};
 
-use crate::block::{Block, WHOLE};
 use crate::error::Result;
 use crate::order::{compare, first_eight, front_of};
 use std::alloc::Global;
@@ -24,11 +23,14 @@ use std::sync::Arc;
 // As many bytes lie in place.
 const SHORT: usize = 22;
 
-// Short strings lie in place, with zeros behind them, and clones of a longer one share it: its block, or its list where no block has room.
+// As many bytes lie in one block with their count of owners.
+const MIDDLE: usize = 56;
+
+// Short strings lie in place, and clones of a longer one share it. In an array zeros lie behind the bytes.
 #[derive(Drop)]
 enum Bytes {
     Short(u8, [u8; 22]),
-    Held(Block),
+    Middle(u8, Arc<[u8; 56]>),
     Long(Arc<Vec<u8>>),
 }
 
@@ -75,9 +77,11 @@ impl IVec {
                 bytes: Bytes::Short(bytes.len() as u8, short),
             });
         }
-        if bytes.len() <= WHOLE {
+        if bytes.len() <= MIDDLE {
+            let mut middle = [0; 56];
+            middle[..bytes.len()].copy_from_slice(bytes);
             return Ok(IVec {
-                bytes: Bytes::Held(Block::from_slice(alloc, bytes)?),
+                bytes: Bytes::Middle(bytes.len() as u8, Arc::new(alloc, middle)?),
             });
         }
         Ok(IVec {
@@ -142,8 +146,8 @@ impl IVec {
         ensures err { IfErr result (λ e. e ≡ NoMemory) }
     {
         let len = front.len() + back.len();
-        if len <= WHOLE {
-            let mut room = [0; 96];
+        if len <= MIDDLE {
+            let mut room = [0; 56];
             room[..front.len()].copy_from_slice(front);
             room[front.len()..len].copy_from_slice(back);
             return IVec::from_slice(alloc, &room[..len]);
@@ -183,7 +187,7 @@ impl IVec {
     {
         match &self.bytes {
             Bytes::Short(len, bytes) => &bytes[..*len as usize],
-            Bytes::Held(bytes) => bytes.as_slice(),
+            Bytes::Middle(len, bytes) => &bytes[..*len as usize],
             Bytes::Long(bytes) => bytes.as_slice(),
         }
     }
@@ -196,7 +200,7 @@ impl IVec {
     {
         match &self.bytes {
             Bytes::Short(_, bytes) => first_eight(bytes.as_slice()),
-            Bytes::Held(bytes) => front_of(bytes.as_slice()),
+            Bytes::Middle(_, bytes) => first_eight(bytes.as_slice()),
             Bytes::Long(bytes) => front_of(bytes.as_slice()),
         }
     }
@@ -227,8 +231,8 @@ impl IVec {
             Bytes::Short(len, bytes) => Ok(IVec {
                 bytes: Bytes::Short(*len, *bytes),
             }),
-            Bytes::Held(bytes) => Ok(IVec {
-                bytes: Bytes::Held(bytes.share()?),
+            Bytes::Middle(len, bytes) => Ok(IVec {
+                bytes: Bytes::Middle(*len, Arc::try_clone(bytes)?),
             }),
             Bytes::Long(bytes) => Ok(IVec {
                 bytes: Bytes::Long(Arc::try_clone(bytes)?),

@@ -8,7 +8,6 @@
 
 mod among;
 mod ascending;
-mod block;
 mod bounds;
 mod entries;
 mod error;
