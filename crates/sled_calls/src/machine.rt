@@ -62,9 +62,9 @@ impl<P: Pages, M> Model for Machine<P, M> {
 impl<P: Pages, M: MergeOperator> Machine<P, M> {
     ghost use Rattle.sled_model.specs.State.{maps_of, IsOnKey};
     ghost use Rattle.sled.specs.Sound.{IsDb, MapsAscend};
-    ghost use Rattle.sled_calls.specs.Sound.{AreSlotsGiven};
+    ghost use Rattle.sled_calls.specs.Sound.{AreSlotsGiven, IsMachine};
     ghost use Rattle.sled_calls.specs.Values.{slots_of, job_of_call, job_lent};
-    ghost use Rattle.sled.specs.Values.{db_state};
+    ghost use Rattle.sled.specs.Values.{db_state, snapshot_of_db};
     ghost use Rattle.sled.specs.Operators.{OperatorSet, OperatorNotSet};
     ghost use Rattle.sled.specs.Fetch.{Stands, FetchDecided, FetchRefused};
     ghost use Rattle.sled.specs.Transactions.{CanTransact, TransactionMade, TransactionNotMade, CanTransactAll, ListMade, ListNotMade, trees_of_list};
@@ -120,7 +120,8 @@ impl<P: Pages, M: MergeOperator> Machine<P, M> {
     }
 
     /// What holds of every machine: its database is as it should be, and the pairs of each of its maps rise by key. At most 1024 events
-    /// wait for a subscriber, and no call is in a slot that is yet to be given. It does nothing.
+    /// wait for a subscriber, and no call is in a slot that is yet to be given. What each call in flight knows of the pages is true, and no
+    /// page that is not linked yet is two calls'. It does nothing.
     ///
     /// ```
     /// machine.audit(); // From here on a proof knows that its database is well formed.
@@ -130,6 +131,7 @@ impl<P: Pages, M: MergeOperator> Machine<P, M> {
         ensures ascend { MapsAscend (maps_of (db_state P.store M.meant self.now.db)) }
         ensures queues { AreQueues self.now.db.queues }
         ensures slots { AreSlotsGiven self.now.flights self.now.slots_given }
+        ensures known { IsMachine (snapshot_of_db P.store self.now.db) self.now.flights self.now.slots_given }
     {
         self.db.audit();
     }
