@@ -1,7 +1,7 @@
 use Rattle.std.proofs.Common.{ap, ◌∙◌}
 use Rattle.sled_queues.specs.Values.{Waitings}
 use Rattle.sled_queues.specs.Queues.{next_at, without_next_of}
-use Rattle.single_steps.proofs.queues.commit.Goals as goal
+use Rattle.single_steps.proofs.queues.commit_and_next.Goals as goal
 
 pub returns-clause-is : goal.returns-clause-is
 returns-clause-is c = c.next.ensures.is ∙ ap (λ (q : Waitings). next_at (q c.args.subscriber.now)) c.commit.ensures.held
