@@ -57,8 +57,8 @@ IsOfSlot (step.Whole whole) = ⊥
 IsOfSlot s = Unit {0}
 
 module _ {P M : Type 0} (store : P → Store) (flush_number : P → ℕ) (meant : M → Merge) where
-  -- One call of a database by its owner, as its contract tells it, and what it made. What is refused made nothing, but for the parts that a clear
-  -- and an import did. A read changes nothing, and is none of these
+  -- One call of a database by its owner, as its contract states it, and what it made. What is refused made nothing, but for the parts that
+  -- a clear and an import did. A read changes nothing, and is none of these
   pub data DbCall : DbValue P M → List MadeValue → DbValue P M → Type 0 where
     -- a call on a key; and a fetch, which makes a swap
     DidPoint : {old new : DbValue P M} {tree : Tree} {call : Call} {reply : Reply} → PointDecided store meant old tree call reply new → DbCall old (PointMade tree call reply ∷ []) new
@@ -83,7 +83,7 @@ module _ {P M : Type 0} (store : P → Store) (flush_number : P → ℕ) (meant 
     -- a merge operator of a tree, which changes no map
     SetOperator : {old new : DbValue P M} {tree : Tree} {merge : Merge} → OperatorSet store meant old tree merge new → DbCall old [] new
     OperatorStopped : {old new : DbValue P M} {tree : Tree} {e : Error} → OperatorNotSet store meant old tree e new → DbCall old [] new
-    -- a subscriber; what it was told is told once, and stands as done
+    -- a subscriber; what it got is returned once, and here `Done` is in its place
     Watched : {old new : DbValue P M} {tree : Tree} {prefix : Key} {number : ℕ} → WatchesDb store meant old tree prefix number new → DbCall old (WholeMade (value.Watch tree prefix) (told.Subscriber number) ∷ []) new
     WatchStopped : {old new : DbValue P M} {tree : Tree} {prefix : Key} {e : Error} → RefusesWatch store meant old tree prefix e new → DbCall old [] new
     ToldNext : {old new : DbValue P M} {subscriber : ℕ} {next : Option Next} → TakesFromDb store meant old subscriber next new → DbCall old (WholeMade (value.Next subscriber) told.Done ∷ []) new

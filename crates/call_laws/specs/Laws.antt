@@ -1,4 +1,4 @@
--- What the calls of one owner come to together.
+-- What the calls of one owner do together.
 use Rattle.std.specs.Prelude.{ℕ, Bool, true, false, ◌&&◌, List, [], ◌∷◌, ◌++◌, Result}
 use Rattle.std.specs.List.{zip}
 use Rattle.sled_nodes.specs.declared.error.Error.{Error}
@@ -47,8 +47,8 @@ module _ {P M A E W : Type 0} {store : P → Store} {flush_number : P → ℕ} {
   uncommitted (Abort e) fails = []
   uncommitted (Storage e) fails = made_before_stop fails.is
 
--- Whatever machine has the database, a transaction of a tree is calls of its owner. Where it was committed it made the group of what it wrote, with
--- the flush that it asked for; if that flush was refused, the group alone; and else nothing
+-- Whatever machine has the database, a transaction of a tree is calls of its owner. If it was committed it made the group of what it wrote,
+-- with the flush that it asked for; if that flush was refused, the group alone; and else nothing
 pub record TransactionLaw {P M F R A E : Type 0} (store : P → Store) (flush_number : P → ℕ) (meant : M → Merge) (says : Closure F (TransactionalTree P) R) (result_of : R → Answer A E) : Type 0 where
   pub made : (m : MachineValue P M) (new : DbValue P M) (f : F) (tree : Tree) (answer : A) → (t : TransactionMade store flush_number meant says result_of f m.db tree answer new)
       → (number : ℕ) × MakesCalls store flush_number meant m (committed ((tree, t.commit.writes) ∷ []) t.commit.flushes number) (record m { db = new })

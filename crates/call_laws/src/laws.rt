@@ -49,9 +49,9 @@ pub fn law_joined<P: Pages, M: MergeOperator>()
     ensures { JoinedLaw P.store P.flush_number M.meant }
 {}
 
-/// Does nothing. A transaction of a tree is calls of the owner: what its closure took of ids, the group of what it wrote, and the flush that it
-/// asked for. One that was given up or refused made nothing. But if its group was made and only the flush behind it was refused, it made that
-/// group of what its closure wrote.
+/// Does nothing. A transaction of a tree is calls of the owner: what its closure took of ids, the group of what it wrote, and the flush
+/// that it asked for. One that was aborted or refused made nothing. But if its group was made and only the flush behind it was refused, it
+/// made that group of what its closure wrote.
 ///
 /// ```
 /// let put = |weather: &mut TransactionalTree<'_, MemPages>| -> ConflictableTransactionResult<(), ()> {

@@ -9,8 +9,8 @@ use std::alloc::Global;
 // What a change answers that may find another version or root there.
 type Changed<T, F> = Result<std::result::Result<T, Option<F>>>;
 
-/// Pages of somebody else, lent to be read. Each change of them is refused, with `NoMemory`, which of the refusals of a store is the one that
-/// counts no fault.
+/// Pages that another value owns, lent to be read. Each change of them is refused, with `NoMemory`, which of the refusals of a store is the
+/// one that counts no fault.
 #[derive(Drop)]
 pub struct Lent<'a, P: Pages + Sync> {
     pages: &'a P,

@@ -15,7 +15,7 @@ use tree_transactions::{
 };
 
 /// Runs a closure as a transaction of the tree with this root, over pages that are lent, up to what is to be made of it. The ids that it
-/// may take lie above the one that is handed in and up to the mark of the pages.
+/// may take are above the one that is handed in and up to the mark of the pages.
 ///
 /// ```
 /// let mut greatest = db.pages().mark(); // It takes no ids.

@@ -87,16 +87,16 @@ AtOwnSteps slot is (OneBeside change rest) = AtOwnSteps slot is rest
 -- What a scan in this slot, of these bounds in the tree, gives over a run that follows its begin. Each beginning of such a run is one
 -- too, so that what is said of the next step is said of each
 pub record IsScanned (slot : ℕ) (tree : Tree) (bounds : Range) {a b : Configuration} {steps : List Step} {outcomes : List Outcome} (run : RunsBeside a steps outcomes b) : Type 0 where
-  -- the keys that it gives strictly rise or, backwards, fall; and they lie within the bounds
+  -- the keys that it gives strictly rise or, backwards, fall; and they are within the bounds
   pub ordered : InOrder bounds.back (yielded slot steps outcomes)
   pub within : (e : Key × Key) → In e (yielded slot steps outcomes) → is_in_range bounds e.0 ≡ true
   -- the pair that the next step gives was in the tree's map at some moment since the begin
   pub seen : (key value : Key) (c : Configuration) (added : List Maps) → Transition b (step.Step slot) (Yielded key value) c added → AtSomeMoment (HasPair tree (key, value)) run
-  -- where the next step ends it, it has given each key within the bounds that was in the tree's map at each of its steps
+  -- if the next step ends it, it has given each key within the bounds that was in the tree's map at each of its steps
   pub complete : (reply : Reply) (c : Configuration) (added : List Maps) → Transition b (step.Step slot) (Decided reply) c added
       → (key : Key) → is_in_range bounds key ≡ true → AtOwnSteps slot (HasKey tree key) run → (value : Key) × In (key, value) (yielded slot steps outcomes)
 
--- Every scan gives so over every run, whatever changes there are beside it, where maps ascend as it begins
+-- Every scan gives so over every run, whatever changes there are beside it, if maps ascend as it begins
 abbrev pub ScanLaw : Type 0
 ScanLaw = (a b c : Configuration) (tree : Tree) (lo hi : Bound Key) (back : Bool) (slot : ℕ) (none : List Maps) (steps : List Step) (outcomes : List Outcome)
     → Ascend a.state → Transition a (step.Begin tree (Scan lo hi back)) (Begun slot) b none → (run : RunsBeside b steps outcomes c)

@@ -13,7 +13,7 @@
 ghost use Rattle.scan_laws.specs.Scanned.{ScanLaw, ScanLawAlone};
 
 /// Does nothing. Over every run of the model that follows its begin, whatever changes there are beside it, a scan gives pairs whose keys
-/// lie within its bounds and strictly rise or, backwards, fall. Each of them was in the map of its tree at some moment since the begin.
+/// are within its bounds and strictly rise or, backwards, fall. Each of them was in the map of its tree at some moment since the begin.
 /// When the scan ends, it has given each key within its bounds that was in the map at each of its steps.
 ///
 /// ```

@@ -19,7 +19,7 @@ refuses_handle_as s NoMemory = (now s).in_group ≡ false
 refuses_handle_as s Closed = (now s).in_group ≡ true
 refuses_handle_as s e = ⊥
 
--- refused where the database is closed, and else for want of memory alone
+-- refused if the database is closed, and else for want of memory alone
 pub record RefusesHandle (s : Store) (e : Error) : Type 0 where
   pub is : refuses_handle_as s e
 
@@ -27,6 +27,6 @@ abbrev pub must_be_refused_as : Option MustRefuse → Error → Type 0
 must_be_refused_as None e = ⊥
 must_be_refused_as (Some must) e = tells must e
 
--- the call must be refused, and the error tells why
+-- the call must be refused, and the error says why
 pub record MustBeRefused (must : Option MustRefuse) (e : Error) : Type 0 where
   pub is : must_be_refused_as must e

@@ -9,7 +9,7 @@ use Rattle.tree_check.specs.Check.{RefusesCheck}
 use Rattle.sled.specs.Opens.{RefusesOpen}
 use Rattle.sled.specs.declared.open.TheConstants.{GROUP_IS_OPEN}
 
--- the pages are well formed, and no group stands open
+-- the pages are well formed, and no group is open
 pub record IsFit (s : State) : Type 0 where
   pub well : IsValid s
   pub no_group : s.in_group ≡ false
@@ -18,7 +18,7 @@ abbrev pub refuses_fit_as : Bool → Store → Error → Type 0
 refuses_fit_as true s e = e ≡ Corruption GROUP_IS_OPEN
 refuses_fit_as false s e = RefusesCheck s e
 
--- a group stands open, which is told by a code of its own; or else the check of the pages is refused
+-- a group is open, which has an error code of its own; or else the check of the pages is refused
 pub record RefusesFit (s : Store) (e : Error) : Type 0 where
   pub is : refuses_fit_as (now s).in_group s e
 

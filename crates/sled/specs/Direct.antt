@@ -50,7 +50,7 @@ abbrev pub effects_until : Option Error → Store → Store → Type 0
 effects_until None old new = ActsOften old new
 effects_until (Some e) old new = (last : Store) × ActsOften old last × IsStepRefused e last new
 
--- each page that stood in a tree stands there still, or is merging, or was freed; but for those of the tree that is lost, if one is
+-- each page that was in a tree is still there, or is merging, or was freed; but for those of the tree that is lost, if one is
 pub record StaysInChainOrWent (lost : Option Key) (old : Snapshot) (w : Forest) (new : Snapshot) (v : Forest) : Type 0 where
   pub is : (x : Place) (p : ℕ) → lost ≢ Some x.tree → In p (w.chain x) → In p (v.chain x) ⊎ (((n : Node) × (nodes_at new p ≡ Some n) × (n.merging ≡ true)) ⊎ (nodes_at new p ≡ None))
   pub last : PagesLast old new
@@ -78,15 +78,15 @@ abbrev pub is_left_open : Error → Store → Store → Type 0
 is_left_open e old new = (last : Store) × ActsInside old last × IsStepRefused e last new × ((now new).in_group ≡ true)
 
 -- What a group does to the store: nothing, or it is begun, its writes do changing actions, one after the other, and it is sealed. One
--- that is refused does nothing where it is refused before its begin, and is left open where it is refused after that
+-- that is refused does nothing if it is refused before its begin, and is left open if it is refused after that
 abbrev pub effect_of_group : Option Error → Store → Store → Type 0
 effect_of_group None old new = (new ≡ old) ⊎ ((last : Store) × ActsInside old last × (new ≡ after_action GroupEnds last))
 effect_of_group (Some e) old new = IsStepRefused e old new ⊎ is_left_open e old new
 
--- What a whole call does to the store: a flush makes all durable, and a call that tells something does nothing, but that it may raise
--- the mark; where one of these is refused, nothing but a fault is counted. One that drops a tree does changing actions, and faults may
--- be counted between them, since a refusal after the root went is not told; where it is refused it does no action. One that learns of
--- changes does nothing. Any other does changing actions, one after the other, and after the last of them nothing; where it is refused
+-- What a whole call does to the store: a flush makes all durable, and a call that only returns something does nothing, but that it may
+-- raise the mark. If one of these is refused, nothing but a fault is counted. One that drops a tree does changing actions, and faults
+-- may be counted between them, since a refusal after the root went is not returned; if it is refused it does no action. One that learns
+-- of changes does nothing. Any other does changing actions, one after the other, and after the last of them nothing; if it is refused
 -- then at most a fault is counted
 abbrev pub effect_of_whole : Kind → Outcome → Store → Store → Type 0
 effect_of_whole Flushing (outcome.Decided reply) old new = new ≡ after_flush old
@@ -168,8 +168,8 @@ module _ {P M : Type 0} (store : P → Store) (meant : M → Merge) where
   pub record StopsAtFirst (old : DbValue P M) (tree : Tree) (call : Call) (e : Error) : Type 0 where
     pub why : (must_refuse (db_state store meant old) (ToPoint tree call) ≢ None) ⊎ (e ≡ NoMemory)
 
-  -- .. or it was refused: before its first step, or at one of them. It is told that its turns were used up only where there was something to
-  -- repair on the way to its key, or where the way has so many levels
+  -- .. or it was refused: before its first step, or at one of them. It is refused for its turns only if there was something to repair on
+  -- the way to its key, or if the way has so many levels
   pub record PointRefused (old : DbValue P M) (tree : Tree) (call : Call) (e : Error) (new : DbValue P M) : Type 0 where
     pub refuses : RefusesPoint (db_state store meant old) (store old.pages) (store new.pages) tree call e (db_state store meant new)
     pub conducts : Conducts store [] (Some e) old new

@@ -24,9 +24,9 @@ use Rattle.sled.specs.Sound.{IsDb}
 use Rattle.sled.specs.Flights.{IsStepRefused, KeepsTreePages}
 use Rattle.sled.specs.Direct.{LeavesAll}
 
--- The root of the name goes, which decides, and then pages do that stood in the chains of the tree, each once: level by level from the
--- leaves up, and of each level a beginning of its chain. Faults may be counted, and nothing else of the store changes. Where a
--- level ends early is not said, since a refusal there is not told
+-- The root of the name goes, which decides, and then pages do that were in the chains of the tree, each once: level by level from the
+-- leaves up, and of each level a beginning of its chain. Faults may be counted, and nothing else of the store changes. If a
+-- level ends early is not said, since a refusal there is not returned
 pub record RemovesTree (name : Key) (m : Snapshot) (old new : Store) : Type 0 where
   pub levels : List (List ℕ)
   pub begins : (w : Forest) → HasForest m w → (h : ℕ) → IsBeginning (get_or levels h []) (w.chain (place name h))

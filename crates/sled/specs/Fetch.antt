@@ -1,4 +1,4 @@
--- Calls that make the new value at a key of the one that stands there, by a closure.
+-- Calls that make the new value at a key from the one that is there, by a closure.
 use Rattle.std.specs.Prelude.{◌≡◌, ◌⊎◌, ℕ, [], Option, Some, Result, Ok, Err}
 use Rattle.std.specs.Option.{option_map, option_copied}
 use Rattle.std.specs.Fn.{Mut, Called}
@@ -24,7 +24,7 @@ use denote.Ref.{Bor}
 abbrev pub Answer : Type 0
 Answer = Result (Option (Vec ℕ Global)) AllocError
 
--- what is said of the calls of such a closure: it is shown the value that stands, or that there is none
+-- what is said of the calls of such a closure: it is shown the value that is there, or that there is none
 abbrev pub Closure : Type 0 → Type 1
 Closure F = Mut F (Option (Bor Key) × Unit {0}) Answer
 
@@ -35,20 +35,20 @@ pub record Answers {F : Type 0} (closure : Closure F) (f : F) (stood : Option Ke
   pub after : F
   pub called : Called closure f (shown, tt) answer after
 
--- the tests pass, and this value stands at the key of the tree, or none
+-- the tests pass, and this value is at the key of the tree, or none
 abbrev pub Stands : {P M : Type 0} → (P → Store) → (M → Merge) → DbValue P M → Tree → Key → Option Key → Type 0
 Stands store meant old tree key stood = ReadsMap store meant old tree (λ map. stood ≡ find key_cmp key map)
 
 module _ {P M F : Type 0} (store : P → Store) (meant : M → Merge) (closure : Closure F) (f : F) (old : DbValue P M) (tree : Tree) (key : Key) where
-  -- one value stands at the key, and the closure made the other of it
+  -- one value is at the key, and the closure made the other from it
   pub record Makes (stood made : Option Key) : Type 0 where
     pub stands : Stands store meant old tree key stood
     pub answer : Option (Vec ℕ Global)
     pub answers : Answers closure f stood (Ok answer)
     pub is : made ≡ option_map (λ v. v.items) answer
 
-  -- The closure made a value of the one that stands, and the one was swapped for the other by the steps of that swap, which is always
-  -- written: nothing lay between, so it found the value that it expected
+  -- The closure made a value from the one that is there, and the one was swapped for the other by the steps of that swap, which is always
+  -- written. Nothing was between the two, so it found the value that it expected
   pub record FetchDecided (stood made : Option Key) (new : DbValue P M) : Type 0 where
     pub makes : Makes stood made
     pub swaps : PointDecided store meant old tree (CompareAndSwap key stood made) (Swapped (Ok tt)) new
@@ -68,7 +68,7 @@ module _ {P M F : Type 0} (store : P → Store) (meant : M → Merge) (closure :
     pub told : e ≡ NoMemory
     pub is : new ≡ old
 
-  -- the swap of what stands for what the closure made of it was refused
+  -- the swap of what is there for what the closure made from it was refused
   pub record FetchUnswapped (e : Error) (new : DbValue P M) : Type 0 where
     pub stood : Option Key
     pub made : Option Key

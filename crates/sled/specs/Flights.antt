@@ -50,7 +50,7 @@ slot_after (Yielded key value) g = Some (call_in_flight_of g)
 slot_after (Decided reply) g = None
 slot_after (Refused e) g = None
 
--- what a step comes to, as what its page action came to
+-- the outcome of a step, as the outcome of its page action
 abbrev pub sequel_of : Went → InFlight → Sequel
 sequel_of Moved g = sequel.Go g.stage
 sequel_of (Yielded key value) g = sequel.Go g.stage
@@ -70,7 +70,7 @@ pub record BringsEvent {P M : Type 0} (store : P → Store) (meant : M → Merge
   pub there : (db_state store meant old).trees f.job.tree.name ≡ Some tree
   pub is : (answer_of tree.merge f.job.call tree.map).event ≡ event
 
--- each page that stood in a tree stands there still, or is merging; but for those of the tree that is lost, if one is
+-- each page that was in a tree is still there, or is merging; but for those of the tree that is lost, if one is
 pub record StaysInChain (lost : Option Tree) (old : Snapshot) (w : Forest) (new : Snapshot) (v : Forest) : Type 0 where
   pub is : (x : Place) (p : ℕ) → lost ≢ Some x.tree → In p (w.chain x) → In p (v.chain x) ⊎ ((n : Node) × (nodes_at new p ≡ Some n) × (n.merging ≡ true))
   pub last : PagesLast old new
@@ -79,19 +79,19 @@ pub record StaysInChain (lost : Option Tree) (old : Snapshot) (w : Forest) (new 
 abbrev pub KeepsTreePages : Option Tree → Snapshot → Snapshot → Type 0
 KeepsTreePages lost old new = (w v : Forest) → HasForest old w → HasForest new v → StaysInChain lost old w new v
 
--- a refusal changes nothing; but `Io` counts a fault, or tells that some page is not readable
+-- a refusal changes nothing; but `Io` counts a fault, or says that some page is not readable
 abbrev pub IsStepRefused : Error → Store → Store → Type 0
 IsStepRefused (Io fault) old new = only_faults (Io fault) old new ⊎ ((new ≡ old) × HasUnreadable old)
 IsStepRefused e old new = only_faults e old new
 
--- what a step does to the store: at most one changing action, and none where a pair is given or the call is refused
+-- what a step does to the store: at most one changing action, and none if a pair is given or the call is refused
 abbrev pub effect_of_step : Went → Store → Store → Type 0
 effect_of_step Moved old new = ActsAtMostOnce old new
 effect_of_step (Yielded key value) old new = new ≡ old
 effect_of_step (Decided reply) old new = ActsAtMostOnce old new
 effect_of_step (Refused e) old new = IsStepRefused e old new
 
--- a step fills the queues where it decides the call, and else leaves them as they are. It gives no subscriber a number
+-- a step fills the queues if it decides the call, and else leaves them as they are. It gives no subscriber a number
 abbrev pub keeps_queues : Went → QueuesValue → QueuesValue → Type 0
 keeps_queues (Decided reply) old new = new.given ≡ old.given
 keeps_queues other old new = Becomes (queue_at old) old.given new
@@ -109,8 +109,7 @@ pub record DbStep {P M : Type 0} (store : P → Store) (meant : M → Merge) (ol
 pub record DbSound {P M : Type 0} (store : P → Store) (old new : DbValue P M) : Type 0 where
   pub keeps : IsDb store old → IsDb store new
 
--- At most one changing action is done: none where the call is refused or was decided without an event, and one where it was decided
--- with one
+-- At most one changing action is done: none if the call is refused or was decided without an event, and one if it was decided with one
 pub record DbActs {P M : Type 0} (store : P → Store) (meant : M → Merge) (old : DbValue P M) (f : InFlight) (went : Went) (new : DbValue P M) : Type 0 where
   pub does : effect_of_step went (store old.pages) (store new.pages)
   pub quiet : BringsEvent store meant old f went None → store new.pages ≡ store old.pages
@@ -121,7 +120,7 @@ abbrev pub follows_as : Option Range → Store → InFlight → Went → Store �
 follows_as None old f went new g = FollowsOn old f went new g
 follows_as (Some range) old f went new g = ScanStep FollowsOn old f went new g
 
--- where the tests pass and a turn is left, the step does what the call's stage is to do, and leads where that leads
+-- if the tests pass and a turn is left, the step does what the call's stage is to do, and leads where that leads
 abbrev pub DbFollows : {P M : Type 0} → (P → Store) → (M → Merge) → DbValue P M → InFlight → Went → DbValue P M → InFlight → Type 0
 DbFollows store meant old f went new g = must_refuse (db_state store meant old) (ToStep (call_in_flight_of f)) ≡ None → f.turns < turns_limit → follows_as (range_of f.job.call) (store old.pages) f went (store new.pages) g
 

@@ -1,4 +1,4 @@
--- What a group of writes comes to.
+-- The outcome of a group of writes.
 use Rattle.std.specs.Prelude.{◌≡◌, ◌≢◌, ◌⊎◌, ℕ, List, [], Option, Some, None}
 use Rattle.sled_nodes.specs.declared.error.Error.{Error}
 use Rattle.sled_batch.specs.Batch.{Writes}
@@ -41,7 +41,7 @@ module _ {P M : Type 0} (store : P → Store) (meant : M → Merge) (old : DbVal
     pub same : new ≡ record old { pages = new.pages; queues = new.queues }
     -- by a test, and then it did nothing
     pub tested : must_refuse_of (db_state store meant old) (trees_of_batches batches) ≢ None → new ≡ old
-    -- it closes the database only where the store began it, and leaves it open there; before that it changes nothing
+    -- it closes the database only if the store began it, and leaves it open there; before that it changes nothing
     pub begun : is_as_it_was new ⊎ is_left_open e (store old.pages) (store new.pages)
 
   -- a group that brings no event does no changing action, and counts no fault

@@ -1,4 +1,4 @@
--- What an import of collections comes to, and by which steps.
+-- The outcome of an import of collections, and its steps.
 use Rattle.std.specs.Prelude.{◌≡◌, ◌≢◌, ◌⊎◌, ℕ, List, [], ◌∷◌, Option, Some, None}
 use Rattle.sled_nodes.specs.Order.{Key}
 use Rattle.sled_store.specs.Store.{Store}
@@ -52,7 +52,7 @@ module _ {P M : Type 0} (store : P → Store) (meant : M → Merge) where
   part_refused_by_steps_as old (OpensName name) e new = OpenRefusedBySteps store name old e new
   part_refused_by_steps_as old (Puts name key value) e new = (overwrites_as (db_state store meant old) name key e × (new ≡ old)) ⊎ (PairUnread old name key e new ⊎ PairUnput old name key value e new)
 
-  -- .. or it was refused: at one of these steps, or a pair also before them, where its key was looked for or is present
+  -- .. or it was refused: at one of these steps, or, of a pair, also before them: as its key was looked for, or since it is present
   pub record PartRefusedBySteps (old : DbValue P M) (part : Part) (e : Error) (new : DbValue P M) : Type 0 where
     pub is : part_refused_by_steps_as old part e new
 

@@ -4,7 +4,7 @@ use Rattle.sled_store.specs.In.{In}
 use Rattle.sled_nodes.specs.Order.{Key, Below}
 use Rattle.sled_model.specs.State.{State, NamedTree}
 
--- each key is below all that come after it
+-- each key is below all that follow it
 abbrev pub Ascend : List Key → Type 0
 Ascend [] = Unit {0}
 Ascend (key ∷ later) = ((other : Key) → In other later → Below key other) × Ascend later

@@ -23,14 +23,14 @@ abbrev pub or_empty : Option Map → Option Map
 or_empty None = Some []
 or_empty (Some m) = Some m
 
--- these maps, and an empty tree of this name where there is none
+-- these maps, and an empty tree of this name if there is none
 abbrev pub with_tree : Key → Maps → Maps
 with_tree name maps t = if bytes_eq t name then or_empty (maps t) else maps t
 
 abbrev pub with_default : Maps → Maps
 with_default = with_tree default_name
 
--- the maps that are added: none where there is a tree of this name, and else those with the empty one
+-- the maps that are added: none if there is a tree of this name, and else those with the empty one
 abbrev pub planted : Key → Maps → List Maps
 planted name maps = if is_some (maps name) then [] else (with_tree name maps ∷ [])
 
@@ -62,7 +62,7 @@ abbrev pub numbered : ℕ → List Key → List (Key × ℕ)
 numbered n [] = []
 numbered n (name ∷ names) = (name, n + 1) ∷ numbered (n + 1) names
 
--- where there was no tree of this name an empty one was made, by two actions; and else no action was done
+-- if there was no tree of this name an empty one was made, by two actions; and else no action was done
 pub record GrowsByTree (name : Key) (old new : Store) : Type 0 where
   pub extends : AddsCrashStates (planted name (trees_of (now old))) old new
   pub actions : new.actions ≡ old.actions + 2 * length (planted name (trees_of (now old)))
@@ -98,7 +98,7 @@ IsOnePage s name = (page : ℕ) × ((key : Key) → IsClean s name (Included key
 
 -- The database of this name over the store
 pub record Opens {P M : Type 0} (store : P → Store) (before : Store) (called : Key) (d : DbValue P M) : Type 0 where
-  -- the default tree is made where there is none, and then all is flushed
+  -- the default tree is made if there is none, and then all is flushed
   pub middle : Store
   pub grows : GrowsByTree default_name before middle
   pub flushes : Flushes middle (store d.pages)
@@ -114,7 +114,7 @@ pub record Opens {P M : Type 0} (store : P → Store) (before : Store) (called :
   pub ascends : is_sorted key_cmp d.trees ≡ true
   pub each : (t : Key) → is_some (numbers_of d.trees t) ≡ is_some (trees_of (now (store d.pages)) t)
   pub given : d.trees_given ≡ length d.trees
-  -- the ids up to the mark count as given, no tree has an operator, nobody has subscribed, no group is open, and no fault was met
+  -- the ids up to the mark count as given, no tree has an operator, there is no subscriber, no group is open, and no fault was met
   pub ids : d.greatest_id ≡ before.mark
   pub operators : d.operators ≡ []
   pub queues : Becomes no_queues 0 d.queues

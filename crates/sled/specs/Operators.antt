@@ -9,7 +9,7 @@ use Rattle.sled_model.specs.Whole.{SetsOperator}
 use Rattle.sled_model.specs.declared.tree.Tree.{Tree}
 use Rattle.sled.specs.Values.{DbValue, state_of, db_state}
 
--- the database with no operator, where they may be of another type
+-- the database with no operator; its operators may be of another type then
 abbrev pub without_operators : {P M N : Type 0} → DbValue P M → DbValue P N
 without_operators d = record {
   pages = d.pages;

@@ -12,11 +12,11 @@ use Rattle.sled_model.specs.declared.tree.Tree.{Tree}
 use Rattle.sled.specs.Values.{DbValue, state_of}
 use Rattle.sled.specs.Imports.{ImportStops, ImportRefused}
 
--- the greatest number of parts that is told: it stands for as many or more
+-- the greatest number of parts that is returned: it means as many or more
 abbrev pub most_parts : ℕ
 most_parts = 18446744073709551615
 
--- how a number of parts is told
+-- how a number of parts is returned
 abbrev pub told_parts : ℕ → ℕ
 told_parts parts = min parts most_parts
 
@@ -32,7 +32,7 @@ module _ {P M : Type 0} (store : P → Store) (meant : M → Merge) where
     pub maps : List Maps
     pub removes : (slots : ℕ → Option CallInFlight) (slots_given : ℕ) → RemovesLeast tree (state_of store meant old slots slots_given) parts (state_of store meant new slots slots_given) maps
 
-  -- the number of parts that were done before the one at which an import stopped; none where it was refused before its first
+  -- the number of parts that were done before the one at which an import stopped; none if it was refused before its first
   abbrev pub parts_before : {A : Type 0} {old new : DbValue P M} {all : List Content} {e : Error} {maps : List Maps} → A ⊎ ImportStops store meant old all e new maps → ℕ
   parts_before (inl at_once) = 0
   parts_before (inr stops) = length stops.stop.done

@@ -1,4 +1,4 @@
--- What taking the pair at an end of a tree comes to, step by step, and when it is given up.
+-- The outcome of taking the pair at an end of a tree, step by step, and when it is refused for its turns.
 use Rattle.std.specs.Prelude.{◌≡◌, ℕ, ◌≤◌, ◌⊎◌, List, length, Option, Some, None}
 use Rattle.std.specs.declared.ops.Bound.TheVariants.{Included}
 use Rattle.sled_nodes.specs.Order.{Key}
@@ -29,7 +29,7 @@ module _ {P M : Type 0} (store : P → Store) (meant : M → Merge) (old : DbVal
   pub record RefusesToTake (pair : Key × Key) (e : Error) (new : DbValue P M) : Type 0 where
     pub is : PointRefused store meant old tree (Remove pair.0) e new ⊎ ((e ≡ NoMemory) × (new ≡ old))
 
-  -- the pair stands at this end of the tree's map
+  -- the pair is at this end of the tree's map
   pub record IsAtEnd (is_end : Map → Option (Key × Key) → Type 0) (pair : Key × Key) : Type 0 where
     pub named : NamedTree
     pub there : (db_state store meant old).trees tree.name ≡ Some named
@@ -52,7 +52,7 @@ module _ {P M : Type 0} (store : P → Store) (meant : M → Merge) (old : DbVal
     pub ends : is_end named.map (Some pair)
     pub long : (path : List ℕ) → IsClean (now (store old.pages)) tree.name (Included pair.0) path → turns_limit ≤ length path
 
-  -- A pop is refused for its turns only in three cases. The tree has so many pages that this function of their number comes to the limit of
+  -- A pop is refused for its turns only in three cases. The tree has so many pages that this function of their number reaches the limit of
   -- a read, or there was something to repair on the way to the key, or the way has so many levels
   pub record GivesUpPop (is_end : Map → Option (Key × Key) → Type 0) (of : ℕ → ℕ) (e : Error) : Type 0 where
     pub is : TellsTurns e → (MOST_PAGES ≤ of (tree_pages (now (store old.pages)) tree.name)) ⊎ IsLongWay is_end
@@ -63,7 +63,7 @@ pub data ClearsBySteps {P M : Type 0} (store : P → Store) (meant : M → Merge
   ClearsMore : {old mid new : DbValue P M} {pair : Key × Key} {reply : Reply}
       → ClearsBySteps store meant tree old mid → IsAtEnd store meant mid tree IsLeast pair → PointDecided store meant mid tree (Remove pair.0) reply new → ClearsBySteps store meant tree old new
 
--- A clear removed some so, and the next removal was refused; because turns were used up only where a pop there may be told so
+-- A clear removed some so, and the next removal was refused; because turns were used up only if a pop there may be refused for that
 pub record ClearRefusedBySteps {P M : Type 0} (store : P → Store) (meant : M → Merge) (old : DbValue P M) (tree : Tree) (e : Error) (new : DbValue P M) : Type 0 where
   pub mid : DbValue P M
   pub clears : ClearsBySteps store meant tree old mid

@@ -34,8 +34,8 @@ module _ {P M : Type 0} (store : P → Store) (meant : M → Merge) (d : DbValue
     pub all : ReadsMap (λ map. pairs.pairs ≡ pairs_within lo hi map)
     pub ended : pairs.ended ≡ is_reversed lo hi
 
-  -- The iterator begins with the pairs of the tree's map from a prefix on and below what it is raised to, over the pages as they are.
-  -- Where the keys of these are byte strings, as all keys are that it can give, they are the pairs whose keys begin with the prefix
+  -- The iterator begins with the pairs of the tree's map from a prefix on and below what it is raised to, over the pages as they are. If
+  -- the keys of these are byte strings, as all keys are that it can give, they are the pairs whose keys begin with the prefix
   pub record BeginsWith (prefix : Key) (pairs : Coming P) : Type 0 where
     pub over : pairs.pages ≡ d.pages
     pub root : (now (store d.pages)).roots tree.name ≡ Some pairs.root
@@ -44,7 +44,7 @@ module _ {P M : Type 0} (store : P → Store) (meant : M → Merge) (d : DbValue
     pub ended : pairs.ended ≡ false
 
   -- want of memory, a page that is not readable, or as many pages looked at as may be: the tree has so many that this function of
-  -- their number comes to the limit
+  -- their number reaches the limit
   abbrev pub stops_reading : (ℕ → ℕ) → Error → Type 0
   stops_reading of (ReportableBug text) = (text.now ≡ WALK_PASSED_TURNS.now) × (MOST_PAGES ≤ of (tree_pages (now (store d.pages)) tree.name))
   stops_reading of e = refuses_read_as (store d.pages) e
@@ -53,7 +53,7 @@ module _ {P M : Type 0} (store : P → Store) (meant : M → Merge) (d : DbValue
   refuses_reading_as of (Some must) e = tells must e
   refuses_reading_as of None e = stops_reading of e
 
-  -- refused by the first of the tests that fails, or where none fails for one of these causes
+  -- refused by the first of the tests that fails, or if none fails for one of these causes
   pub record RefusesReading (of : ℕ → ℕ) (e : Error) : Type 0 where
     pub is : refuses_reading_as of (must_refuse_of (db_state store meant d) (tree ∷ [])) e
 
@@ -61,7 +61,7 @@ module _ {P M : Type 0} (store : P → Store) (meant : M → Merge) (d : DbValue
   refuses_range_as (Some must) e = tells must e
   refuses_range_as None e = e ≡ NoMemory
 
-  -- refused by the first of the tests that fails, or where none fails for want of memory
+  -- refused by the first of the tests that fails, or if none fails for want of memory
   pub record RefusesRange (e : Error) : Type 0 where
     pub is : refuses_range_as (must_refuse_of (db_state store meant d) (tree ∷ [])) e
 
@@ -69,6 +69,6 @@ module _ {P M : Type 0} (store : P → Store) (meant : M → Merge) (d : DbValue
   gives_up_get_as key (ReportableBug text) = (path : List ℕ) → IsClean (now (store d.pages)) tree.name (Included key) path → MOST_PAGES < length path
   gives_up_get_as key e = Unit {0}
 
-  -- over a clean path to the key a read is given up only where the path has more pages than may be looked at
+  -- over a clean path to the key a read is refused for its pages only if the path has more pages than may be looked at
   pub record GivesUpGet (key : Key) (e : Error) : Type 0 where
     pub is : gives_up_get_as key e

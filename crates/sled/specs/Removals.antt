@@ -1,4 +1,4 @@
--- What the removal of all keys within two bounds comes to.
+-- The outcome of the removal of all keys within two bounds.
 use Rattle.std.specs.Prelude.{◌≡◌, ℕ, List, [], ◌∷◌, length, map, Option, Some, None}
 use Rattle.std.specs.declared.ops.Bound.{Bound}
 use Rattle.sled_nodes.specs.Order.{Key}
@@ -15,7 +15,7 @@ use Rattle.sled.specs.Groups.{GroupDecided}
 abbrev pub removals : Map → Writes
 removals pairs = map (λ e. (e.0, None)) pairs
 
--- the removals of the keys of a tree within two bounds; none where there is no tree
+-- the removals of the keys of a tree within two bounds; none if there is no tree
 abbrev pub removals_within : Bound Key → Bound Key → Option NamedTree → Writes
 removals_within lo hi None = []
 removals_within lo hi (Some t) = removals (pairs_within lo hi t.map)

@@ -1,4 +1,4 @@
--- What a transaction comes to: a closure is run on trees, and then what it wrote is made as a group.
+-- The outcome of a transaction: a closure is run on trees, and then what it wrote is made as a group.
 use Rattle.std.specs.Prelude.{◌≡◌, ℕ, ◌≤◌, true, false, Bool, ◌&&◌, List, [], ◌∷◌, map, Option, Some, None, Result, Ok, Err, slice_get}
 use Rattle.std.specs.List.{zip}
 use Rattle.std.specs.Option.{unwrap_or}
@@ -44,20 +44,20 @@ pub record TakesIds {P M : Type 0} (store : P → Store) (meant : M → Merge) (
   pub leaves : LeavesAll store [] None old new
   pub left : crash_states (store new.pages) ≡ crash_states (store old.pages)
 
--- a flush where one is asked for
+-- a flush if one is asked for
 abbrev pub flushes_as : {P M : Type 0} → (P → Store) → (P → ℕ) → (M → Merge) → Bool → DbValue P M → DbValue P M → Type 0
 flushes_as store flush_number meant false old new = new ≡ old
 flushes_as store flush_number meant true old new = (number : ℕ) × FlushesDb store flush_number meant old number new
 
--- How a transaction ends. Of it are told the tests that come before it, to what end the closure was run, and which batches are made of what
--- it wrote. And whether there are any trees: without trees a flush that is asked for is passed over
+-- How a transaction ends. Its parameters are the tests before it, the end to which the closure was run, and the batches that are made from
+-- what it wrote. And whether there are any trees: without trees a flush that is asked for is passed over
 module _ {P M A E W : Type 0} (store : P → Store) (flush_number : P → ℕ) (meant : M → Merge) (tests : Error → Type 0) (reaches : Result (Commit A W) (TransactionError E) → Store → ℕ → Type 0) (batches_of : W → List (Tree × Writes)) (has_trees : Bool) (old : DbValue P M) where
   -- the closure was run to this end, and nothing is written so far
   pub record RunsTo (ended : Result (Commit A W) (TransactionError E)) (new : DbValue P M) : Type 0 where
     pub runs : reaches ended (store new.pages) new.greatest_id
     pub takes : TakesIds store meant old new
 
-  -- .. and what it wrote was made as a group, which does nothing where it brings no event
+  -- .. and what it wrote was made as a group, which does nothing if it brings no event
   pub record MakesWrites (commit : Commit A W) (run new : DbValue P M) : Type 0 where
     pub runs : RunsTo (Ok commit) run
     pub group : GroupDecided store meant run (batches_of commit.writes) new
@@ -79,9 +79,9 @@ module _ {P M A E W : Type 0} (store : P → Store) (flush_number : P → ℕ) (
     -- its closure is refused, or met as many conflicts as it may, or there is no memory for what an attempt at a list would write, and
     -- nothing is written
     ByClosure : RunsTo (Err (Storage e)) new → Stops e new
-    -- the group of what it wrote is refused; where it brings no event it did nothing
+    -- the group of what it wrote is refused; if it brings no event it did nothing
     ByGroup : (commit : Commit A W) (run : DbValue P M) → RunsTo (Ok commit) run → GroupRefused store meant run (batches_of commit.writes) e new → IsQuietGroup store meant run (batches_of commit.writes) new → Stops e new
-    -- the flush is refused, and what it wrote stands
+    -- the flush is refused, and what it wrote stays
     ByFlush : (commit : Commit A W) (run made : DbValue P M) → MakesWrites commit run made → has_trees && commit.flushes ≡ true → RefusesFlush store meant made new e → Stops e new
 
   abbrev pub fails_as : TransactionError E → DbValue P M → Type 0
@@ -118,7 +118,7 @@ module _ {P M F R A E : Type 0} (store : P → Store) (flush_number : P → ℕ)
   abbrev pub TransactionMade : A → DbValue P M → Type 0
   TransactionMade answer new = Commits store flush_number meant tests_tree (RunsOnTree store meant says result_of f old tree) batch_of true old answer new
 
-  -- .. or it is given up or refused
+  -- .. or it is aborted or refused
   abbrev pub TransactionNotMade : TransactionError E → DbValue P M → Type 0
   TransactionNotMade e new = Fails store flush_number meant tests_tree (RunsOnTree store meant says result_of f old tree) batch_of true old e new
 
@@ -136,7 +136,7 @@ abbrev pub list_is_refused_as : Option MustRefuse → Error → Type 0
 list_is_refused_as None e = e ≡ NoMemory
 list_is_refused_as (Some must) e = tells_of_list must e
 
--- a list is refused by the first of the tests that fails, and where none fails for want of memory
+-- a list is refused by the first of the tests that fails, and if none fails for want of memory
 pub record RefusesList (must : Option MustRefuse) (e : Error) : Type 0 where
   pub is : list_is_refused_as must e
 
@@ -169,13 +169,13 @@ module _ {P M F R A E : Type 0} (store : P → Store) (flush_number : P → ℕ)
   abbrev pub ListMade : A → DbValue P M → Type 0
   ListMade answer new = Commits store flush_number meant tests_list (RunsOnList store meant says result_of f old trees) (zip trees) (has_trees trees) old answer new
 
-  -- .. or it is given up or refused
+  -- .. or it is aborted or refused
   abbrev pub ListNotMade : TransactionError E → DbValue P M → Type 0
   ListNotMade e new = Fails store flush_number meant tests_list (RunsOnList store meant says result_of f old trees) (zip trees) (has_trees trees) old e new
 
 -- ---- reads inside, as reads of the map
 
--- what a read of a key shows inside a transaction of a tree that passes the tests is its own write of the key, and where there is none the
+-- what a read of a key shows inside a transaction of a tree that passes the tests is its own write of the key, and if there is none the
 -- value in the tree's map
 abbrev pub ShowsLaw : {P M : Type 0} → (P → Store) → (M → Merge) → Type 0
 ShowsLaw {P} {M} store meant = (d : DbValue P M) (tree : Tree) (given : TransactionalTree P) (key : Key) (value : Option Key) → IsDb store d
@@ -189,7 +189,7 @@ ShowsAtLaw {P} {M} store meant = (d : DbValue P M) (trees : List Tree) (given : 
     → slice_get trees position ≡ Some tree → ShowsAt store given position key value
     → (overlay : Writes) × (slice_get given.overlays position ≡ Some overlay) × ReadsMap store meant d tree (λ pairs. value ≡ unwrap_or (find key_cmp key overlay) (find key_cmp key pairs))
 
--- Why a read of a key is refused inside: where there is a write of it, for want of memory alone; and else as a read of the database is
+-- Why a read of a key is refused inside: if there is a write of it, for want of memory alone; and else as a read of the database is
 pub record RefusesInside {P M : Type 0} (store : P → Store) (meant : M → Merge) (d : DbValue P M) (tree : Tree) (overlay : Writes) (key : Key) (e : Error) : Type 0 where
   pub own : (written : Option Key) → find key_cmp key overlay ≡ Some written → e ≡ NoMemory
   pub reading : RefusesReading store meant d tree once e
@@ -201,7 +201,7 @@ RefusesToShowLaw {P} {M} store meant = (d : DbValue P M) (tree : Tree) (given : 
     → must_refuse_of (db_state store meant d) (tree ∷ []) ≡ None → (now (store d.pages)).roots tree.name ≡ Some given.root → OnlyRaises (store d.pages) (store given.pages.now)
     → RefusesToShow store given key e → RefusedFor (RefusesInside store meant d tree given.overlay key) e
 
--- .. and inside one of a list of trees that pass them, at the position of the tree, where there is a list of writes for it
+-- .. and inside one of a list of trees that pass them, at the position of the tree, if there is a list of writes for it
 abbrev pub RefusesToShowAtLaw : {P M : Type 0} → (P → Store) → (M → Merge) → Type 0
 RefusesToShowAtLaw {P} {M} store meant = (d : DbValue P M) (trees : List Tree) (given : TransactionalTrees P) (position : ℕ) (tree : Tree) (overlay : Writes) (key : Key) (e : UnabortableTransactionError) → IsDb store d
     → must_refuse_of (db_state store meant d) trees ≡ None → map (λ (t : Tree). (now (store d.pages)).roots t.name) trees ≡ map Some given.roots.now → OnlyRaises (store d.pages) (store given.pages.now)

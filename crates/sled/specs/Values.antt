@@ -55,7 +55,7 @@ state_of store meant d slots slots_given = record {
 abbrev pub db_state : {P M : Type 0} → (P → Store) → (M → Merge) → DbValue P M → State
 db_state store meant d = state_of store meant d (λ n. None) 0
 
--- the state and the store that it stands on, which would answer this number to a flush
+-- the state and its store, which would answer this number to a flush
 abbrev pub configuration_of : {P M : Type 0} → (P → Store) → (M → Merge) → DbValue P M → (ℕ → Option CallInFlight) → ℕ → ℕ → Configuration
 configuration_of store meant d slots slots_given number = record { state = state_of store meant d slots slots_given; store = store d.pages; flush_number = number }
 

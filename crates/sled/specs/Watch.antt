@@ -25,13 +25,13 @@ module _ {P M : Type 0} (store : P → Store) (meant : M → Merge) where
     pub may : MayRefuse (db_state store meant old) (store old.pages) (store old.pages) (ToCall (Watch tree prefix)) e
     pub is : new ≡ old
 
-  -- A subscriber was told what was next, if something waited for it
+  -- A subscriber got what was next, if something waited for it
   pub record TakesFromDb (old : DbValue P M) (subscriber : ℕ) (next : Option Next) (new : DbValue P M) : Type 0 where
     pub takes : (slots : ℕ → Option CallInFlight) (slots_given : ℕ) → TakesNext (state_of store meant old slots slots_given) subscriber next (state_of store meant new slots slots_given)
     pub same : new ≡ record old { queues = new.queues }
     pub sound : IsDb store old → IsDb store new
 
-  -- The queue of a subscriber was given up
+  -- The queue of a subscriber was dropped
   pub record EndsSubscriber (old : DbValue P M) (subscriber : ℕ) (new : DbValue P M) : Type 0 where
     pub gives_up : (slots : ℕ → Option CallInFlight) (slots_given : ℕ) → GivesUpQueue (state_of store meant old slots slots_given) subscriber (state_of store meant new slots slots_given)
     pub same : new ≡ record old { queues = new.queues }

@@ -35,7 +35,7 @@ fn goes_on(went: &Went) -> bool
     }
 }
 
-// Whether a call tells nobody what it does: it links nothing, or nobody waits for what happens to its key.
+// Whether a call sends no event: it links nothing, or no subscriber waits for what happens to its key.
 #[inline(always)]
 fn tells_nobody(queues: &Queues, tree: &Tree, call: &Call) -> bool
     ensures { result ≡ true → TellsNobody (queue_at queues.now) tree.now.number call.now }
@@ -60,7 +60,7 @@ pub struct Db<P: Pages, M = Box<dyn MergeOperator + Send>> {
     pub(crate) greatest_id: u64,
 }
 
-// By hand, so that whoever lets go of a database cites this, and need not prove again how each of its parts goes.
+// By hand, so that each function that drops a database cites this, and does not prove again how its parts are dropped.
 impl<P: Pages, M: Drop> Drop for Db<P, M> {
     fn drop(self) {
         let Db {
@@ -139,7 +139,7 @@ impl<P: Pages, M: MergeOperator> Db<P, M> {
         &self.pages
     }
 
-    /// The pages, as they are. They can be opened again where no group is open.
+    /// The pages, as they are. They can be opened again if no group is open.
     ///
     /// ```
     /// let pages = db.into_pages();
@@ -168,7 +168,7 @@ impl<P: Pages, M: MergeOperator> Db<P, M> {
         pages
     }
 
-    /// The same database for merge operators of another type. Those that it has are let go.
+    /// The same database for merge operators of another type. Those that it has are dropped.
     ///
     /// ```
     /// let mut db: Db<MemPages, Adds> = db.with_operators();
@@ -231,8 +231,8 @@ impl<P: Pages, M: MergeOperator> Db<P, M> {
         }
     }
 
-    /// The tests that come before every call on a tree, in this order: that the database is open, that the tree is its
-    /// own, and that the tree was not dropped.
+    /// The tests before every call on a tree, in this order: that the database is open, that the tree is its own, and that
+    /// the tree was not dropped.
     ///
     /// ```
     /// db.check(&tree)?; // Open, of this database, and not dropped.
@@ -253,7 +253,7 @@ impl<P: Pages, M: MergeOperator> Db<P, M> {
         }
     }
 
-    /// The tests that come before a call on a key of a tree: those of the tree, and then that it has the operator that the call needs.
+    /// The tests before a call on a key of a tree: those of the tree, and then that it has the operator that the call needs.
     ///
     /// ```
     /// db.check_call(&tree, &call)?; // Refused only where the call would be, before it does anything.
@@ -269,7 +269,7 @@ impl<P: Pages, M: MergeOperator> Db<P, M> {
         }
     }
 
-    /// The tests that come before a merge in a tree: those of the tree, and then that it has an operator.
+    /// The tests before a merge in a tree: those of the tree, and then that it has an operator.
     ///
     /// ```
     /// db.check_operator(&tree)?; // `Unsupported` where the tree has no operator.
@@ -288,7 +288,7 @@ impl<P: Pages, M: MergeOperator> Db<P, M> {
     }
 
     /// One step of a call in flight, which may do one page action. The tests come first, and the count of turns last. No subscriber
-    /// keeps a call up: where 1024 events wait for one that gets one more, the oldest of them goes and is counted.
+    /// delays a call: if 1024 events wait for one that gets one more, the oldest of them goes and is counted.
     ///
     /// ```
     /// let mut flight = InFlight::new(tree, Call::get(alloc, b"ulm")?);
@@ -392,7 +392,8 @@ impl<P: Pages, M: MergeOperator> Db<P, M> {
     }
 
     /// A call on a key that passed the tests, made at once by the steps of a call in flight from its begin to its end. That is if nothing
-    /// is to be repaired on the way to its leaf, and nobody waits for what happens to its key. Else it does nothing, and answers `None`.
+    /// is to be repaired on the way to its leaf, and no subscriber waits for what happens to its key. Else it does nothing, and answers
+    /// `None`.
     ///
     /// ```
     /// db.check_call(&tree, &call)?; // The tests, which `make_quick` does not repeat.

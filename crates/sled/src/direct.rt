@@ -1,7 +1,7 @@
 //! Calls on one key of a tree that are made at once, in no slot.
 //!
-//! They make the same steps as a call in flight, one after the other, repairs included. Where nothing is to be repaired on the way, and
-//! nobody is told, the steps are made at once, without a call in flight.
+//! They make the same steps as a call in flight, one after the other, repairs included. If nothing is to be repaired on the way, and no
+//! subscriber waits for the event, the steps are made at once, without a call in flight.
 ghost use Rattle.std.specs.Prelude.{◌≡◌, IfOk, IfErr, None};
 ghost use Rattle.std.specs.Option.{option_copied};
 ghost use Rattle.sled_model.specs.State.{IsOnKey};
@@ -16,8 +16,8 @@ use sled_nodes::{IVec, Result};
 use sled_store::Pages;
 use sled_tree::{InFlight, Went};
 
-/// What a swap answers: that the value was swapped, which value stood there in place of the one that was asked for, or why
-/// the call was refused.
+/// What a swap answers: that the value was swapped, which value was there in place of the one that was asked for, or why the
+/// call was refused.
 pub type CompareAndSwapResult = Result<std::result::Result<(), CompareAndSwapError>>;
 
 // The value that a call replied with, if there is one.
@@ -100,11 +100,11 @@ impl<P: Pages, M: MergeOperator> Db<P, M> {
         }
     }
 
-    /// Sets the value at a key, and answers the value that stood there, or `None` where the key was absent. Where an equal
-    /// value stands already, nothing is written. Else its event comes to the subscribers of the tree that watch the key.
+    /// Sets the value at a key, and answers the value that was there, or `None` if the key was absent. If an equal value is
+    /// there already, nothing is written. Else its event goes to the subscribers of the tree that watch the key.
     ///
     /// Like a call of a machine it repairs what it meets half done on its way: splits and merges that a call before it did
-    /// not finish. These stay also where it is refused itself, and change no map.
+    /// not finish. These stay even if it is refused itself, and change no map.
     ///
     /// ```
     /// let stood = db.insert(&tree, b"ulm", b"21")?;
@@ -139,7 +139,7 @@ impl<P: Pages, M: MergeOperator> Db<P, M> {
         self.insert(tree, key, value)
     }
 
-    /// Takes a key out, and answers the value that stood there, or `None` where the key was absent. Then nothing is written.
+    /// Takes a key out, and answers the value that was there, or `None` if the key was absent. Then nothing is written.
     ///
     /// ```
     /// db.insert(&tree, b"ulm", b"21")?;
@@ -175,8 +175,8 @@ impl<P: Pages, M: MergeOperator> Db<P, M> {
         self.remove(tree, key)
     }
 
-    /// Sets the value at a key to what the tree's merge operator makes of it and these bytes, or takes the key out where that is no
-    /// value, and answers the new value. It is written also where it is equal. A tree without an operator refuses it with `Unsupported`: the
+    /// Sets the value at a key to what the tree's merge operator makes of it and these bytes, or takes the key out if that is no
+    /// value, and answers the new value. It is written even if it is equal. A tree without an operator refuses it with `Unsupported`: the
     /// call that gives it one is `Db::set_merge_operator`, whatever the text of the refusal, which is sled's, says.
     ///
     /// ```
@@ -200,9 +200,9 @@ impl<P: Pages, M: MergeOperator> Db<P, M> {
         }
     }
 
-    /// Where the value `old` stands at a key, `None` being no value, sets `new` there, or takes the key out for `None`. Else
-    /// it writes nothing, and answers the value that stands and the one that was proposed. A value that is swapped for an
-    /// equal one is written.
+    /// If the value `old` is at a key, `None` being no value, sets `new` there, or takes the key out for `None`. Else it
+    /// writes nothing, and answers the value that is there and the one that was proposed. A value that is swapped for an equal
+    /// one is written.
     ///
     /// ```
     /// // From no value to `21`, and from there to none.

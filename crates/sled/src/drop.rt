@@ -20,7 +20,7 @@ impl<P: Pages, M: MergeOperator> Db<P, M> {
     ///
     /// The tree's first pages are read, its root is taken out, which decides, and its pages are freed. Refused with `Closed`;
     /// for the default tree with `Unsupported`; and with `Io` and `NoMemory` before the root goes: then the tree stays. A
-    /// refusal after that is not told: then pages are left that no tree has.
+    /// refusal after that is not returned: then pages are left that no tree has.
     ///
     /// ```
     /// let dropped = db.drop_tree(b"orders")?; // `false` where there was none.

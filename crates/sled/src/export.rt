@@ -13,7 +13,7 @@ use tree_pages::collections_of;
 
 impl<P: Pages, M: MergeOperator> Db<P, M> {
     /// The collection of every tree, in the order of the names, its pairs ascending by key. It reads the pages as they are
-    /// and repairs nothing. Refused with `Closed`, with `Io` where a page cannot be read, and with `NoMemory`.
+    /// and repairs nothing. Refused with `Closed`, with `Io` if a page cannot be read, and with `NoMemory`.
     ///
     /// ```
     /// let collections = db.export()?; // Each tree with its name and its pairs, in the order of the names.

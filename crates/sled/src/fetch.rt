@@ -1,4 +1,4 @@
-//! Calls that make the new value at a key of the one that stands there, by a closure that is called once.
+//! Calls that make the new value at a key from the one that is there, by a closure that is called once.
 ghost use Rattle.std.specs.Prelude.{◌≡◌, IfOk, IfErr, OnOk, Ok, Option};
 ghost use Rattle.std.specs.Option.{option_map, option_copied};
 ghost use Rattle.sled_nodes.specs.Order.{Key};
@@ -13,7 +13,7 @@ use sled_nodes::{Error, IVec, Result, clone_value};
 use sled_store::Pages;
 use std::alloc::{AllocError, Global};
 
-// What the closure answers to the value that stands, if there is one.
+// What the closure answers to the value that is there, if there is one.
 fn ask<F>(stood: &Option<IVec>, mut f: F) -> std::result::Result<Option<Vec<u8>>, AllocError>
 where
     F: FnMut(Option<&[u8]>) -> std::result::Result<Option<Vec<u8>>, AllocError>,
@@ -94,7 +94,7 @@ impl<P: Pages, M: MergeOperator> Db<P, M> {
         }
     }
 
-    // The value that stood, and the one that the closure made of it and that stands now.
+    // The value that was there, and the one that the closure made from it and that is there now.
     fn fetch<F>(&mut self, tree: &Tree, key: &[u8], f: F) -> Result<(Option<IVec>, Option<IVec>)>
     where
         F: FnMut(Option<&[u8]>) -> std::result::Result<Option<Vec<u8>>, AllocError>,
@@ -130,8 +130,8 @@ impl<P: Pages, M: MergeOperator> Db<P, M> {
         }
     }
 
-    /// Sets the value at a key to what the closure makes of the value that stands there, or takes the key out where it answers
-    /// `None`, and answers the new value. It is written also where it is equal.
+    /// Sets the value at a key to what the closure makes from the value that is there, or takes the key out if it answers `None`, and
+    /// answers the new value. It is written even if it is equal.
     ///
     /// The key is read as `get` reads it, the closure is called once, and then the values are swapped as `compare_and_swap` does.
     /// A closure that answers want of memory refuses the call with `NoMemory`, and nothing is written.
@@ -160,7 +160,7 @@ impl<P: Pages, M: MergeOperator> Db<P, M> {
         }
     }
 
-    /// The same, but that it answers the value that stood there before.
+    /// The same, but that it answers the value that was there before.
     ///
     /// ```
     /// let taken = db.fetch_and_update(&tree, b"ulm", |_| Ok(None))?;

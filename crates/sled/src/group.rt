@@ -1,12 +1,12 @@
 //! Groups of writes, which are made together or not at all.
 //!
-//! First comes all that can be refused without harm: the tests, the reads of the values that stand, and the memory of events. Then the
+//! All that can be refused without harm is first: the tests, the reads of the values that are there, and the memory of events. Then the
 //! group is begun, the writes are made, and the group is sealed. Once it is begun a refusal leaves it open, so that the database is
 //! closed: no crash leaves any of it.
 //!
-//! A write is linked at the leaf that the read of its key found, where nothing is to be repaired there; else it is made by the steps of a
-//! call in flight, repairs included. Of several writes in one leaf the others read it again, since the first changes it. The keys of a
-//! batch ascend, so the read of each begins below the last index of the way of the one before it under which its key lies.
+//! A write is linked at the leaf that the read of its key found, if nothing is to be repaired there; else it is made by the steps of a call
+//! in flight, repairs included. Of several writes in one leaf the others read it again, since the first changes it. The keys of a batch
+//! ascend, so the read of each begins below the last index of the way of the one before it under which its key is.
 ghost use Rattle.std.specs.Prelude.{◌≡◌, false, IfOk, IfErr, OnOk, OnErr, [], ◌∷◌, Some, None, ◌++◌};
 ghost use Rattle.std.specs.FinMap.Entries.{find};
 ghost use Rattle.sled_nodes.specs.Order.{key_cmp};
@@ -36,7 +36,7 @@ use tree_groups::{KeyWrite, is_settled, write_group};
 use tree_pages::number_of;
 use tree_reads::leaf_near;
 
-// The leaf with its version, where a write of it can be linked at once.
+// The leaf with its version, if a write of it can be linked at once.
 #[inline(always)]
 fn place_of(leaf: &View, stands: bool) -> Option<(Pid, Version)>
     ensures { BeginsAt leaf.now stands result }
@@ -48,7 +48,7 @@ fn place_of(leaf: &View, stands: bool) -> Option<(Pid, Version)>
     }
 }
 
-// Whether the value that a key is to have stands there once a batch is made too: its write of the key decides, or else what stood.
+// Whether the value that a key is to have is there once a batch is made too: its write of the key decides, or else what was there.
 fn stands_over(batch: &Batch, key: &IVec, value: &Option<IVec>, stands: bool) -> bool
     ensures value { result ≡ stands_over (find key_cmp key.now batch.now) value.now stands }
     ensures rise { Rises batch.now }
@@ -127,7 +127,7 @@ impl<P: Pages, M: MergeOperator> Db<P, M> {
     ghost use Rattle.sled.specs.Values.{db_state, snapshot_of_db};
     ghost use Rattle.sled.specs.Groups.{GroupDecided, GroupRefused, IsQuietGroup};
 
-    // The tests that come before a group, each of all its trees.
+    // The tests before a group, each of all its trees.
     fn check_batches(&self, batches: &[(Tree, Batch)]) -> Result<()>
         ensures ok { OnOk result (must_refuse_of (db_state P.store M.meant self.now) (trees_of_batches batches.now) ≡ None) }
         ensures err { IfErr result (MustBeRefused (must_refuse_of (db_state P.store M.meant self.now) (trees_of_batches batches.now))) }
@@ -148,8 +148,8 @@ impl<P: Pages, M: MergeOperator> Db<P, M> {
         Ok(())
     }
 
-    // The leaf of a key, and whether the value that the key is to have stands there. The walk begins below the last index of this way under
-    // which the key lies, and leaves its own.
+    // The leaf of a key, and whether the value that the key is to have is there. The walk begins below the last index of this way under
+    // which the key is, and leaves its own.
     fn read_key(
         &self,
         root: Pid,
@@ -180,7 +180,7 @@ impl<P: Pages, M: MergeOperator> Db<P, M> {
         }
     }
 
-    // Whether the value that a key is to have stands there once these batches are made, where it is known whether it stands before.
+    // Whether the value that a key is to have is there once these batches are made, if it is known whether it is before.
     fn stands(
         &self,
         before: &[(Tree, Batch)],
@@ -203,7 +203,7 @@ impl<P: Pages, M: MergeOperator> Db<P, M> {
         stands
     }
 
-    // Adds the write of a key, where it changes something. The walk to its leaf begins on the way of the one before it.
+    // Adds the write of a key, if it changes something. The walk to its leaf begins on the way of the one before it.
     fn add_change<'a>(
         &self,
         before: &[(Tree, Batch)],
@@ -243,7 +243,7 @@ impl<P: Pages, M: MergeOperator> Db<P, M> {
         }
     }
 
-    // Adds the writes of a batch that change something, where these batches come before it.
+    // Adds the writes of a batch that change something, if these batches come before it.
     fn add_changes<'a>(
         &self,
         before: &[(Tree, Batch)],
@@ -288,12 +288,12 @@ impl<P: Pages, M: MergeOperator> Db<P, M> {
     }
 
     /// Makes the writes of each batch in its tree, all or none, in the order of the list and of each batch in the order of its keys, and
-    /// then their events come. A write that changes nothing brings no event, and where no write changes anything nothing is done. A tree
-    /// may stand in the list more than once.
+    /// then sends their events. A write that changes nothing has no event, and if no write changes anything nothing is done. A tree may be
+    /// in the list more than once.
     ///
     /// Refused by the tests, each of all trees in turn, and then with `Io`, `NoMemory` or `ReportableBug`. Up to the begin of the group in
-    /// the store nothing changes. Where it is refused after that the database is closed: calls are refused with `Closed` from now on, and
-    /// none of the writes is there once its pages are recovered and opened again.
+    /// the store nothing changes. If it is refused after that the database is closed: calls are refused with `Closed` from now on, and none
+    /// of the writes is there once its pages are recovered and opened again.
     ///
     /// ```
     /// let group = [(db.default_tree()?, Batch::default(alloc)), (tree, Batch::default(alloc))];

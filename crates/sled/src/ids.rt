@@ -11,7 +11,7 @@ use sled_nodes::{Error, Result};
 use sled_store::Pages;
 use tree_transactions::raised_mark;
 
-// Sets ids aside, where none above the greatest that was given is.
+// Sets ids aside if none above the greatest that was given is set aside.
 fn set_aside_above<P: Pages>(pages: &mut P, greatest: u64) -> Result<()>
     requires { greatest ≤ (P.store pages.old).mark }
     ensures ok { OnOk result (P.store pages.new ≡ record (P.store pages.old) { mark = mark_above greatest (P.store pages.old).mark }) }
@@ -34,7 +34,7 @@ impl<P: Pages, M: MergeOperator> Db<P, M> {
 
     /// The next id: one above the greatest that was given, from 1 on, and above all that were given before a crash. While ids
     /// are set aside it asks for no memory, and of the store for its mark and whether it is open. Else 4096 are set aside first, or
-    /// as many as are left. Refused with `Closed`; and where none is set aside with `Unsupported` after the greatest `u64`,
+    /// as many as are left. Refused with `Closed`; and if none is set aside with `Unsupported` after the greatest `u64`,
     /// and as the store refuses.
     ///
     /// ```

@@ -25,7 +25,7 @@ fn are_trees(collections: &[Collection]) -> bool
 }
 
 impl<P: Pages, M: MergeOperator> Db<P, M> {
-    // Puts a pair into a tree where its key is absent.
+    // Puts a pair into a tree if its key is absent.
     fn import_pair(&mut self, tree: &Tree, pair: &(IVec, IVec)) -> Result<()>
         requires { IsTreeNow P.store M.meant self.old tree.now }
         ensures ok { OnOk result (PartsDone P.store M.meant self.old (Puts tree.now.name pair.now.0 pair.now.1 ∷ []) self.new) }
@@ -46,7 +46,7 @@ impl<P: Pages, M: MergeOperator> Db<P, M> {
         }
     }
 
-    // Puts pairs into a tree, one after the other, and tells how many.
+    // Puts pairs into a tree, one after the other, and returns how many.
     fn import_pairs(&mut self, tree: &Tree, pairs: &[(IVec, IVec)]) -> (Result<()>, u64)
         requires { IsTreeNow P.store M.meant self.old tree.now }
         ensures ok { OnOk result.0 (PartsDone P.store M.meant self.old (puts_of tree.now.name pairs.now []) self.new) }
@@ -64,7 +64,7 @@ impl<P: Pages, M: MergeOperator> Db<P, M> {
         (Ok(()), count)
     }
 
-    // Opens the tree of a collection, and puts its pairs into it. Tells how many parts that were: the opening and the pairs.
+    // Opens the tree of a collection, and puts its pairs into it. Returns how many parts that were: the opening and the pairs.
     fn import_collection(&mut self, collection: &Collection) -> (Result<()>, u64)
         ensures ok { OnOk result.0 (PartsDone P.store M.meant self.old (parts_of (content_of collection.now ∷ [])) self.new) }
         ensures all { OnOk result.0 (result.1 ≡ told_parts (length (parts_of (content_of collection.now ∷ [])))) }
@@ -81,9 +81,9 @@ impl<P: Pages, M: MergeOperator> Db<P, M> {
     }
 
     /// Opens the tree of each collection, one after the other, as `open_tree` does, and puts its pairs into it, one after the other, as
-    /// `insert` does where a key is absent. It is not atomic: refused midway, the trees that are opened and the pairs that are in stay.
-    /// Refused with `Unsupported` where a collection is not of the type `tree`, and then nothing is done; with `Unsupported` at a key
-    /// that is present, whose pair stays as it is; and as `open_tree`, `contains_key` and `insert` are.
+    /// `insert` does if a key is absent. It is not atomic: refused midway, the trees that are opened and the pairs that are in stay.
+    /// Refused with `Unsupported` if a collection is not of the type `tree`, and then nothing is done; with `Unsupported` at a key that
+    /// is present, whose pair stays as it is; and as `open_tree`, `contains_key` and `insert` are.
     ///
     /// ```
     /// let collections = db.export()?;
@@ -98,9 +98,9 @@ impl<P: Pages, M: MergeOperator> Db<P, M> {
         done
     }
 
-    /// Does what `import` does, and tells how many parts it did beside its answer: trees that it opened, whether they were known or
-    /// not, and pairs that it put in. Of one that is refused midway these are the parts before the one that was refused. `u64::MAX`
-    /// stands for as many or more.
+    /// Does what `import` does, and also returns how many parts it did: trees that it opened, whether they were known or not, and pairs
+    /// that it put in. Of one that is refused midway these are the parts before the one that was refused. `u64::MAX` means as many or
+    /// more.
     ///
     /// ```
     /// let (done, count) = other.import_counted(db.export()?.as_slice()); // Where `done` is `Ok`, as many as there are trees and pairs.

@@ -1,7 +1,7 @@
 //! A database of named trees over a store of pages.
 //!
 //! The maps of a database are the contents of its pages, and it keeps no others (`specs/Values`). Between two calls the pages
-//! are well formed, now and in every state that a crash may leave (`specs/Sound`); `Db::audit` tells callers so. One step of
+//! are well formed, now and in every state that a crash may leave (`specs/Sound`); `Db::audit` states so for callers. One step of
 //! a call in flight is a step of the model, adds the map after the call to what a crash may leave if it was decided, and
 //! keeps true what every other call in flight knows (`specs/Flights`). Opening, flushing and exporting are stated in
 //! `specs/Opens`, `specs/Checked`, `specs/Flush` and `specs/Export`. Reads that take no slot are in `specs/Reads`, writes that take none in

@@ -58,7 +58,7 @@ pub(crate) fn make_tree<P: Pages>(alloc: Global, pages: &mut P, name: &[u8]) -> 
     }
 }
 
-// Makes an empty tree of this name where there is none.
+// Makes an empty tree of this name if there is none.
 fn create_tree<P: Pages>(alloc: Global, pages: &mut P, name: &[u8]) -> Result<()>
     requires well { IsValid (now (P.store pages.old)) }
     requires no_group { (now (P.store pages.old)).in_group ≡ false }
@@ -98,7 +98,7 @@ fn number_trees<P: Pages>(alloc: Global, pages: &P) -> Result<Vec<(IVec, u64)>>
 impl<P: Pages> Db<P> {
     /// Opens the database that the pages hold, under this name; an empty store becomes one with an empty default tree.
     /// All is flushed then, and the numbers of the trees that earlier databases over these pages gave mean nothing to it.
-    /// Refused with `Io` where the store counts a fault, and with `NoMemory`. The pages that are given back can be opened
+    /// Refused with `Io` if the store counts a fault, and with `NoMemory`. The pages that are given back can be opened
     /// again: they have all their pairs, and at most the empty default tree is new.
     ///
     /// ```
@@ -152,7 +152,7 @@ impl<P: Pages> Db<P> {
     }
 }
 
-/// The code of `Corruption` where pages were to be opened while a group of writes stands open in them.
+/// The code of `Corruption` if pages were to be opened while a group of writes is open in them.
 pub const GROUP_IS_OPEN: Fault = Fault(10);
 
 // Whether pages can be opened.
@@ -224,8 +224,8 @@ impl<P: Pages, M: MergeOperator> Db<P, M> {
 
     /// Opens the tree of a name. One that is there keeps its number, and no page is touched; else an empty one is made, by two
     /// actions, and gets the next number and no merge operator. Refused with `Closed`; with `NoMemory`; and of a new name with
-    /// `Unsupported` where all numbers were given, and with `Io` where the store counts a fault. Then no map changes, and at
-    /// most a page is left that no tree has.
+    /// `Unsupported` if all numbers were given, and with `Io` if the store counts a fault. Then no map changes, and at most a
+    /// page is left that no tree has.
     ///
     /// ```
     /// let orders = db.open_tree(b"orders")?;

@@ -11,7 +11,7 @@ impl<P: Pages, M: MergeOperator> Db<P, M> {
     ghost use Rattle.sled.specs.Operators.{OperatorSet, OperatorNotSet};
 
     /// Gives a tree a merge operator, in place of the one that it has. A merge is decided by the operator that its tree has at the
-    /// step that decides it. A call that is refused lets the operator go.
+    /// step that decides it. A call that is refused drops the operator.
     ///
     /// ```
     /// db.set_merge_operator(&tree, Adds)?; // An operator that adds numbers.

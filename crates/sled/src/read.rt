@@ -37,7 +37,7 @@ impl<P: Pages, M: MergeOperator> Db<P, M> {
         }
     }
 
-    /// The value at a key, or `None` where it is absent. It reads one page of each level where nothing on the way is half done.
+    /// The value at a key, or `None` if it is absent. It reads one page of each level if nothing on the way is half done.
     ///
     /// ```
     /// if let Some(value) = db.get(&tree, b"ulm")? {
@@ -253,8 +253,8 @@ impl<P: Pages, M: MergeOperator> Db<P, M> {
 
     /// The pairs whose keys begin with a prefix, from both ends. It reads no page; the iterator does.
     ///
-    /// They lie from the prefix on and below the prefix without its last bytes 255 and with the last byte that is left raised by
-    /// one; where nothing is left they have no upper bound.
+    /// They are from the prefix on and below the prefix without its last bytes 255 and with the last byte that is left raised by
+    /// one; if nothing is left they have no upper bound.
     ///
     /// ```
     /// // The keys that begin with be, as bern.

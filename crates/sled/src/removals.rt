@@ -18,7 +18,7 @@ use std::iter::Iterator;
 use std::ops::Bound;
 use tree_reads::Iter;
 
-// The removals of the keys that are still to come of a range, which has ended only where none is.
+// The removals of the keys that are still to come of a range, which has ended only if none is.
 fn removals_of<P: Pages>(alloc: Global, pairs: &mut Iter<'_, P>) -> Result<Batch>
     requires ended { pairs.old.ended ≡ true → pairs.old.pairs ≡ [] }
     requires rises { is_sorted key_cmp pairs.old.pairs ≡ true }
@@ -65,8 +65,8 @@ impl<P: Pages, M: MergeOperator> Db<P, M> {
         batch
     }
 
-    /// Removes all keys of a tree within two bounds, all or none, and answers how many there were. Their events come in the order of the
-    /// keys. Where there is none nothing is done.
+    /// Removes all keys of a tree within two bounds, all or none, and answers how many there were. Their events are sent in the order of
+    /// the keys. If there is none nothing is done.
     ///
     /// The keys are read first, and then their removals are made as one batch. Refused as that batch (`apply_group`): until its group
     /// begins in the store nothing changes, and after that the database is closed.

@@ -11,9 +11,9 @@ use sled_store::Pages;
 use tree_pages::{Stats, stats_of};
 
 impl<P: Pages, M: MergeOperator> Db<P, M> {
-    /// How many trees there are, their pages, the levels of the highest of them, and their pairs with the bytes of keys and values. It reads
-    /// all pages of the trees as they are and repairs nothing; pages that no tree has are not counted. Refused with `Closed`, with `Io`
-    /// where a page cannot be read, and with `NoMemory`.
+    /// How many trees there are, their pages, the levels of the highest of them, and their pairs with the bytes of keys and values. It
+    /// reads all pages of the trees as they are and repairs nothing; pages that no tree has are not counted. Refused with `Closed`, with
+    /// `Io` if a page cannot be read, and with `NoMemory`.
     ///
     /// ```
     /// let stats = db.stats()?;

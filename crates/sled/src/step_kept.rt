@@ -1,5 +1,5 @@
-//! Steps that keep copies of a reply, for whoever records what calls came to. The copies are made before the action that decides the
-//! call: where there is no memory for them the step is refused, and no call is decided.
+//! Steps that keep copies of a reply, for programs that record the outcomes of calls. The copies are made before the action that decides
+//! the call: if there is no memory for them the step is refused, and no call is decided.
 ghost use Rattle.std.specs.Prelude.{◌≡◌, None};
 ghost use Rattle.sled_model.specs.Refusal.{must_refuse, ToStep};
 ghost use Rattle.tree_steps.specs.Outcomes.{outcome_of, kept_of};
@@ -18,8 +18,8 @@ impl<P: Pages, M: MergeOperator> Db<P, M> {
     ghost use Rattle.sled.specs.Values.{db_state, snapshot_of_db};
     ghost use Rattle.sled.specs.Flights.{DbStepContract, DbStep, DbSound, DbActs, DbFollows, DbPasses, KeepsTreePages, DbLeaksNoPage, DbKnows, call_in_flight_of};
 
-    /// One step of a call in flight, as `advance` makes it; where it decides the call, with two copies of its reply. They are made
-    /// before the action that decides it: where there is no memory for them the step is refused with `NoMemory`.
+    /// One step of a call in flight, as `advance` makes it; if it decides the call, with two copies of its reply. They are made before
+    /// the action that decides it: if there is no memory for them the step is refused with `NoMemory`.
     ///
     /// ```
     /// let mut flight = InFlight::new(tree, Call::get(alloc, b"ulm")?);

@@ -1,6 +1,6 @@
 //! Transactions: a closure reads and writes trees, and what it wrote is made as a group once it ends.
 //!
-//! While it runs its writes are kept beside the pages (`tree_transactions`), so a transaction that is given up, or refused before its
+//! While it runs its writes are kept beside the pages (`tree_transactions`), so a transaction that is aborted, or refused before its
 //! commit, changes no map. The commit is a group (`Db::apply_group`).
 ghost use Rattle.std.specs.Prelude.{◌≡◌, IfOk, IfErr, OnOk, [], ◌∷◌, ◌&&◌, map, Some, None, true};
 ghost use Rattle.std.specs.List.{zip};
@@ -90,7 +90,7 @@ impl<P: Pages, M: MergeOperator> Db<P, M> {
         transact_all(self.alloc, &mut self.pages, roots, &mut self.greatest_id, f)
     }
 
-    // The tests that come before a transaction of several trees, each of all of them.
+    // The tests before a transaction of several trees, each of all of them.
     fn check_list(&self, trees: &[&Tree]) -> Result<()>
         ensures ok { OnOk result (must_refuse_of (db_state P.store M.meant self.now) (trees_of_list trees.now) ≡ None) }
         ensures err { IfErr result (RefusesList (must_refuse_of (db_state P.store M.meant self.now) (trees_of_list trees.now))) }
@@ -130,7 +130,7 @@ impl<P: Pages, M: MergeOperator> Db<P, M> {
         Ok(roots)
     }
 
-    // Makes all durable, where that is asked for.
+    // Makes all durable, if that is asked for.
     fn flush_where(&mut self, flushes: bool) -> Result<()>
         ensures ok { OnOk result (flushes_as P.store P.flush_number M.meant flushes self.old self.new) }
         ensures err { IfErr result (λ e. (flushes ≡ true) × RefusesFlush P.store M.meant self.old self.new e) }
@@ -141,7 +141,7 @@ impl<P: Pages, M: MergeOperator> Db<P, M> {
         Ok(())
     }
 
-    // Makes the writes of a tree, and then all durable where that is asked for.
+    // Makes the writes of a tree, and then all durable if that is asked for.
     fn commit(&mut self, tree: &Tree, writes: Batch, flushes: bool) -> Result<()>
         ensures ok { OnOk result (CommitsGroup P.store P.flush_number M.meant self.old ((tree.now, writes) ∷ []) flushes self.new) }
         ensures err { IfErr result (λ e. StopsCommit P.store P.flush_number M.meant self.old ((tree.now, writes) ∷ []) flushes e self.new) }
@@ -214,7 +214,7 @@ impl<P: Pages, M: MergeOperator> Db<P, M> {
     /// `u64`. If the store or memory refuses that, it is passed over. Those that it takes stay taken, however it ends.
     ///
     /// Refused by the tests of the tree; as the closure is; with `ReportableBug` after a million conflicts; as a batch is, which may close
-    /// the database; and as the flush is, and then what was written stands.
+    /// the database; and as the flush is, and then what was written stays.
     ///
     /// ```
     /// // Moves the value of one key to another.
@@ -282,10 +282,10 @@ impl<P: Pages, M: MergeOperator> Db<P, M> {
     /// Runs a closure as a transaction of several trees, which it names by their positions in the list. It is as `transaction`, and all
     /// that it writes is made as one group (`apply_group`), in the order of the list.
     ///
-    /// A tree that stands in the list twice has two positions, of which neither sees the other's writes; those of the later one come
+    /// A tree that is in the list twice has two positions, of which neither sees the other's writes; those of the later one are made
     /// later. For an empty list no page is touched: no ids are set aside, and a flush that is asked for is passed over.
     ///
-    /// Refused with `Unsupported`, with a text of its own, where a tree is another database's, and else as `transaction` is, for want of
+    /// Refused with `Unsupported`, with a text of its own, if a tree is another database's, and else as `transaction` is, for want of
     /// memory too.
     ///
     /// ```
@@ -312,8 +312,8 @@ impl<P: Pages, M: MergeOperator> Db<P, M> {
     }
 }
 
-/// What a read inside a transaction shows, told over the maps: the transaction's own write of the key, and where there is none the value in
-/// the map of the tree as it was before. And why one is refused, told as of a read of the database. It does nothing.
+/// What a read inside a transaction shows, in terms of the maps: the transaction's own write of the key, and if there is none the value in
+/// the map of the tree as it was before. And why one is refused, as for a read of the database. It does nothing.
 ///
 /// ```
 /// law_shows::<MemPages, Box<dyn MergeOperator + Send>>(); // From here on a proof knows what reads inside show.

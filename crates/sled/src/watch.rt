@@ -9,12 +9,12 @@ use sled_store::Pages;
 impl<P: Pages, M: MergeOperator> Db<P, M> {
     ghost use Rattle.sled.specs.Watch.{WatchesDb, RefusesWatch, TakesFromDb, EndsSubscriber};
 
-    /// A new subscriber to the keys of a tree that begin with a prefix. From now on each change of such a key that is decided
-    /// comes into its queue, in order, where `next` takes it out. At most 1024 events wait there: where one more comes, the
-    /// oldest goes and is counted, and `next` tells how many were missed so. A slow subscriber keeps no call up. Subscribers are
-    /// numbered from 1, and no number is given twice until the database is opened again.
+    /// A new subscriber to the keys of a tree that begin with a prefix. From now on each change of such a key that is decided is
+    /// put into its queue, in order, and `next` takes it out. At most 1024 events wait there: if one more comes, the oldest goes
+    /// and is counted, and `next` returns how many were missed so. A slow subscriber delays no call. Subscribers are numbered
+    /// from 1, and no number is given twice until the database is opened again.
     ///
-    /// Refused as `check` tells, then for want of memory alone, and with `Unsupported` once all numbers of 64 bits are given.
+    /// Refused as `check` refuses, then for want of memory alone, and with `Unsupported` once all numbers of 64 bits are given.
     /// Then nothing changes.
     ///
     /// ```
@@ -35,13 +35,13 @@ impl<P: Pages, M: MergeOperator> Db<P, M> {
         self.queues.watch(self.alloc, tree.number, prefix)
     }
 
-    /// What a subscriber is told next. Where it missed events since that was told last, it is `Missed` with their count, and the
-    /// events that wait stay; else it is the oldest event that waits, which is taken out. It answers at once: `None` where nothing
-    /// waits, and for a subscriber that is not known. It is never refused, takes no memory, and serves a closed database too. The
-    /// events that waited when their tree was dropped can still be taken.
+    /// What a subscriber gets next. If it missed events since that was returned last, it is `Missed` with their count, and the events
+    /// that wait stay; else it is the oldest event that waits, which is taken out. It answers at once: `None` if nothing waits, and
+    /// for a subscriber that is not known. It is never refused, takes no memory, and serves a closed database too. The events that
+    /// waited when their tree was dropped can still be taken.
     ///
-    /// A subscriber that keeps a copy of its part of the tree by the events has to copy that part anew once it is told `Missed`. The
-    /// events that wait then are older than the new copy: it takes them first, or watches anew.
+    /// A subscriber that keeps a copy of its part of the tree by the events has to copy that part anew once it gets `Missed`. The events
+    /// that wait then are older than the new copy: it takes them first, or watches anew.
     ///
     /// ```
     /// // All that wait, in the order in which the changes were decided: at most a count, and then `QUEUE_LIMIT` events.

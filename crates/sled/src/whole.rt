@@ -43,8 +43,8 @@ impl<P: Pages, M: MergeOperator> Db<P, M> {
         }
     }
 
-    /// Takes out the pair with the least key, and answers it; or `None`, where the tree is empty. The pair is read without a repair,
-    /// and then removed by the steps of `remove`.
+    /// Takes out the pair with the least key, and answers it; or `None`, if the tree is empty. The pair is read without a repair, and
+    /// then removed by the steps of `remove`.
     ///
     /// ```
     /// if let Some((key, value)) = db.pop_min(&tree)? {
@@ -68,7 +68,7 @@ impl<P: Pages, M: MergeOperator> Db<P, M> {
         }
     }
 
-    /// Takes out the pair with the greatest key, and answers it; or `None`, where the tree is empty.
+    /// Takes out the pair with the greatest key, and answers it; or `None`, if the tree is empty.
     ///
     /// ```
     /// if let Some((key, value)) = db.pop_max(&tree)? {
@@ -109,8 +109,8 @@ impl<P: Pages, M: MergeOperator> Db<P, M> {
         done
     }
 
-    /// Does what `clear` does, and tells how many keys it took out beside its answer: of one that is refused midway those that are
-    /// out. `u64::MAX` stands for as many or more.
+    /// Does what `clear` does, and also returns how many keys it took out: of one that is refused midway those that are out.
+    /// `u64::MAX` means as many or more.
     ///
     /// ```
     /// let (done, count) = db.clear_counted(&tree); // Where `done` is `Ok`, as many as `db.len(&tree)?` was.

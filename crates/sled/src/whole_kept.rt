@@ -72,8 +72,8 @@ impl<P: Pages, M: MergeOperator> Db<P, M> {
     }
 
     /// Takes out the pair with the least key, as `pop_min` does, and answers the call's reply (`Reply::Pair`) and two copies of it. The
-    /// copies are made once the pair is read and before it is removed. Refused as `pop_min` is, and with `NoMemory` where there is no
-    /// memory for the copies: the pair stays then, and so do repairs that were made on the way to it, which change no map.
+    /// copies are made once the pair is read and before it is removed. Refused as `pop_min` is, and with `NoMemory` if there is no memory
+    /// for the copies: the pair stays then, and so do repairs that were made on the way to it, which change no map.
     ///
     /// ```
     /// let (reply, one, other) = db.pop_min_kept(&tree)?; // Three equal replies.
@@ -120,7 +120,7 @@ impl<P: Pages, M: MergeOperator> Db<P, M> {
         }
     }
 
-    // The number that the tree of a name has, or that it gets when it is opened. The tests of an opening come first.
+    // The number that the tree of a name has, or that it gets when it is opened. The tests of an opening are made first.
     fn number_ahead(&self, name: &[u8]) -> Result<u64>
         ensures ok { IfOk result (λ number. number ≡ number_opened ((db_state P.store M.meant self.now).trees name.now) (db_state P.store M.meant self.now)) }
         ensures err { IfErr result (λ e. WholeRefused P.store M.meant self.now (OpenTree name.now) e self.now) }
@@ -155,8 +155,8 @@ impl<P: Pages, M: MergeOperator> Db<P, M> {
     }
 
     /// Opens the tree of a name, as `open_tree` does, and answers the call's reply (`Reply::Tree`) and two copies of it. The copies are
-    /// made before the action that decides it. Refused as `open_tree` is, and with `NoMemory` where there is no memory for the copies:
-    /// there is no tree more then, but a page that was made for one may be left behind.
+    /// made before the action that decides it. Refused as `open_tree` is, and with `NoMemory` if there is no memory for the copies: there
+    /// is no tree more then, but a page that was made for one may be left behind.
     ///
     /// ```
     /// let (reply, one, other) = db.open_tree_kept(b"orders")?; // Three equal replies.

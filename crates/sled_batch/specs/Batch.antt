@@ -7,6 +7,6 @@ use Rattle.sled_nodes.specs.Order.{Key, key_cmp}
 abbrev pub Writes : Type 0
 Writes = List (Key × Option Key)
 
--- the keys rise, so that no key stands twice
+-- the keys rise, so that no key is twice
 abbrev pub Rises : Writes → Type 0
 Rises writes = is_sorted key_cmp writes ≡ true

@@ -21,7 +21,7 @@ pub struct Batch {
     writes: BTreeMap<IVec, Option<IVec>>,
 }
 
-// By hand, so that whoever lets go of a batch cites this, and need not prove again how each of its parts goes.
+// By hand, so that each function that drops a batch cites this, and does not prove again how its parts are dropped.
 impl Drop for Batch {
     fn drop(self) {
         let Batch { writes } = self;

@@ -198,8 +198,8 @@ change_at bytes =
     then_read (byte_at bytes) (λ kind.
     change_of_kind kind.0 kind.1)
 
--- All changes up to the end of the bytes. Each takes a byte at least, so the number, which bounds them, is never used up
--- where it is that of the bytes.
+-- All changes up to the end of the bytes. Each takes a byte at least, so the number, which bounds them, is never used up if
+-- it is that of the bytes.
 unfoldable pub changes_from : List ℕ → ℕ → Result (List Change) Flaw
 changes_from [] most = Ok []
 changes_from (b ∷ bytes) zero = Err Short

@@ -1,4 +1,4 @@
-//! Changes that bytes stand for.
+//! Changes, read from bytes.
 ghost use Rattle.std.specs.Prelude.{◌≡◌, ◌≤◌, ◌<◌, ◌++◌, ℕ, List, length, drop, IfOk, Ok};
 ghost use Rattle.std.specs.List.{flat_map, All};
 ghost use Rattle.sled_bytes.specs.declared.change.Change.{Change};
@@ -109,8 +109,8 @@ pub fn change_of(alloc: Global, bytes: &[u8], at: usize) -> Result<(Change, usiz
     of_kind(alloc, kind, bytes, behind)
 }
 
-/// The change that the bytes begin with, and how many bytes it takes. Refused where they begin with none, with the first flaw
-/// from the left, and where there is no memory for it.
+/// The change that the bytes begin with, and how many bytes it takes. Refused if they begin with none, with the first flaw from
+/// the left, and if there is no memory for it.
 ///
 /// ```
 /// let mut bytes = Vec::new(alloc);
@@ -145,8 +145,8 @@ fn all_of(alloc: Global, bytes: &[u8]) -> Result<Vec<Change>, Refusal>
     Ok(changes)
 }
 
-/// The changes that the bytes are, one after the other, all of the bytes. Refused where they are none, with the first flaw
-/// from the left, and where there is no memory for them.
+/// The changes that the bytes are, one after the other, all of the bytes. Refused if they are none, with the first flaw from
+/// the left, and if there is no memory for them.
 ///
 /// ```
 /// match decode_changes(alloc, &[5, 6]) {

@@ -1,4 +1,4 @@
-//! Links that bytes stand for.
+//! Links, read from bytes.
 ghost use Rattle.std.specs.Prelude.{◌≡◌, ◌≤◌, ℕ, length, drop, IfOk};
 ghost use Rattle.sled_bytes.specs.Reading.{Takes, set_at, del_at, intention_at, link_of_kind, link_at};
 

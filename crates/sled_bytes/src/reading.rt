@@ -1,4 +1,4 @@
-//! Nodes that bytes stand for.
+//! Nodes, read from bytes.
 ghost use Rattle.std.specs.Prelude.{◌≡◌, ◌≤◌, ◌++◌, ℕ, List, length, drop, IfOk, Ok};
 ghost use Rattle.sled_nodes.specs.declared.node.Node.{Node};
 ghost use Rattle.sled_bytes.specs.Spelling.{node_bytes, FitsBytes};
@@ -149,8 +149,8 @@ pub fn node_of(alloc: Global, bytes: &[u8], at: usize) -> Result<(Node, usize), 
     Ok((node, at))
 }
 
-/// The node that the bytes begin with, and how many bytes it takes. Refused where they begin with none, with the first flaw
-/// from the left, and where there is no memory for it.
+/// The node that the bytes begin with, and how many bytes it takes. Refused if they begin with none, with the first flaw from
+/// the left, and if there is no memory for it.
 ///
 /// ```
 /// let mut bytes = Vec::new(alloc);

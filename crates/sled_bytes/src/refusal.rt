@@ -16,9 +16,9 @@ pub enum Flaw {
 /// Why bytes were not read.
 #[derive(Drop)]
 pub enum Refusal {
-    /// There was no memory for what they stand for.
+    /// There was no memory for what they encode.
     NoMemory,
-    /// They stand for nothing.
+    /// They encode nothing.
     Flawed(Flaw),
 }
 

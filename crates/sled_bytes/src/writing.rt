@@ -10,7 +10,7 @@ use crate::change::Change;
 use sled_nodes::{Data, Error, IVec, Index, Leaf, Link, Node, Pid, Result, Version};
 use std::alloc::AllocError;
 
-// What is answered where bytes are added. Where that is refused, some of them may stand there, after what stood there.
+// The result of adding bytes. If it is refused, some of them may have been added behind those before.
 type Added = std::result::Result<(), AllocError>;
 
 #[tactic(auto, unfolding(crate::specs::Spelling::number))]

@@ -32,7 +32,7 @@ crash_maps_after_whole (Watch tree prefix) added after kept = kept ++ added
 crash_maps_after_whole (Next subscriber) added after kept = kept ++ added
 crash_maps_after_whole (Unsubscribe subscriber) added after kept = kept ++ added
 
--- .. and after a step: by those that the step added, where it is no such call
+-- .. and after a step: by those that the step added, if it is no such call
 abbrev pub crash_maps_after : Step → Outcome → List Maps → Maps → List Maps → List Maps
 crash_maps_after (step.Whole whole) (Decided reply) added after kept = crash_maps_after_whole whole added after kept
 crash_maps_after s o added after kept = kept ++ added

@@ -42,7 +42,7 @@ abbrev pub turns_of_run : {P M : Type 0} (store : P → Store) (flush_number : P
 turns_of_run store flush_number meant NoStep = []
 turns_of_run store flush_number meant (OneStep {a = a} {m = m} {step = s} {outcome = o} one rest) = turns_of_step store flush_number meant a s o m one ++ turns_of_run store flush_number meant rest
 
--- what a subscriber is told by these steps, in order
+-- what a subscriber gets by these steps, in order
 abbrev pub told_to : ℕ → List Step → List Outcome → List Next
 told_to n (s ∷ ss) (o ∷ os) = told_at n s o ++ told_to n ss os
 told_to n ss os = []
@@ -72,15 +72,15 @@ pub record Hears {P M : Type 0} (store : P → Store) (flush_number : P → ℕ)
   -- the queues after the steps are those that their turns make of them
   pub queues : (a b : MachineValue P M) (steps : List Step) (outcomes : List Outcome) (run : MakesSteps store flush_number meant a steps outcomes b)
       → queues_at b ≡ after_turns (turns_of_run store flush_number meant run) (queues_at a)
-  -- Two lists are equal while the count was never at the greatest u64. The one is what its calls told it, with n events at each
+  -- Two lists are equal while the count was never at the greatest u64. The one is what its calls returned, with n events at each
   -- `Missed(n)`, then as many as its count, and then those that wait for it. The other is what it had at first, and then the events under
   -- its prefix of its tree that the decided calls brought, each once and in the order of their decisions
   pub hears : (a b : MachineValue P M) (steps : List Step) (outcomes : List Outcome) (run : MakesSteps store flush_number meant a steps outcomes b)
       → (n : ℕ) (q : Queue) → queues_at a n ≡ Some q → IsKept n steps
       → hearing.CountsAll n (turns_of_run store flush_number meant run) (queues_at a) → (all : List Event) → hearing.Holds q.backlog all
       → hearing.Hears (told_to n steps outcomes) (all ++ brought q (turns_of_run store flush_number meant run)) (backlog_in (queues_at b n))
-  -- while the database is open and it missed none, a copy that it changes by each event that it is told is, once it is changed by those
-  -- that wait too, a copy of its tree's map
+  -- while the database is open and it missed none, a copy that it changes by each event that it gets is, once it is changed by those that
+  -- wait too, a copy of its tree's map
   pub follows : (a b : MachineValue P M) (steps : List Step) (outcomes : List Outcome) → MakesSteps store flush_number meant a steps outcomes b → IsDb store a.db → (db_state store meant b.db).is_open ≡ true
       → (n : ℕ) (q : Queue) → queues_at a n ≡ Some q → IsKept n steps → (name : Key) → KeepsTree name steps outcomes
       → TellsEvents (told_to n steps outcomes) → (backlog_in (queues_at b n)).missed ≡ 0

@@ -14,7 +14,7 @@ use Rattle.sled.specs.Values.{DbValue}
 use Rattle.tree_steps.specs.Outcomes.{kept_of}
 use Rattle.sled.specs.Parts.{ClearsParts, ImportsParts, ImportRefusedAfter}
 
--- Of a whole call two copies of the reply are kept, as of a step; but what a subscriber was told next is not: `Done` stands for it
+-- Of a whole call two copies of the reply are kept, as of a step; but what a subscriber got next is not: `Done` is in its place
 abbrev pub kept_of_whole : Whole → Outcome → Option (Reply × Reply)
 kept_of_whole Flush o = kept_of o
 kept_of_whole (PopMin tree) o = kept_of o

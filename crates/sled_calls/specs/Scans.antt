@@ -20,7 +20,7 @@ use Rattle.sled_calls.specs.Step.{MachineStep}
 use Rattle.sled_calls.specs.Values.{MachineValue, slots_of, configuration_of}
 
 -- A call of a machine that is no step, as one with a closure, changes the database alone, as its clause `same` says; and after it the
--- maps ascend, as `Machine::audit` tells
+-- maps ascend, as `Machine::audit` states
 pub record ChangesDb {P M : Type 0} (store : P → Store) (meant : M → Merge) (old new : MachineValue P M) : Type 0 where
   pub same : new ≡ record old { db = new.db }
   pub ascend : MapsAscend (maps_of (db_state store meant new.db))
@@ -49,12 +49,12 @@ run_of store flush_number meant (ChangeMade change rest) =
 
 -- What every scan gives over every list of steps after its begin, whatever other calls do between its own
 pub record Scans {P M : Type 0} (store : P → Store) (flush_number : P → ℕ) (meant : M → Merge) : Type 0 where
-  -- where calls that are no steps may have been made too
+  -- calls that are no steps may have been made too
   pub scans : (a b c : MachineValue P M) (tree : Tree) (lo hi : Bound Key) (back : Bool) (slot : ℕ) (steps : List Step) (outcomes : List Outcome)
       → IsDb store a.db → MachineStep store flush_number meant a (step.Begin tree (Scan lo hi back)) (Begun slot) b
       → (made : MakesStepsBeside store flush_number meant b steps outcomes c)
       → IsScanned slot tree (record { lo = lo; hi = hi; back = back }) (run_of store flush_number meant made)
-  -- and so where only steps were made
+  -- and if only steps were made
   pub alone : (a b c : MachineValue P M) (tree : Tree) (lo hi : Bound Key) (back : Bool) (slot : ℕ) (steps : List Step) (outcomes : List Outcome)
       → IsDb store a.db → MachineStep store flush_number meant a (step.Begin tree (Scan lo hi back)) (Begun slot) b
       → (made : MakesSteps store flush_number meant b steps outcomes c)

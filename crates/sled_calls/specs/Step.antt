@@ -64,15 +64,15 @@ pub record BringsAt (s : State) (slot : ℕ) (event : Option Event) : Type 0 whe
   pub there : s.trees flying.tree.name ≡ Some tree
   pub is : (answer_of tree.merge flying.call tree.map).event ≡ event
 
--- what a decided call does: no action where it brings no event, and one changing action where it brings one
+-- what a decided call does: no action if it brings no event, and one changing action if it brings one
 pub record DecidesBy (s : State) (slot : ℕ) (old new : Store) : Type 0 where
   pub does : ActsAtMostOnce old new
   pub quiet : BringsAt s slot None → new ≡ old
   pub loud : (event : Event) → BringsAt s slot (Some event) → ActsOnce old new
 
--- What a step does to the store: a call that begins or is given up, or that no slot has, does nothing. A step of a slot does at most
--- one changing action: none where a scan gives a pair, or the call is refused or decided without an event, and one where it is decided
--- with one. A fault that the store counts refuses the call with `Io`
+-- What a step does to the store: a call that begins or is abandoned, or that no slot has, does nothing. A step of a slot does at most
+-- one changing action: none if a scan gives a pair, or the call is refused or decided without an event, and one if it is decided with
+-- one. A fault that the store counts refuses the call with `Io`
 abbrev pub effect_of_machine_step : State → Step → Outcome → Store → Store → Type 0
 effect_of_machine_step s (step.Begin tree call) o old new = new ≡ old
 effect_of_machine_step s (step.Step slot) (Yielded key value) old new = new ≡ old
@@ -86,7 +86,7 @@ effect_of_machine_step s (step.Whole whole) o old new = effect_of_whole (kind_of
 pub record MachineActs {P M : Type 0} (store : P → Store) (meant : M → Merge) (old : MachineValue P M) (s : Step) (o : Outcome) (new : MachineValue P M) : Type 0 where
   pub is : effect_of_machine_step (configuration_of store (λ p. 0) meant old).state s o (store old.db.pages) (store new.db.pages)
 
--- the call did what its stage is to do, and stands where that leads; and a scan gave the next pair, or went on from behind its leaf
+-- the call did what its stage is to do, and is at the stage that follows; and a scan gave the next pair, or went on from behind its leaf
 pub record FollowsAt {P M : Type 0} (store : P → Store) (old : MachineValue P M) (f : InFlight) (slot : ℕ) (o : Outcome) (new : MachineValue P M) : Type 0 where
   pub went : Went
   pub next : InFlight
@@ -94,7 +94,7 @@ pub record FollowsAt {P M : Type 0} (store : P → Store) (old : MachineValue P 
   pub there : kept_at new.flights slot ≡ flight_after went next
   pub follows : follows_as (range_of f.job.call) (store old.db.pages) f went (store new.db.pages) next
 
--- a step of a slot follows from the stage of its call, where the tests pass and a turn is left
+-- a step of a slot follows from the stage of its call, if the tests pass and a turn is left
 abbrev pub follows_stage_as : {P M : Type 0} → (P → Store) → (M → Merge) → MachineValue P M → Step → Outcome → MachineValue P M → Type 0
 follows_stage_as store meant old (step.Step slot) o new = (f : InFlight) → kept_at old.flights slot ≡ Some f → must_refuse (db_state store meant old.db) (ToStep (call_in_flight_of f)) ≡ None → f.turns < turns_limit → FollowsAt store old f slot o new
 follows_stage_as store meant old s o new = Unit {0}
@@ -130,8 +130,8 @@ abbrev pub starts_as : {P M : Type 0} → Step → Outcome → MachineValue P M 
 starts_as (step.Begin tree call) (Begun slot) new = kept_at new.flights slot ≡ Some (record { job = record { tree = tree; call = call }; aim = Own; stage = Root; turns = 0 })
 starts_as s o new = Unit {0}
 
--- a call that begins stands in its slot; and the calls in all other slots are as they were, with what they know of the pages and what
--- they own
+-- a call that begins is in its slot; and the calls in all other slots are as they were, with what they know of the pages and what they
+-- own
 pub record MachineSlots {P M : Type 0} (old : MachineValue P M) (s : Step) (o : Outcome) (new : MachineValue P M) : Type 0 where
   pub starts : starts_as s o new
   pub others : (slot : ℕ) → slot_of s o ≢ Some slot → kept_at new.flights slot ≡ kept_at old.flights slot
@@ -141,8 +141,8 @@ abbrev pub lost_by : Step → Outcome → Option Key
 lost_by (step.Whole whole) (Decided reply) = lost_of whole reply
 lost_by s o = None
 
--- each page of a tree stands there still, or is merging, but for those of the tree that is lost. A whole call but a flush does many
--- actions, and a page that merged may have been freed by then
+-- each page of a tree is still there, or is merging, but for those of the tree that is lost. A whole call but a flush does many actions,
+-- and a page that merged may have been freed by then
 abbrev pub whole_keeps_tree_pages : Kind → Option Key → Snapshot → Snapshot → Type 0
 whole_keeps_tree_pages Flushing lost old new = KeepsTreePages None old new
 whole_keeps_tree_pages kind lost old new = KeepsOrFreesTreePages lost old new
@@ -170,7 +170,7 @@ leaks_no_page_at store old s o new = Unit {0}
 pub record MachineLeaksNoPage {P M : Type 0} (store : P → Store) (old : MachineValue P M) (s : Step) (o : Outcome) (new : MachineValue P M) : Type 0 where
   pub is : leaks_no_page_at store old s o new
 
--- when a whole call may be told that its turns were used up: a pop only where the tree is large or its way to the key is long
+-- when a whole call may be refused for its turns: a pop only if the tree is large or its way to the key is long
 abbrev pub whole_gives_up : {P M : Type 0} → (P → Store) → (M → Merge) → DbValue P M → Whole → Error → Type 0
 whole_gives_up store meant old Flush e = Unit {0}
 whole_gives_up store meant old (PopMin tree) e = GivesUpPop store meant old tree IsLeast once e
@@ -204,7 +204,7 @@ tested_as store meant old s o new = Unit {0}
 pub record MachineTested {P M : Type 0} (store : P → Store) (meant : M → Merge) (old : MachineValue P M) (s : Step) (o : Outcome) (new : MachineValue P M) : Type 0 where
   pub is : tested_as store meant old s o new
 
--- The way in which a pop and a clear come to what they answer: the steps of each removal, one after the other, and no others
+-- The way in which a pop and a clear get their answers: the steps of each removal, one after the other, and no others
 abbrev pub pops_as : {P M : Type 0} → (P → Store) → (M → Merge) → DbValue P M → Tree → (Map → Option (Key × Key) → Type 0) → (ℕ → ℕ) → Outcome → DbValue P M → Type 0
 pops_as store meant old tree is_end of (Decided reply) new = (found : Option (Key × Key)) × (reply ≡ Pair found) × PopsBySteps store meant old tree is_end found new
 pops_as store meant old tree is_end of (Refused e) new = PopRefusedBySteps store meant old tree is_end of e new
@@ -227,7 +227,7 @@ drops_tree_as store meant old name (Decided reply) new = (dropped : Bool) × (re
 drops_tree_as store meant old name (Refused e) new = RefusesDrop store meant old name e new
 drops_tree_as store meant old name o new = Unit {0}
 
--- a group that brings no event does nothing, and where it is decided one that brings an event was begun and sealed
+-- a group that brings no event does nothing, and if it is decided one that brings an event was begun and sealed
 abbrev pub groups_as : {P M : Type 0} → (P → Store) → (M → Merge) → DbValue P M → List (Tree × Writes) → Outcome → DbValue P M → Type 0
 groups_as store meant old batches (Decided reply) new = IsQuietGroup store meant old batches new × is_loud_group store meant old batches new
 groups_as store meant old batches (Refused e) new = IsQuietGroup store meant old batches new

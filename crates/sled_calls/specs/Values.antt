@@ -28,7 +28,7 @@ kept_at flights slot = lookup (is_at (nat_cmp slot)) flights
 abbrev pub slots_of : List (ℕ × InFlight) → ℕ → Option CallInFlight
 slots_of flights slot = option_map call_in_flight_of (kept_at flights slot)
 
--- the state of the machine, the store that it stands on, and the number that a flush would answer
+-- the state of the machine, its store, and the number that a flush would answer
 abbrev pub configuration_of : {P M : Type 0} → (P → Store) → (P → ℕ) → (M → Merge) → MachineValue P M → Configuration
 configuration_of store flush_number meant m = instant_of_db store meant m.db (slots_of m.flights) m.slots_given (flush_number m.db.pages)
 

@@ -21,7 +21,7 @@ use sled_store::Pages;
 use sled_tree::{InFlight, Job, Went};
 use std::collections::BTreeMap;
 
-// How a step came out, as a machine tells it.
+// The outcome of a step, as a machine returns it.
 pub(crate) fn outcome_of(went: Went) -> Outcome
     ensures { result ≡ outcome_of went }
 {
@@ -81,7 +81,7 @@ pub(crate) fn add(flights: &mut BTreeMap<u64, InFlight>, slot: u64, flight: InFl
     }
 }
 
-// Lets the call in a slot go, and says whether there was one.
+// Drops the call in a slot, and says whether there was one.
 pub(crate) fn remove(flights: &mut BTreeMap<u64, InFlight>, slot: u64) -> bool
     ensures was { result ≡ is_some (get nat_cmp flights.old slot) }
     ensures gone { (n : ℕ) → get nat_cmp flights.new n ≡ put_at (get nat_cmp flights.old) slot None n }
@@ -96,7 +96,7 @@ pub(crate) fn remove(flights: &mut BTreeMap<u64, InFlight>, slot: u64) -> bool
     }
 }
 
-// Tells how the call in a slot came out. One that has ended is let go.
+// The outcome of the call in a slot. One that has ended is dropped.
 fn settle(flights: &mut BTreeMap<u64, InFlight>, slot: u64, went: Went) -> Outcome
     ensures told { result ≡ outcome_of went }
     ensures stays { (flight : InFlight) → get nat_cmp flights.old slot ≡ Some flight → (n : ℕ) → get nat_cmp flights.new n ≡ put_at (get nat_cmp flights.old) slot (flight_after went flight) n }
@@ -129,7 +129,7 @@ fn advance_in<P: Pages, M: MergeOperator>(
     }
 }
 
-// The same, and a call that has ended is let go.
+// The same, and a call that has ended is dropped.
 pub(crate) fn step_in<P: Pages, M: MergeOperator>(
     db: &mut Db<P, M>,
     flights: &mut BTreeMap<u64, InFlight>,
@@ -166,7 +166,7 @@ fn keep_in<P: Pages, M: MergeOperator>(
     }
 }
 
-// The same, and a call that has ended is let go.
+// The same, and a call that has ended is dropped.
 pub(crate) fn step_kept_in<P: Pages, M: MergeOperator>(
     db: &mut Db<P, M>,
     flights: &mut BTreeMap<u64, InFlight>,
@@ -203,7 +203,7 @@ fn advance_to_end_in<P: Pages, M: MergeOperator>(
     }
 }
 
-// The same, and a call that has ended is let go.
+// The same, and a call that has ended is dropped.
 pub(crate) fn finish_in<P: Pages, M: MergeOperator>(
     db: &mut Db<P, M>,
     flights: &mut BTreeMap<u64, InFlight>,

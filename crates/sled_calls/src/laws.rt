@@ -34,7 +34,7 @@ pub fn law_hears<P: Pages, M: MergeOperator>()
     ensures { Hears P.store P.flush_number M.meant }
 {}
 
-/// Over every list of steps that follows its begin, whatever other calls do between its own, a scan gives pairs whose keys lie within
+/// Over every list of steps that follows its begin, whatever other calls do between its own, a scan gives pairs whose keys are within
 /// its bounds and strictly rise or, backwards, fall. Each of them was in the map of its tree at some moment since the begin. When the scan
 /// ends, it has given each key within its bounds that was in the map at each of its steps. Beside the steps there may be calls that are
 /// none, as `update_and_fetch` or a transaction.

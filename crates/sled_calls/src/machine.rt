@@ -33,7 +33,7 @@ pub struct Machine<P: Pages, M = Box<dyn MergeOperator + Send>> {
     slots_given: u64,
 }
 
-// By hand, so that whoever lets go of a machine cites this, and need not prove again how each of its parts goes.
+// By hand, so that each function that drops a machine cites this, and does not prove again how its parts are dropped.
 impl<P: Pages, M: Drop> Drop for Machine<P, M> {
     fn drop(self) {
         let Machine {
@@ -102,7 +102,7 @@ impl<P: Pages, M: MergeOperator> Machine<P, M> {
         &self.db
     }
 
-    /// The database. The calls in flight are given up.
+    /// The database. The calls in flight are abandoned.
     ///
     /// ```
     /// let pages = machine.into_db().into_pages();
@@ -137,7 +137,7 @@ impl<P: Pages, M: MergeOperator> Machine<P, M> {
     }
 
     /// Gives a tree a merge operator, in place of the one that it has. A merge is decided by the operator that its tree has at the
-    /// step that decides it. The calls in flight stay as they are, and a call that is refused lets the operator go.
+    /// step that decides it. The calls in flight stay as they are, and a call that is refused drops the operator.
     ///
     /// ```
     /// machine.set_merge_operator(&tree, Adds)?; // An operator that adds numbers.
@@ -150,8 +150,8 @@ impl<P: Pages, M: MergeOperator> Machine<P, M> {
         self.db.set_merge_operator(tree, operator)
     }
 
-    /// Sets the value at a key to what the closure makes of the one that stands there, as `update_and_fetch` of the database
-    /// does, and answers the new value. The calls in flight stay as they are.
+    /// Sets the value at a key to what the closure makes from the one that is there, as `update_and_fetch` of the database does,
+    /// and answers the new value. The calls in flight stay as they are.
     ///
     /// ```
     /// // The value is taken out, whatever it is.
@@ -168,7 +168,7 @@ impl<P: Pages, M: MergeOperator> Machine<P, M> {
         self.db.update_and_fetch(tree, key, f)
     }
 
-    /// The same, but that it answers the value that stood there before.
+    /// The same, but that it answers the value that was there before.
     ///
     /// ```
     /// let taken = machine.fetch_and_update(&tree, b"ulm", |_| Ok(None))?;
@@ -236,7 +236,7 @@ impl<P: Pages, M: MergeOperator> Machine<P, M> {
         self.db.transaction_all(trees, f)
     }
 
-    // The tests that come before a call on a tree begins.
+    // The tests before a call on a tree begins.
     fn check_begin(&self, tree: &Tree, call: &Call) -> Result<()>
         ensures tested { OnOk result (must_refuse (db_state P.store M.meant self.now.db) (ToBegin tree.now call.now) ≡ None) }
         ensures room { OnOk result (self.now.slots_given < u64.MAX) }
@@ -499,8 +499,8 @@ impl<P: Pages, M: MergeOperator> Machine<P, M> {
     }
 
     /// Does steps of the call in the slot until it ends; of a scan until it gives its next pair, or ends. There are no more than its
-    /// turns allow. Where no other call left anything to repair on the way to its key, a call on a key that begins goes on at most
-    /// once for each level of its tree.
+    /// turns allow. If no other call left anything to repair on the way to its key, a call on a key that begins goes on at most once
+    /// for each level of its tree.
     ///
     /// ```
     /// let slot = machine.begin(&tree, Call::insert(alloc, b"ulm", b"21")?)?;
@@ -525,7 +525,7 @@ impl<P: Pages, M: MergeOperator> Machine<P, M> {
 
     /// Does a call on a key from its begin to its end: what `begin` does, and then `finish` of the slot. The slot is given, but
     /// nothing is kept in it, and the tests are made once. The call must be no scan, which does not end with its first pair: that it
-    /// is none is what `Call::is_on_key` tells.
+    /// is none is what `Call::is_on_key` says.
     ///
     /// ```
     /// let outcome = machine.complete(&tree, Call::insert(alloc, b"ulm", b"21")?);
@@ -547,7 +547,7 @@ impl<P: Pages, M: MergeOperator> Machine<P, M> {
         }
     }
 
-    // Does a call that passed the tests at once, where nothing is to be repaired on the way to its leaf and nobody is told.
+    // Does a call that passed the tests at once, if nothing is to be repaired on the way to its leaf and no subscriber waits for the event.
     #[inline(always)]
     fn complete_quick(&mut self, tree: &Tree, call: &Call) -> Option<Outcome>
         requires on_key { IsOnKey call.now }
@@ -588,7 +588,7 @@ impl<P: Pages, M: MergeOperator> Machine<P, M> {
         outcome_of(went)
     }
 
-    // Begins a copy of a call. The tests come before the copy is made.
+    // Begins a copy of a call. The tests are made before the copy is.
     fn begin_copy(&mut self, tree: &Tree, call: &Call) -> Outcome
         ensures { MachineStepContract P.store P.flush_number M.meant self.old (step.Begin tree.now call.now) result self.new }
     {

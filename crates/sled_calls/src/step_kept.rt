@@ -1,4 +1,4 @@
-//! Steps that keep copies of the reply, for whoever records what calls came to.
+//! Steps that keep copies of the reply, for programs that record the outcomes of calls.
 ghost use Rattle.std.specs.Prelude.{◌≡◌};
 ghost use Rattle.sled_model.specs.declared.outcome.Step.TheVariants as step;
 ghost use Rattle.tree_steps.specs.Outcomes.{kept_of};
@@ -11,9 +11,9 @@ use sled_store::Pages;
 impl<P: Pages, M: MergeOperator> Machine<P, M> {
     ghost use Rattle.sled_calls.specs.Step.{MachineStep, MachineSound, MachineActs, MachineFollows, MachinePasses, MachineSlots, MachineKeepsTreePages, MachineLeaksNoPage};
 
-    /// Does the next page action of the call in the slot, as `step` does; where that decides the call, with two copies of the reply.
-    /// They are made before the action that decides it: where there is no memory for them the step is refused with `NoMemory`, which
-    /// ends the slot as any refusal does.
+    /// Does the next page action of the call in the slot, as `step` does; if that decides the call, with two copies of the reply. They
+    /// are made before the action that decides it: if there is no memory for them the step is refused with `NoMemory`, which ends the
+    /// slot as any refusal does.
     ///
     /// ```
     /// let slot = machine.begin(&tree, Call::remove(alloc, b"ulm")?)?;

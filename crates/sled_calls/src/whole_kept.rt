@@ -9,7 +9,7 @@ use sled_model::{Collection, MergeOperator, Outcome, Reply, Subscriber, Tree, Wh
 use sled_nodes::IVec;
 use sled_store::Pages;
 
-// The reply again, where it owns no memory; `Done` in place of any other.
+// The reply again, if it owns no memory; `Done` in place of any other.
 fn light(reply: &Reply) -> Reply
     ensures { result ≡ light_of reply.now }
 {
@@ -21,7 +21,7 @@ fn light(reply: &Reply) -> Reply
     }
 }
 
-// Two copies of a reply that owns no memory, where a call is decided.
+// Two copies of a reply that owns no memory, if a call is decided.
 fn light_copies(outcome: &Outcome) -> Option<(Reply, Reply)>
     ensures { result ≡ light_copies outcome.now }
 {
@@ -36,13 +36,13 @@ impl<P: Pages, M: MergeOperator> Machine<P, M> {
     ghost use Rattle.sled_calls.specs.Kept.{kept_of_whole, CountsParts};
     ghost use Rattle.sled_calls.specs.theory.Kept.{IsLight, KeepsWhole};
 
-    /// Does a whole call, as `whole` does. Where it is decided, two copies of its reply come beside it. Those of a pop and of an opening
-    /// take memory, and are made before the action that decides it: where there is none the call is refused with `NoMemory`, and then it
+    /// Does a whole call, as `whole` does. If it is decided, two copies of its reply are returned too. Those of a pop and of an opening
+    /// take memory, and are made before the action that decides it: if there is none the call is refused with `NoMemory`, and then it
     /// changed no map. Of `Next`, which gives each event once, the copies are `Done`.
     ///
-    /// The number tells how many parts a `Clear` or an `Import` did, also of one that is refused midway. Of a `Clear` it counts the keys
-    /// that it took out, of an `Import` the trees that it opened and the pairs that it put in. `u64::MAX` stands for as many or more. Of
-    /// any other call it is 0.
+    /// The number says how many parts a `Clear` or an `Import` did, also of one that is refused midway. Of a `Clear` it counts the keys
+    /// that it took out, of an `Import` the trees that it opened and the pairs that it put in. `u64::MAX` means as many or more. Of any
+    /// other call it is 0.
     ///
     /// ```
     /// match machine.whole_kept(Whole::PopMin(tree)) {

@@ -15,7 +15,7 @@ byte_by number old new = if nat_eq number 0 then new else (if nat_eq number 1 th
 abbrev pub bytes_by : List ℕ → ℕ → List ℕ → List ℕ → List ℕ
 bytes_by numbers count old new = map (λ i. byte_by (chosen_of 257 (drop i numbers)) (slice_index old i) (slice_index new i)) (range_with_len 0 count)
 
--- how many bytes of a write come to be: those within the file, and past its end as many as the first number says
+-- how many bytes of a write are written: those within the file, and past its end as many as the first number says
 abbrev pub count_by : List ℕ → ℕ → List ℕ → List ℕ → ℕ
 count_by numbers at bytes file = let within = min (length file - at) (length bytes) in within + chosen_of (length bytes - within) numbers
 
@@ -23,11 +23,11 @@ count_by numbers at bytes file = let within = min (length file - at) (length byt
 abbrev pub is_single : ℕ → List ℕ → List ℕ → Bool
 is_single at bytes file = nat_eq (length bytes) 1 && nat_lt at (length file)
 
--- what becomes of a write that is not: each byte that comes to be has a number behind the first one
+-- what becomes of a write that is not: each byte that is written has a number behind the first one
 abbrev pub several_by : List ℕ → ℕ → List ℕ → List ℕ → List ℕ
 several_by numbers at bytes file = take at file ++ bytes_by (drop 1 numbers) (count_by numbers at bytes file) (drop at file) bytes ++ drop (at + length bytes) file
 
--- what becomes of a write. Where the file ends before it, since an earlier write was lost, it is lost too
+-- what becomes of a write. If the file ends before it, since an earlier write was lost, it is lost too
 abbrev pub torn_by : List ℕ → ℕ → List ℕ → List ℕ → List ℕ
 torn_by numbers at bytes file =
     if nat_lt (length file) at then file

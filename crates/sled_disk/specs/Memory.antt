@@ -55,8 +55,8 @@ calls_made m = m.made
 abbrev pub faults_of : MemoryDisk → ℕ
 faults_of m = m.faults
 
--- A call of a disk in memory, with this fault where its number was named. A call whose number was not is refused for want of memory
--- alone. A refused call changes nothing, but that it is counted.
+-- A call of a disk in memory, with this fault if its number was named. A call whose number was not is refused for want of memory alone. A
+-- refused call changes nothing, but that it is counted.
 pub record IsCall {T : Type 0} (fault : DiskError) (old new : MemoryDisk) (result : Result T DiskError) : Type 0 where
   pub counted : calls_made new ≡ min (calls_made old + 1) last_number
   pub named : calls_refused new ≡ calls_refused old

@@ -6,7 +6,7 @@ ghost use Rattle.sled_disk.specs.declared.disk.DiskError.TheVariants.{NoMemory};
 use crate::Result;
 use std::alloc::Global;
 
-/// Numbers, each of which chooses once, the first of them first. Where they are used up, 0 chooses.
+/// Numbers, each of which chooses once, the first of them first. If they are used up, 0 chooses.
 #[derive(Drop)]
 pub struct Choices {
     numbers: Vec<u64>,

@@ -32,8 +32,8 @@ impl Call {
     }
 }
 
-/// A file in memory, for tests: it can be told to refuse calls, and what a crash leaves of it is for the test to choose. It keeps
-/// each write since it was made.
+/// A file in memory, for tests: it can be set to refuse calls, and what a crash leaves of it is for the test to choose. It keeps each
+/// write since it was made.
 #[derive(Drop)]
 pub struct MemoryDisk {
     alloc: Global,
@@ -57,7 +57,7 @@ fn fault_of(is_write: bool) -> DiskError
     }
 }
 
-// Counts a fault. Where no more can be counted there is none.
+// Counts a fault. If no more can be counted there is none.
 fn fault(faults: &mut u64, is_write: bool) -> DiskError
     ensures caused { is_caused faults.old faults.new result }
     ensures is { result ≡ (if nat_lt faults.old last_number then (if is_write then Full else Failed) else NoMemory) }
@@ -69,7 +69,7 @@ fn fault(faults: &mut u64, is_write: bool) -> DiskError
     fault_of(is_write)
 }
 
-// Counts a call, which is refused where its number was named.
+// Counts a call, which is refused if its number was named.
 fn count_call(made: &mut u64, faults: &mut u64, refused: &[u64], is_write: bool) -> Result<()>
     ensures cause { HasCause faults.old faults.new result }
     ensures counted { made.new ≡ min (made.old + 1) last_number }
@@ -146,7 +146,7 @@ fn made_by(alloc: Global, call: &Call, file: &[u8], choices: &mut Choices) -> Re
     }
 }
 
-// A write of which a part comes to the disk, and in it other bytes than those that were written.
+// A write of which a part reaches the disk, and in it other bytes than those that were written.
 fn torn(
     alloc: Global,
     file: &[u8],
@@ -171,7 +171,7 @@ fn torn(
     several(alloc, file, at, bytes, choices)
 }
 
-// The same of several bytes, or of those that come to be past the end.
+// The same of several bytes, or of those that are written past the end.
 fn several(
     alloc: Global,
     file: &[u8],
@@ -285,7 +285,7 @@ impl MemoryDisk {
     /// disk may leave: of each call since the last sync, the first of them first.
     ///
     /// - Of a write of a single byte within the file, a number says whether it is lost (1) or not (0).
-    /// - Of any other write, the first number says how many bytes come to be past the old end. Then a number for each byte says
+    /// - Of any other write, the first number says how many bytes are written past the old end. Then a number for each byte says
     ///   whether it is the new one (0), the old one (1) or any other (2 more than that one).
     /// - Of a write behind the end of what is left, nothing is left, and no number chooses.
     /// - Of a cut, a number says how many bytes it leaves of those to be cut off.

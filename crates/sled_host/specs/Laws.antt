@@ -9,7 +9,7 @@ pub counts_now : (events : List Event) (t : ℕ) (c : List ℕ) → t ≤ length
 counts_now [] t c le left = (le, left)
 counts_now (event ∷ earlier) t c le left = inl (omega (arith, le), left)
 
--- since a moment to come there was none
+-- since a later moment there was none
 none_later : (events : List Event) (t : ℕ) (c : List ℕ) → LeftSince events t c → t ≤ length events
 none_later [] t c left = left.0
 none_later (event ∷ earlier) t c (inl now) = omega (arith, now.0)

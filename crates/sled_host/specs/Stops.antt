@@ -1,4 +1,4 @@
--- After a call that the system did not do, nothing more is asked of a file.
+-- After a call that the system did not do, no more calls of a file are made.
 use Rattle.std.specs.Prelude.{Bool, true, false, not, List, [], ◌∷◌, drop}
 use Rattle.std.specs.List.{list_all}
 use Rattle.sled_host.specs.Event.{Event, opened, wrote, cut, synced}

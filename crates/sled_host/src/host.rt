@@ -14,7 +14,7 @@ use std::io::{self, ErrorKind};
 
 /// A file of the operating system. It can be read until its first change: what it had at its opening is kept in memory until then,
 /// and a later read is refused with `Failed`. After a call was refused that writes, cuts or syncs, each later one is refused with
-/// `Failed`, and nothing more is asked of the file.
+/// `Failed`, and no more calls of the file are made.
 #[derive(Drop)]
 pub struct HostFile {
     system: SystemFile,
@@ -76,7 +76,7 @@ fn go_on(is_failed: bool, faults: &mut u64) -> Result<()>
     }
 }
 
-// What the system answered to a call that changes a file, where a refusal is counted.
+// What the system answered to a call that changes a file. A refusal is counted.
 fn counted(faults: &mut u64, answer: io::Result<()>) -> Result<()>
     ensures cause { HasCause faults.old faults.new result }
     ensures same { is_ok result ≡ is_ok answer }

@@ -4,7 +4,7 @@ ghost use Rattle.sled_host.specs.Host.{calls_of, outcomes_since, IsHonest};
 
 use crate::host::HostFile;
 
-/// Does nothing. It says what an honest disk comes to: what the next opening finds is what a crash since a moment might have left.
+/// Does nothing. It says what an honest disk ensures: what the next opening finds is what a crash since a moment might have left.
 ///
 /// ```
 /// law_honest(&pair.first); // From here on a proof knows what the next opening finds where the disk is honest.

@@ -1,4 +1,4 @@
-//! The two files of a store, in a folder: made where they are not there, locked, and opened.
+//! The two files of a store, in a folder: made if they are not there, locked, and opened.
 ghost use Rattle.std.specs.Prelude.{◌≡◌, true, IfOk};
 ghost use Rattle.sled_disk.specs.Disk.{Only};
 ghost use Rattle.sled_host.specs.Host.{bytes_of, outcomes_of, faults_of};
@@ -23,18 +23,18 @@ const SECOND: &str = "log.1";
 pub struct Opening {
     /// Makes the folder and the files that are not there; else they are refused with `Io` of the kind `NotFound`.
     pub creates: bool,
-    /// Refuses a file system without locks; else `Pair::is_locked` tells of it.
+    /// Refuses a file system without locks; else `Pair::is_locked` says so.
     pub needs_lock: bool,
 }
 
-/// The two files of a store, each of them locked as long as its value lives, where `is_locked`.
+/// The two files of a store, each of them locked as long as its value lives, if `is_locked`.
 #[derive(Drop)]
 pub struct Pair {
     /// `log.0` in the folder.
     pub first: HostFile,
     /// `log.1` in the folder.
     pub second: HostFile,
-    /// Whether no other process can open them. Where it is false, the user has to see to it.
+    /// Whether no other process can open them. If it is false, the user has to see to it.
     pub is_locked: bool,
 }
 
@@ -96,7 +96,7 @@ pub fn open_pair(rt: &HostRuntime, path: &str, opening: Opening) -> Result<Pair,
     ensures first { IfOk result (λ pair. Only (bytes_of pair.first) (outcomes_of pair.first)) }
     ensures second { IfOk result (λ pair. Only (bytes_of pair.second) (outcomes_of pair.second)) }
     ensures unfailing { IfOk result (λ pair. (faults_of pair.first ≡ 0) × (faults_of pair.second ≡ 0)) }
-    // Files that cannot be locked are opened only where that is allowed.
+    // Files that cannot be locked are opened only if that is allowed.
     ensures locked { IfOk result (λ pair. opening.needs_lock ≡ true → pair.is_locked ≡ true) }
 {
     let is_new = opening.creates && make_folder(rt, path)?;
@@ -151,7 +151,7 @@ fn open_file(
     Ok((HostFile::new(system, bytes), is_locked))
 }
 
-// A regular file, which is made where nothing is at the path.
+// A regular file, which is made if nothing is at the path.
 fn open_or_make(rt: &HostRuntime, path: &str, creates: bool) -> Result<File, HostError> {
     let file = match open_new(rt, path, creates)? {
         Some(file) => file,

@@ -1,4 +1,4 @@
-//! The calls of the system that are asked of an open file: each method makes one, and then notes it with its answer.
+//! The calls of the system that are made of an open file: each method makes one, and then notes it with its answer.
 ghost use Rattle.std.specs.Prelude.{◌≡◌, [], ◌∷◌, is_ok, IfOk};
 ghost use Rattle.sled_host.specs.Event.{opened, wrote, cut, synced};
 ghost use Rattle.sled_host.specs.theory.Record.{event_of};

@@ -1,7 +1,7 @@
 //! The machine of a database: for one thread that steps its calls in flight, and in `shared` for several threads.
 //!
-//! `Machine` and its calls stand in `sled_calls`, which is all that a program needs where one thread has the machine. What several threads
-//! share stands in `sled_shared`. Both are named again here.
+//! `Machine` and its calls are in `sled_calls`, which is all that a program needs if one thread has the machine. What several threads share
+//! is in `sled_shared`. Both are named again here.
 #![tactic(auto)]
 
 pub mod shared;

@@ -42,12 +42,12 @@ decision_of_swap value old new =
     then (record { effect = effect_of_write new; reply = Swapped (Ok tt) })
     else (record { effect = effect.Nothing; reply = Swapped (Err (record { current = value; proposed = new })) })
 
--- this value is written, or none is left, and the reply tells it
+-- this value is written, or none is left, and the reply has it
 abbrev pub decision_of_write : Option Key → Decision
 decision_of_write new = record { effect = effect_of_write new; reply = Value new }
 
--- a merge writes what the operator makes of the key's value and the bytes. Without an operator, where it must be refused
--- before, it would leave no value
+-- a merge writes what the operator makes of the key's value and the bytes. Without an operator, if it must be refused before,
+-- it would leave no value
 abbrev pub decision_of_merge : Option Merge → Key → Key → Option Key → Decision
 decision_of_merge None k bytes value = decision_of_write None
 decision_of_merge (Some merge) k bytes value = decision_of_write (merge k value bytes)
@@ -65,8 +65,8 @@ decision_of merge (Scan lo hi back) value = record { effect = effect.Nothing; re
 abbrev pub reply_of_swap : Option Key → Option Key → Option Key → Option Reply
 reply_of_swap value old new = if same_value value old then None else (Some (Swapped (Err (record { current = value; proposed = new }))))
 
--- The reply of a call as the read of its value tells it, where it changes nothing. A call that has none is to link its change:
--- a merge always is, and a swap that finds what it expects. A scan changes nothing
+-- The reply of a call by the value that was read, if it changes nothing. A call that has none is to link its change: a merge
+-- always is, and a swap that finds what it expects. A scan changes nothing
 abbrev pub reply_of_read : Call → Option Key → Option Reply
 reply_of_read (Get k) value = Some (Value value)
 reply_of_read (Insert k v) value = if same_value value (Some v) then (Some (Value value)) else None
@@ -80,7 +80,7 @@ abbrev pub read_decides_as : Decision → Option Reply → Type 0
 read_decides_as decision (Some reply) = decision ≡ record { effect = effect.Nothing; reply = reply }
 read_decides_as decision None = decision.effect ≢ effect.Nothing
 
--- the reply is as the read tells it, and the call comes to it by whatever operator
+-- the reply is the one of the value that was read, and the call has that reply with any operator
 pub record ReadDecides (c : Call) (value : Option Key) (reply : Option Reply) : Type 0 where
   pub is : reply ≡ reply_of_read c value
   pub decides : (merge : Option Merge) → read_decides_as (decision_of merge c value) reply

@@ -4,7 +4,7 @@ use Rattle.sled_model.specs.declared.event.Event.{Event}
 use Rattle.sled_model.specs.declared.event.Next.{Next}
 use Rattle.sled_model.specs.declared.event.Next.TheVariants as told
 
--- how many events were missed since that was last told, and the events that wait, the oldest first
+-- how many events were missed since that was last returned, and the events that wait, the oldest first
 pub record Backlog : Type 0 where
   pub missed : ℕ
   pub events : List Event
@@ -21,7 +21,7 @@ most_missed = 18446744073709551615
 abbrev pub no_backlog : Backlog
 no_backlog = record { missed = 0; events = [] }
 
--- An event comes. Where 1024 wait, the oldest goes and is counted
+-- An event comes. If 1024 wait, the oldest goes and is counted
 abbrev pub comes : Event → Backlog → Backlog
 comes e b = if nat_le queue_limit (length b.events)
     then (record { missed = min (b.missed + 1) most_missed; events = drop 1 b.events ++ e ∷ [] })
@@ -32,7 +32,7 @@ abbrev pub come_all : List Event → Backlog → Backlog
 come_all [] b = b
 come_all (e ∷ es) b = come_all es (comes e b)
 
--- what is told next: how many events were missed, where some were, or else the oldest event that waits
+-- what is returned next: how many events were missed, if some were, or else the oldest event that waits
 abbrev pub next_of : Backlog → Option Next
 next_of b = if nat_eq b.missed 0 then option_map told.Event (slice_get b.events 0) else Some (told.Missed b.missed)
 

@@ -43,7 +43,7 @@ call_of_write w = call_with w.key w.value
 abbrev pub answer_of_write : NamedTree → Write → Answer
 answer_of_write t w = answer_of t.merge (call_of_write w) t.map
 
--- A write is made as its call would be, with its event. There is a tree of its name, where the tests pass
+-- A write is made as its call would be, with its event. There is a tree of its name, if the tests pass
 abbrev pub after_write_on : Option NamedTree → Write → State → State
 after_write_on None w s = s
 after_write_on (Some t) w s = after_decision_on s w.tree.name t (answer_of_write t w)
@@ -83,12 +83,12 @@ pub record Closes (old new : State) : Type 0 where
   pub tags : (name : Key) → option_map tag_of (trees name) ≡ option_map tag_of (old.trees name)
   pub is : new ≡ record old { trees = trees; is_open = false }
 
--- why a group is refused: by the first of the tests that fails, or where none fails for another cause
+-- why a group is refused: by the first of the tests that fails, or if none fails for another cause
 abbrev pub refuses_group_as : Option MustRefuse → Store → Store → Error → Type 0
 refuses_group_as (Some must) a b e = tells must e
 refuses_group_as None a b e = cause_of_group a b e
 
--- A group is refused, and nothing changes; or it was refused midway, where no test failed, and then the database is closed
+-- A group is refused, and nothing changes; or it was refused midway, if no test failed, and then the database is closed
 pub record StopsGroup (old : State) (a b : Store) (batches : List (Tree × Writes)) (e : Error) (new : State) (maps : List Maps) : Type 0 where
   pub why : refuses_group_as (must_refuse_of old (trees_of_batches batches)) a b e
   pub is : (new ≡ old) ⊎ ((must_refuse_of old (trees_of_batches batches) ≡ None) × Closes old new)

@@ -9,6 +9,6 @@ greatest_of_all = 18446744073709551615
 abbrev pub raised : ℕ → ℕ
 raised mark = min (mark + 4096) greatest_of_all
 
--- the mark after an id is taken: it is raised where no id above the greatest given is set aside
+-- the mark after an id is taken: it is raised if no id above the greatest given is set aside
 abbrev pub mark_above : ℕ → ℕ → ℕ
 mark_above greatest mark = if nat_lt greatest mark then mark else raised mark

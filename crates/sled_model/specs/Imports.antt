@@ -35,7 +35,7 @@ parts_of (c ∷ cs) = OpensName c.1 ∷ puts_of c.1 c.2 (parts_of cs)
 abbrev pub tree_at : State → Key → Tree
 tree_at s name = record { database = s.name; name = name; number = number_opened (s.trees name) s }
 
--- a pair is put into the tree of a name, where its key was absent: it is inserted, with its event
+-- a pair is put into the tree of a name, if its key was absent: it is inserted, with its event
 pub record PutsPair (old : State) (name key value : Key) (new : State) (maps : List Maps) : Type 0 where
   pub named : NamedTree
   pub there : old.trees name ≡ Some named
@@ -110,7 +110,7 @@ pub record StopsAtPart (old : State) (a b : Store) (all : List Content) (stop : 
   pub does : DoesParts old stop.done new maps
   pub refuses : refuses_part new a b stop.next e
 
--- before its first part it is refused where the database is closed, or some collection is of another type
+-- before its first part it is refused if the database is closed, or some collection is of another type
 abbrev pub refuses_import_as : Option MustRefuse → List Content → Error → Type 0
 refuses_import_as (Some must) all e = tells must e
 refuses_import_as None all e = cause_of_import all e

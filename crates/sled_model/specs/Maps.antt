@@ -15,7 +15,7 @@ abbrev pub IsGreatest : Map → Option (Key × Key) → Type 0
 IsGreatest map None = map ≡ []
 IsGreatest map (Some pair) = (rest : Map) × (map ≡ rest ++ pair ∷ [])
 
--- the map of each name, where there is a tree of that name
+-- the map of each name, if there is a tree of that name
 abbrev pub Maps : Type 0
 Maps = Key → Option Map
 

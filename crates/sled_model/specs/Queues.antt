@@ -12,7 +12,7 @@ abbrev pub backlog_in : Option Queue → Backlog
 backlog_in None = no_backlog
 backlog_in (Some q) = q.backlog
 
--- .. the events of it, and what its subscriber is told next
+-- .. the events of it, and what its subscriber gets next
 abbrev pub waiting_in : Option Queue → List Event
 waiting_in q = (backlog_in q).events
 
@@ -26,10 +26,10 @@ watched n tree prefix queues = put_at queues n (Some (record { tree = tree; pref
 abbrev pub without_next : Queue → Queue
 without_next q = record q { backlog = after_next q.backlog }
 
--- a subscriber was told what was next
+-- a subscriber got what was next
 abbrev pub taken : ℕ → (ℕ → Option Queue) → ℕ → Option Queue
 taken n queues = put_at queues n (option_map without_next (queues n))
 
--- a subscriber's queue is given up
+-- a subscriber's queue is dropped
 abbrev pub given_up : ℕ → (ℕ → Option Queue) → ℕ → Option Queue
 given_up n queues = put_at queues n None

@@ -115,7 +115,7 @@ operator_test s (ToSetOperator tree) = None
 abbrev pub must_refuse : State → Asked → Option MustRefuse
 must_refuse s asked = first_of (must_refuse_of s (trees_asked asked)) (operator_test s asked)
 
--- the error that tells the cause. A tree's name may want memory
+-- the error of this cause. A tree's name may want memory
 abbrev pub tells : MustRefuse → Error → Type 0
 tells IsClosed e = e ≡ Closed
 tells IsForeign (Unsupported text) = text.now ≡ HANDLE_OF_ANOTHER_DATABASE.now
@@ -210,7 +210,7 @@ cause_of_opening s a b name (Io fault) = (s.trees name ≡ None) × (a.faults < 
 cause_of_opening s a b name (Unsupported text) = (text.now ≡ NUMBERS_USED_UP.now) × (s.trees name ≡ None) × (s.trees_given ≡ 18446744073709551615)
 cause_of_opening s a b name e = ⊥
 
--- why a whole call is refused. To take an event and to give up a queue is never refused
+-- why a whole call is refused. `Next` and `Unsubscribe` are never refused
 abbrev pub cause_of_whole : State → Store → Store → Whole → Error → Type 0
 cause_of_whole s a b Flush e = cause_of_flush a b e
 cause_of_whole s a b (PopMin tree) e = cause_at_end IsLeast s a b tree e
@@ -230,7 +230,7 @@ abbrev pub cause_of_setting : Error → Type 0
 cause_of_setting NoMemory = Unit {0}
 cause_of_setting e = ⊥
 
--- The causes of a refusal that is none of those tests: slots, trees and subscribers are numbered up to the greatest u64; the call has
+-- The causes of a refusal that is none of those tests: slots, trees and subscribers are numbered up to the greatest u64. The call has
 -- no turns left; the store counted a fault, or some page is not readable. a is the store before, b the store after
 abbrev pub cause_of : State → Store → Store → Asked → Error → Type 0
 cause_of s a b (ToBegin tree call) e = cause_of_begin s e
@@ -239,7 +239,7 @@ cause_of s a b (ToPoint tree call) e = cause_of_point s a b tree call e
 cause_of s a b (ToCall whole) e = cause_of_whole s a b whole e
 cause_of s a b (ToSetOperator tree) e = cause_of_setting e
 
--- the call may be refused so: by the first of the tests that fails, or where none fails for one of the causes
+-- the call may be refused so: by the first of the tests that fails, or if none fails for one of the causes
 abbrev pub may_refuse_as : Option MustRefuse → State → Store → Store → Asked → Error → Type 0
 may_refuse_as (Some must) s a b asked e = tells must e
 may_refuse_as None s a b asked e = cause_of s a b asked e

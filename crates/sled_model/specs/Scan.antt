@@ -22,7 +22,7 @@ pub record TakesBeginning (range part : Range) (rest : Option Range) : Type 0 wh
   pub splits : (k : Key) → is_in_range range k ≡ is_in_range part k || is_in_rest rest k
   pub before : (j k : Key) → is_in_range part j ≡ true → is_in_rest rest k ≡ true → Before range.back j k
 
--- Where no pair waits, a beginning of what is left to read may be read: it is gone then, and its pairs in the map now wait
+-- If no pair waits, a beginning of what is left to read may be read: it is gone then, and its pairs in the map now wait
 pub record ReadsPart (map : Map) (waiting : List (Key × Key)) (rest : Option Range) (after : List (Key × Key)) (left : Option Range) : Type 0 where
   pub none : waiting ≡ []
   pub range : Range

@@ -62,8 +62,8 @@ pub record Yield (old : State) (slot : ℕ) (key value : Key) (new : State) : Ty
   pub waits : flying.waiting ≡ (key, value) ∷ more
   pub is : new ≡ record old { slots = put_at old.slots slot (Some (record flying { turns = 0; waiting = more })) }
 
--- The call in the slot replies, changes its tree's map and fills the queues by the answer on the map now, and ends. A scan ends where
--- no pair waits, and nothing is left to read
+-- The call in the slot replies, changes its tree's map and fills the queues by the answer on the map now, and ends. A scan ends if no
+-- pair waits, and nothing is left to read
 pub record Decide (old : State) (slot : ℕ) (reply : Reply) (new : State) : Type 0 where
   pub flying : CallInFlight
   pub here : old.slots slot ≡ Some flying
@@ -81,7 +81,7 @@ pub record RefuseStep (old : State) (a b : Store) (slot : ℕ) (e : Error) (new 
   pub flying : CallInFlight
   pub here : old.slots slot ≡ Some flying
   pub may : MayRefuse old a b (ToStep flying) e
-  -- without turns left it is told so, and nothing else
+  -- without turns left it is refused for that, and for nothing else
   pub limit : must_refuse old (ToStep flying) ≡ None → flying.turns ≡ turns_limit → TellsTurns e
   pub is : new ≡ record old { slots = put_at old.slots slot None }
 
@@ -90,13 +90,13 @@ pub record NoSlot (old : State) (slot : ℕ) (new : State) : Type 0 where
   pub free : old.slots slot ≡ None
   pub is : new ≡ old
 
--- the call in the slot is given up
+-- the call in the slot is abandoned
 pub record Abandon (old : State) (slot : ℕ) (new : State) : Type 0 where
   pub flying : CallInFlight
   pub here : old.slots slot ≡ Some flying
   pub is : new ≡ record old { slots = put_at old.slots slot None }
 
--- what a whole call is about: to make durable what was decided, to tell something and change no map, or to change maps: in one step, by a
+-- what a whole call is about: to make durable what was decided, to return something and change no map, or to change maps: in one step, by a
 -- group, or part by part. Or it is to drop a tree, or to learn of changes, which touches neither maps nor pages
 pub data Kind : Type 0 where
   Flushing : Kind
@@ -121,8 +121,8 @@ kind_of (Watch tree prefix) = Listening
 kind_of (Next subscriber) = Listening
 kind_of (Unsubscribe subscriber) = Listening
 
--- A whole call is decided. A flush answers the store's number. A subscriber is told what is next and a queue given up on a closed database
--- too
+-- A whole call is decided. A flush answers the store's number. A closed database too returns what is next for a subscriber, and drops a
+-- queue
 abbrev pub WholeDecides : Configuration → Whole → Reply → State → List Maps → Type 0
 WholeDecides old Flush reply new maps = (must_refuse old.state (ToCall Flush) ≡ None) × (reply ≡ Number old.flush_number) × (new ≡ old.state) × (maps ≡ [])
 WholeDecides old (PopMin tree) reply new maps = Pops IsLeast old.state (PopMin tree) tree reply new maps
@@ -142,7 +142,7 @@ abbrev pub RefusesAtOnce : State → Store → Store → Whole → Error → Sta
 RefusesAtOnce old a b whole e new maps = MayRefuse old a b (ToCall whole) e × (new ≡ old) × (maps ≡ [])
 
 -- A whole call is refused, and nothing changes, but for the parts that a call in parts has done, and that a group refused midway closes
--- the database. To take an event and to give up a queue is never refused
+-- the database. `Next` and `Unsubscribe` are never refused
 abbrev pub WholeRefuses : State → Store → Store → Whole → Error → State → List Maps → Type 0
 WholeRefuses old a b Flush e new maps = RefusesAtOnce old a b Flush e new maps
 WholeRefuses old a b (PopMin tree) e new maps = RefusesAtOnce old a b (PopMin tree) e new maps

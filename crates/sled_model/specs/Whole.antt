@@ -49,7 +49,8 @@ pub record Watches (old : State) (tree : Tree) (prefix : Key) (number : ℕ) (ne
   pub fresh : old.queues number ≡ None
   pub is : new ≡ record old { queues = watched number tree.number prefix old.queues; subscribers_given = number }
 
--- A subscriber is told how many events it missed, or else takes the oldest event that waits for it, if one does, and all else is as it was
+-- A subscriber gets the number of events that it missed, or else takes the oldest event that waits for it, if one does, and all else is as
+-- it was
 pub record TakesNext (old : State) (subscriber : ℕ) (next : Option event.Next) (new : State) : Type 0 where
   pub gives : next ≡ next_in (old.queues subscriber)
   pub is : new ≡ record old { queues = taken subscriber old.queues }
@@ -90,7 +91,7 @@ pub record Clears (old : State) (tree : Tree) (new : State) (maps : List Maps) :
   pub there : new.trees tree.name ≡ Some named
   pub none : named.map ≡ []
 
--- refused midway, it has removed the first ones, and the next part was refused. Nothing is removed where a test refuses it at its begin
+-- refused midway, it has removed the first ones, and the next part was refused. Nothing is removed if a test refuses it at its begin
 pub record StopsClearing (old : State) (a b : Store) (tree : Tree) (e : Error) (new : State) (maps : List Maps) : Type 0 where
   pub parts : ℕ
   pub tested : (parts ≡ zero) ⊎ (must_refuse old (ToCall (Clear tree)) ≡ None)
@@ -101,7 +102,7 @@ pub record StopsClearing (old : State) (a b : Store) (tree : Tree) (e : Error) (
 abbrev pub new_tree : State → NamedTree
 new_tree s = record { number = s.trees_given + 1; map = []; merge = None }
 
--- the number of a name's tree, where there is one, and else of a new one
+-- the number of a name's tree, if there is one, and else of a new one
 abbrev pub number_opened : Option NamedTree → State → ℕ
 number_opened (Some t) s = t.number
 number_opened None s = s.trees_given + 1
@@ -111,12 +112,12 @@ abbrev pub state_opened : Option NamedTree → State → Key → State
 state_opened (Some t) s name = s
 state_opened None s name = record s { trees = put_name s.trees name (Some (new_tree s)); trees_given = s.trees_given + 1 }
 
--- the maps that this added: where the tree is new those with its empty one, and else none
+-- the maps that this added: if the tree is new those with its empty one, and else none
 abbrev pub maps_opened : Option NamedTree → State → List Maps
 maps_opened (Some t) new = []
 maps_opened None new = maps_of new ∷ []
 
--- A name is opened: the reply is its tree, which is a new one where it had none
+-- A name is opened: the reply is its tree, which is a new one if it had none
 pub record OpensTree (old : State) (name : Key) (reply : Reply) (new : State) (maps : List Maps) : Type 0 where
   pub free : must_refuse old (ToCall (OpenTree name)) ≡ None
   pub replies : reply ≡ told.Tree (record { database = old.name; name = name; number = number_opened (old.trees name) old })
@@ -128,7 +129,7 @@ abbrev pub state_dropped : Option NamedTree → State → Key → State
 state_dropped (Some t) s name = record s { trees = put_name s.trees name None }
 state_dropped None s name = s
 
--- the maps that this added: where there was a tree those without it, and else none
+-- the maps that this added: if there was a tree those without it, and else none
 abbrev pub maps_dropped : Option NamedTree → State → List Maps
 maps_dropped (Some t) new = maps_of new ∷ []
 maps_dropped None new = []
@@ -149,7 +150,7 @@ pub record GeneratesId (old : State) (reply : Reply) (new : State) (maps : List 
   pub is : new ≡ record old { greatest_id = old.greatest_id + 1; mark = mark_above old.greatest_id old.mark }
   pub added : maps ≡ []
 
--- two whole calls are the same: imports hold the same collections, and groups the same batches, wherever their vectors lie
+-- two whole calls are the same: imports hold the same collections, and groups the same batches, wherever their vectors are in memory
 abbrev pub is_same_whole : Whole → Whole → Type 0
 is_same_whole (Import a) (Import b) = contents_of a.items ≡ contents_of b.items
 is_same_whole (Import a) b = ⊥

@@ -24,9 +24,9 @@ use std::ops::Bound;
 pub enum Call {
     /// The value at a key.
     Get(IVec),
-    /// Sets the value at a key. Replies with the value that stood there.
+    /// Sets the value at a key. Replies with the value that was there.
     Insert(IVec, IVec),
-    /// Takes a key out. Replies with the value that stood there.
+    /// Takes a key out. Replies with the value that was there.
     Remove(IVec),
     /// If the first value is at a key it becomes the second one; `None` is no value.
     CompareAndSwap(IVec, Option<IVec>, Option<IVec>),
@@ -55,7 +55,7 @@ pub enum Whole {
     /// Makes the writes of each batch in its tree, all or none, in the order of the list and of each batch in the order of its keys.
     /// Refused midway, it closes the database.
     Group(Vec<(Tree, Batch)>),
-    /// Opens the tree of a name, which is made where the name has none, and replies with it.
+    /// Opens the tree of a name, which is made if the name has none, and replies with it.
     OpenTree(IVec),
     /// Drops the tree of a name, and replies with whether there was one.
     DropTree(IVec),
@@ -66,10 +66,10 @@ pub enum Whole {
     Import(Vec<Collection>),
     /// Adds a subscriber to the keys of a tree that begin with a prefix, and replies with it.
     Watch(Tree, IVec),
-    /// Tells a subscriber how many events it missed, or else takes the oldest event that waits for it, and replies with that, if there
-    /// is either. It is never refused.
+    /// Replies with the number of events that a subscriber missed, or else with the oldest event that waits for it, which it takes, if
+    /// there is either. It is never refused.
     Next(Subscriber),
-    /// Gives up the queue of a subscriber, with what waits there. It is never refused.
+    /// Drops the queue of a subscriber, with what waits there. It is never refused.
     Unsubscribe(Subscriber),
 }
 
@@ -177,7 +177,7 @@ impl Call {
         }
     }
 
-    /// The key that the call is about. A scan is about none, and the empty one is told.
+    /// The key that the call is about. For a scan, which is about none, it is the empty one.
     ///
     /// ```
     /// let key = call.key(); // Of a swap too, whose values are beside it.

@@ -1,4 +1,4 @@
-//! What a call on one key comes to, by the value that is there. A scan changes nothing of any value.
+//! What a call on one key does and replies, by the value that is there. A scan changes nothing of any value.
 ghost use Rattle.std.specs.Prelude.{◌≡◌, IfOk, IfErr, Some};
 ghost use Rattle.std.specs.Option.{option_map, option_copied};
 ghost use Rattle.sled_nodes.specs.declared.error.Error.TheVariants.{NoMemory};
@@ -60,8 +60,8 @@ impl Call {
         Ok(Some(Reply::Value(value)))
     }
 
-    /// What the call comes to if this value is at its key, by the merge operator of its tree, which is called once, and by
-    /// a merge alone. Refused with `NoMemory` alone.
+    /// What the call does and replies if this value is at its key, by the merge operator of its tree, which is called once,
+    /// and by a merge alone. Refused with `NoMemory` alone.
     ///
     /// ```
     /// let decision = call.at_link(alloc, Some(value), Some(&Adds))?; // Its effect on the key, and its reply.
@@ -123,7 +123,7 @@ fn conflict(value: Option<IVec>, old: &Option<IVec>, new: &Option<IVec>) -> Resu
     }
 }
 
-// A value is swapped where it is the one that was expected.
+// A value is swapped if it is the one that was expected.
 #[inline(always)]
 fn swap(value: Option<IVec>, old: &Option<IVec>, new: &Option<IVec>) -> Result<Decision>
     ensures ok { IfOk result (λ decision. decision ≡ decision_of_swap value old.now new.now) }
@@ -188,7 +188,7 @@ fn bytes_of(value: &Option<IVec>) -> Option<&[u8]>
     }
 }
 
-// A value is written, and the reply tells it.
+// A value is written, and the reply has it.
 fn write(alloc: Global, value: &[u8]) -> Result<Decision>
     ensures ok { IfOk result (λ decision. decision ≡ decision_of_write (Some value.now)) }
     ensures err { IfErr result (λ e. e ≡ NoMemory) }

@@ -14,13 +14,13 @@ pub enum Event {
     Remove { key: IVec },
 }
 
-/// What a subscriber is told next.
+/// What a subscriber gets next.
 #[derive(Debug, Drop, PartialEq, Eq, PartialOrd, Ord)]
 pub enum Next {
     /// A change of a key.
     Event(Event),
     /// So many changes were missed since the last answer: while `QUEUE_LIMIT` events waited, each went to make room for a newer one.
-    /// The number is never 0, and `u64::MAX` stands for as many or more.
+    /// The number is never 0, and `u64::MAX` means as many or more.
     Missed(u64),
 }
 

@@ -29,7 +29,7 @@ pub use tree::Tree;
 /// A call whose turns are this many is refused at its next step.
 pub const MAX_LOOPS: u64 = 1_000_000;
 
-/// So many events wait in a subscriber's queue at the most. Where one more comes, the oldest goes and is counted.
+/// So many events wait in a subscriber's queue at the most. If one more comes, the oldest goes and is counted.
 pub const QUEUE_LIMIT: usize = 1024;
 
 const _: () = prove!(MAX_LOOPS == 1_000_000);

@@ -24,7 +24,7 @@ pub enum Step {
     Begin(Tree, Call),
     /// The call in the slot does its next page action.
     Step(Slot),
-    /// The call in the slot is given up.
+    /// The call in the slot is abandoned.
     Abandon(Slot),
     /// A whole call.
     Whole(Whole),
@@ -44,7 +44,7 @@ pub enum Outcome {
     /// The call was refused, and changed no map, but for the parts that a clear or an import did; or a group was refused midway, and the
     /// database is closed.
     Refused(Error),
-    /// The call was given up, and changed no map.
+    /// The call was abandoned, and changed no map.
     Abandoned,
     /// No call has the slot.
     NoSuchSlot,

@@ -8,7 +8,7 @@ use crate::tree::Tree;
 use sled_nodes::{IVec, Result, clone_pair, clone_value};
 use std::fmt::{self, Display, Formatter, Write};
 
-/// Why a value was not swapped: another one stood at the key. Nothing was written.
+/// Why a value was not swapped: another one was at the key. Nothing was written.
 #[derive(Debug, Drop, PartialEq, Eq, PartialOrd, Ord, Hash)]
 pub struct CompareAndSwapError {
     /// The value at the key.
@@ -53,7 +53,7 @@ pub enum Reply {
     Number(u64),
     /// A scan has given all its pairs.
     End,
-    /// The call has done what it was to do, and has nothing to tell.
+    /// The call has done what it was to do, and has nothing to return.
     Done,
     /// The pair that was taken out, if there was one.
     Pair(Option<(IVec, IVec)>),
@@ -63,7 +63,7 @@ pub enum Reply {
     Flag(bool),
     /// The subscriber that was added.
     Subscriber(Subscriber),
-    /// What a subscriber was told next, if something waited for it.
+    /// What a subscriber gets next, if something waited for it.
     Next(Option<Next>),
 }
 
@@ -104,7 +104,7 @@ fn copied_pair(pair: &Option<(IVec, IVec)>) -> Result<Option<(IVec, IVec)>>
     Ok(Some(clone_pair(key, value)?))
 }
 
-// What a subscriber is told, if it is told something.
+// What a subscriber gets, if it gets something.
 fn clone_next(next: &Option<Next>) -> Result<Option<Next>>
     ensures ok { IfOk result (λ copy. copy ≡ next.now) }
     ensures err { IfErr result (λ e. e ≡ NoMemory) }

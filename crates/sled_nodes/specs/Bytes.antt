@@ -1,4 +1,4 @@
--- The bytes of a byte string, by where they lie.
+-- The bytes of a byte string, by where they are stored.
 use Rattle.std.specs.Prelude.{◌≡◌, ℕ, zero, suc, List, [], ◌∷◌, take, ◌≤◌}
 use Rattle.std.specs.Arc.{arc_value}
 use Rattle.sled_nodes.specs.declared.ivec.Bytes.{Bytes}
@@ -15,7 +15,7 @@ padded zero bytes = []
 padded (suc n) [] = 0 ∷ padded n []
 padded (suc n) (b ∷ bytes) = b ∷ padded n bytes
 
--- what lies in an array is no longer than that, and zeros lie behind it
+-- a string in an array is no longer than the array, and zeros follow it
 abbrev pub IsShort : Bytes → Type 0
 IsShort (Short len bytes) = (len ≤ 22) × (padded 22 (take len bytes) ≡ bytes)
 IsShort (Middle len bytes) = (len ≤ 56) × (padded 56 (take len (arc_value bytes)) ≡ arc_value bytes)

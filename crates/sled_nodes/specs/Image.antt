@@ -1,4 +1,4 @@
--- The pages and roots of an image: lists of numbers with nodes and of names with roots. Of one number or name the last entry stands.
+-- The pages and roots of an image: lists of numbers with nodes and of names with roots. Of one number or name the last entry counts.
 use Rattle.std.specs.Prelude.{ℕ, Bool, true, nat_eq, ◌&&◌, List, Option, Some, None, option_map}
 use Rattle.std.specs.List.{find, list_all}
 use Rattle.std.specs.Str.{bytes_eq}

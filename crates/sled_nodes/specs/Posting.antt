@@ -28,6 +28,6 @@ abbrev pub posts_as : Key → ℕ → Node → Node → Bool → Type 0
 posts_as at pid old new true = (takes_pointer at old.content ≡ true) × (new ≡ record old { content = with_pointer at pid old.content })
 posts_as at pid old new false = (takes_pointer at old.content ≡ false) × (new ≡ old)
 
--- a pointer is put in where the key has none; else the node stays
+-- a pointer is put in if the key has none; else the node stays
 pub record Posts (at : Key) (pid : ℕ) (old new : Node) (posted : Bool) : Type 0 where
   pub is : posts_as at pid old new posted

@@ -22,7 +22,7 @@ prefix_of (e ∷ es) = shared_with e.0 es
 abbrev pub cut : {X : Type 0} → ℕ → List (Key × X) → List (Key × X)
 cut n es = map (λ e. (drop n e.0, e.1)) es
 
--- each key's rest behind that beginning, with what stands at it
+-- each key's rest behind that beginning, with what is at it
 abbrev pub rests_of : {X : Type 0} → List (Key × X) → List (Key × X)
 rests_of es = cut (length (prefix_of es)) es
 

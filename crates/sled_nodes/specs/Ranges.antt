@@ -1,4 +1,4 @@
--- Ranges of keys, and what lies within them.
+-- Ranges of keys, and what is within them.
 use Rattle.std.specs.Prelude.{Bool, false, not, ◌&&◌, if◌then◌else◌, filter, reverse, List, []}
 use Rattle.std.specs.Ordering.{is_lt, is_gt}
 use Rattle.std.specs.declared.ops.Bound.{Bound}
@@ -20,7 +20,7 @@ is_in_range r k = is_from r.lo k && is_up_to r.hi k
 abbrev pub pairs_in : Range → List (Key × Key) → List (Key × Key)
 pairs_in r pairs = let within = filter (λ e. is_in_range r e.0) pairs in if r.back then (reverse within) else within
 
--- the start stands above the end, or at it where not both are included. No start is the empty key, included
+-- the start is above the end, or at it if not both are included. No start is the empty key, included
 abbrev pub is_reversed : Bound Key → Bound Key → Bool
 is_reversed (Included a) (Included b) = is_gt (key_cmp a b)
 is_reversed (Included a) (Excluded b) = not (is_lt (key_cmp a b))

@@ -27,7 +27,7 @@ pub fn is_up_to(key: &[u8], bound: Bound<&[u8]>) -> bool
     }
 }
 
-/// The same of a byte string, whose first bytes are taken where they lie.
+/// The same of a byte string, whose first bytes are read in place.
 ///
 /// ```
 /// let is_behind = !key_is_up_to(&node.hi, Bound::Included(b"ulm")); // The node ends behind the key.

@@ -32,7 +32,7 @@ pub fn ascends<V>(pairs: &[(IVec, V)]) -> bool
 // No place in a list.
 pub const NOWHERE: usize = usize::MAX;
 
-/// Where a key, whose front this is, stands or would go.
+/// Where a key, whose front this is, is or would go.
 #[inline(always)]
 pub fn search<V>(pairs: &[(IVec, V)], key: &[u8], front: u64) -> std::result::Result<usize, usize>
     requires sorted { is_sorted (slice_cmp nat_cmp) pairs.now ≡ true }
@@ -53,7 +53,7 @@ pub fn search<V>(pairs: &[(IVec, V)], key: &[u8], front: u64) -> std::result::Re
     Err(low)
 }
 
-// The same. The place where the key is likely to stand is looked at first.
+// The same. The place at which the key is likely to be is looked at first.
 #[inline(always)]
 fn search_near<V>(
     pairs: &[(IVec, V)],
@@ -103,7 +103,7 @@ fn count_to<V>(pairs: &[(IVec, V)], key: &[u8], front: u64, near: usize) -> usiz
     }
 }
 
-/// How many keys are within an upper bound. All others come behind them.
+/// How many keys are within an upper bound. All others follow them.
 #[inline(always)]
 pub fn count_up_to<V>(pairs: &[(IVec, V)], bound: Bound<&[u8]>, front: u64, near: usize) -> usize
     requires sorted { is_sorted (slice_cmp nat_cmp) pairs.now ≡ true }
@@ -118,7 +118,7 @@ pub fn count_up_to<V>(pairs: &[(IVec, V)], bound: Bound<&[u8]>, front: u64, near
     }
 }
 
-// How many keys are not within a lower bound. All others come behind them.
+// How many keys are not within a lower bound. All others follow them.
 #[inline(always)]
 fn count_before<V>(pairs: &[(IVec, V)], bound: Bound<&[u8]>, front: u64, near: usize) -> usize
     requires sorted { is_sorted (slice_cmp nat_cmp) pairs.now ≡ true }

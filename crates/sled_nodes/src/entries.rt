@@ -23,11 +23,11 @@ use std::ops::Bound;
 /// Pairs of a key and something else. Contracts see them as the list.
 pub struct Entries<V> {
     list: Vec<(IVec, V)>,
-    // Where this is set the keys ascend. Where it is not they may yet.
+    // If this is set the keys ascend. If it is not they may yet.
     ascends: bool,
 }
 
-// By hand, so that whoever lets go of entries cites this, and need not prove again how each of its parts goes.
+// By hand, so that each function that drops entries cites this, and does not prove again how its parts are dropped.
 impl<V: Drop> Drop for Entries<V> {
     fn drop(self) {
         let Entries { list, ascends: _ } = self;
@@ -96,7 +96,7 @@ impl<V> Entries<V> {
         self.list.len()
     }
 
-    /// What stands at a key, whose front this is.
+    /// What is at a key, whose front this is.
     #[inline(always)]
     pub fn get(&self, key: &[u8], front: u64) -> Option<&V>
         requires { front ≡ front_is key.now }
@@ -109,7 +109,7 @@ impl<V> Entries<V> {
         }
     }
 
-    /// The place of a key, `Some(None)` where it has none, and `None` where that takes a look at all entries.
+    /// The place of a key, `Some(None)` if it has none, and `None` if that takes a look at all entries.
     pub fn place_alone(&self, key: &[u8]) -> Option<Option<usize>>
         ensures { IfSome result (IsOut (λ e. not (eq_by_cmp (slice_cmp nat_cmp) key.now e.0)) self.now) }
     {

@@ -20,13 +20,13 @@ use std::hash::{Hash, Hasher};
 use std::marker::Model;
 use std::sync::Arc;
 
-// As many bytes lie in place.
+// A string of at most so many bytes is in place.
 const SHORT: usize = 22;
 
-// As many bytes lie in one block with their count of owners.
+// A string of at most so many bytes is in one block with its count of owners.
 const MIDDLE: usize = 56;
 
-// Short strings lie in place, and clones of a longer one share it. In an array zeros lie behind the bytes.
+// Short strings are in place, and clones of a longer one share it. In an array zeros follow the bytes.
 #[derive(Drop)]
 enum Bytes {
     Short(u8, [u8; 22]),
@@ -39,7 +39,7 @@ pub struct IVec {
     bytes: Bytes,
 }
 
-// By hand, so that whoever lets go of a byte string cites this, and need not prove again how each of its parts goes.
+// By hand, so that each function that drops a byte string cites this, and does not prove again how its parts are dropped.
 impl Drop for IVec {
     #[inline(always)]
     fn drop(self) {
@@ -98,7 +98,7 @@ impl IVec {
         }
     }
 
-    // Whether it is the empty byte string, as a look at its head alone tells.
+    // Whether it is the empty byte string, as its head alone shows.
     #[inline(always)]
     pub(crate) fn is_nothing(&self) -> bool
         ensures { result ≡ true → self.now ≡ [] }
@@ -139,7 +139,7 @@ impl IVec {
         IVec::joined(alloc, front.as_ref(), rest)
     }
 
-    // The same, called where they are not short.
+    // The same, called if they are not short.
     #[inline(never)]
     pub(crate) fn joined(alloc: Global, front: &[u8], back: &[u8]) -> Result<IVec>
         ensures ok { IfOk result (λ made. made ≡ front.now ++ back.now) }

@@ -1,9 +1,8 @@
-//! Byte strings in their order, errors, and nodes: what lies in one page of a tree.
+//! Byte strings in their order, errors, and nodes: what is in one page of a tree.
 //!
 //! The calls of a node are stated by its bounds and entries: what it holds and what a link makes of it (`specs/Node`), its
-//! halves (`specs/Halves`), a pointer more (`specs/Posting`), what lies within a bound (`specs/Among`) or two
-//! (`specs/Ranges`). A store and those who read a page hold its node together (`Shared`). A link changes it in place where
-//! one alone holds it.
+//! halves (`specs/Halves`), a pointer more (`specs/Posting`), what is within a bound (`specs/Among`) or two (`specs/Ranges`).
+//! A store and the readers of a page share its node (`Shared`). A link changes it in place if it has one holder alone.
 #![tactic(auto)]
 
 mod among;

@@ -207,7 +207,7 @@ impl Node {
         })
     }
 
-    /// A leaf's value at the key; `None` where there is none. Refused with `NoMemory` alone.
+    /// A leaf's value at the key; `None` if there is none. Refused with `NoMemory` alone.
     ///
     /// ```
     /// match node.get(b"ulm")? {
@@ -351,8 +351,8 @@ impl Node {
         })
     }
 
-    /// Puts a pointer into an index where the key has none, and says whether it did. Else, and in a leaf, nothing changes.
-    /// Refused with `NoMemory` alone, and then unchanged.
+    /// Puts a pointer into an index if the key has none, and says whether it did. Else, and in a leaf, nothing changes. Refused
+    /// with `NoMemory` alone, and then unchanged.
     ///
     /// ```
     /// let is_new = node.parent_split(key, pid)?; // `false` where the key had a pointer, and of a leaf.
@@ -421,7 +421,7 @@ impl Node {
     }
 
     /// An index's last pointer whose key is within an upper bound, and whether it is the first of all pointers.
-    /// `None` where no key is within the bound. It takes no memory.
+    /// `None` if no key is within the bound. It takes no memory.
     ///
     /// ```
     /// match node.pointer(Bound::Included(b"ulm")) {
@@ -439,7 +439,7 @@ impl Node {
         }
     }
 
-    /// The pointer before an index's first one to this page. `None` where there is no such pointer. It takes no memory.
+    /// The pointer before an index's first one to this page. `None` if there is no such pointer. It takes no memory.
     ///
     /// ```
     /// let left = node.pointer_before(child); // From this page on, the one that `child` merges into is looked for.
@@ -465,9 +465,9 @@ impl Node {
         self.successor_near(bound, &mut NOWHERE)
     }
 
-    /// The same, and `near` becomes the place of the pair, counted from 0; where none is found, or it is refused, it stays. In a leaf whose
-    /// keys ascend the bound's key is looked for at this place first, so who goes from pair to pair finds each at once. Any number will
-    /// do: a wrong one costs a comparison, or nothing where there is no such place. Refused with `NoMemory` alone.
+    /// The same, and `near` becomes the place of the pair, counted from 0; if none is found, or it is refused, it stays. In a leaf whose
+    /// keys ascend the bound's key is looked for at this place first, so a loop from pair to pair finds each at once. Any number will
+    /// do: a wrong one costs a comparison, or nothing if there is no such place. Refused with `NoMemory` alone.
     ///
     /// ```
     /// let mut near = 3; // Where the pair of `ulm` was found.
@@ -503,9 +503,9 @@ impl Node {
         self.predecessor_near(bound, &mut NOWHERE)
     }
 
-    /// The same, and `near` becomes the place of the pair, counted from 0; where none is found, or it is refused, it stays. In a leaf whose
-    /// keys ascend the bound's key is looked for at this place first, so who goes from pair to pair finds each at once. Any number will
-    /// do: a wrong one costs a comparison, or nothing where there is no such place. Refused with `NoMemory` alone.
+    /// The same, and `near` becomes the place of the pair, counted from 0; if none is found, or it is refused, it stays. In a leaf whose
+    /// keys ascend the bound's key is looked for at this place first, so a loop from pair to pair finds each at once. Any number will
+    /// do: a wrong one costs a comparison, or nothing if there is no such place. Refused with `NoMemory` alone.
     ///
     /// ```
     /// let mut near = 3; // Where the pair of `ulm` was found.

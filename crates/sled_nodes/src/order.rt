@@ -97,8 +97,8 @@ fn compare_last(a: &[u8], b: &[u8]) -> Ordering
     Ordering::Equal
 }
 
-// How two byte strings compare: eight bytes at once as long as both have them. Of two of one length the last eight tell the rest, for the
-// bytes before what is left are the same; else it goes byte by byte. It is called where their fronts do not tell.
+// How two byte strings compare: eight bytes at once as long as both have them. Of two of one length the last eight decide, for the bytes
+// before what is left are the same; else it goes byte by byte. It is called if their fronts do not decide.
 #[inline(never)]
 fn compare_bytes(a: &[u8], b: &[u8]) -> Ordering
     ensures { result ≡ slice_cmp nat_cmp a.now b.now }
@@ -121,8 +121,8 @@ fn compare_bytes(a: &[u8], b: &[u8]) -> Ordering
     rest.cmp(other)
 }
 
-/// How a key compares with another one whose front this is. Of two of the same length that have no more bytes than their fronts these tell
-/// all, and of two that have eight more at most the last eight bytes tell the rest.
+/// How a key compares with another one whose front this is. Of two of the same length that have no more bytes than their fronts these
+/// decide, and of two that have at most eight more the last eight bytes do.
 #[inline(always)]
 pub fn compare_to(key: &IVec, other: &[u8], front: u64) -> Ordering
     requires { front ≡ front_is other.now }

@@ -23,7 +23,7 @@ use std::cmp::Ordering;
 // A node of so many entries is split.
 const FULL: usize = 17;
 
-// The place of a key: where it stands, or where it would go, before the first greater one.
+// The place of a key: where it is, or where it would go, before the first greater one.
 fn place<V>(pairs: &[(IVec, V)], key: &IVec, ascends: bool) -> std::result::Result<usize, usize>
     requires { ascends ≡ true → is_sorted (slice_cmp nat_cmp) pairs.now ≡ true }
     ensures stands { IfOk result (λ i. Stands (slice_cmp nat_cmp) key.now pairs.now i) }
@@ -98,7 +98,7 @@ fn insert<V: Drop>(pairs: &mut Vec<(IVec, V)>, i: usize, key: IVec, value: V) ->
     Ok(())
 }
 
-/// Puts a pair in its place, where `ascends` only if the keys ascend. Refused with `NoMemory` alone, and then unchanged.
+/// Puts a pair in its place. `ascends` may be true only if the keys ascend. Refused with `NoMemory` alone, and then unchanged.
 ///
 /// ```
 /// let mut pairs = leaf.pairs(alloc)?;

@@ -107,7 +107,7 @@ pub fn rest_of<'a>(prefix: &IVec, key: &'a [u8]) -> Option<&'a [u8]>
     if same { Some(&key[count..]) } else { None }
 }
 
-// Where no key behind a beginning is told apart from another by this one: none, or no bound.
+// If this one does not separate the keys with a prefix from one another: none, or no bound.
 fn all_or_none<'a>(all: bool) -> Option<Bound<&'a [u8]>>
     ensures { MatchBool all (result ≡ Some Unbounded) (result ≡ None) }
 {
@@ -139,7 +139,7 @@ pub fn front_of_rest(bound: Bound<&[u8]>, count: usize) -> u64
     }
 }
 
-/// An upper bound of keys as one of their rests behind a beginning; `None` where no such key is within it.
+/// An upper bound of keys as one of their rests behind a beginning; `None` if no such key is within it.
 #[inline(always)]
 pub fn upper_behind<'a>(prefix: &IVec, bound: Bound<&'a [u8]>) -> Option<Bound<&'a [u8]>>
     ensures within { (rest : Key) → within_upper (bound_of bound.entry) (prefix.now ++ rest) ≡ is_up_to_in result rest }
@@ -158,7 +158,7 @@ pub fn upper_behind<'a>(prefix: &IVec, bound: Bound<&'a [u8]>) -> Option<Bound<&
     }
 }
 
-/// A lower bound of keys as one of their rests behind a beginning; `None` where no such key is within it.
+/// A lower bound of keys as one of their rests behind a beginning; `None` if no such key is within it.
 #[inline(always)]
 pub fn lower_behind<'a>(prefix: &IVec, bound: Bound<&'a [u8]>) -> Option<Bound<&'a [u8]>>
     ensures within { (rest : Key) → within_lower (bound_of bound.entry) (prefix.now ++ rest) ≡ is_from_in result rest }

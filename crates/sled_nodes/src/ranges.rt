@@ -8,7 +8,7 @@ use std::ops::Bound;
 // The empty key.
 const LEAST: &[u8] = &[];
 
-/// Whether a range starts above its end, or at it where not both are included.
+/// Whether a range starts above its end, or at it if not both are included.
 ///
 /// ```
 /// let has_none = is_reversed(Bound::Included(b"weil"), Bound::Excluded(b"ulm")); // `true`.

@@ -15,7 +15,7 @@ pub struct Shared {
     node: Arc<Node>,
 }
 
-// By hand, so that whoever lets go of a node cites this, and need not prove again how each of its parts goes.
+// By hand, so that each function that drops a node cites this, and does not prove again how its parts are dropped.
 impl Drop for Shared {
     #[inline(always)]
     fn drop(self) {
@@ -81,8 +81,8 @@ impl Shared {
         }
     }
 
-    /// Makes the change of a link, in place where no other holds the node, and else in a copy. Refused with `NoMemory` alone, and
-    /// then unchanged.
+    /// Makes the change of a link, in place if no other holds the node, and else in a copy. Refused with `NoMemory` alone, and then
+    /// unchanged.
     ///
     /// ```
     /// let mut shared = Shared::new(alloc, node)?;

@@ -39,7 +39,7 @@ pub struct Stripped<V> {
     rests: Entries<V>,
 }
 
-// By hand, so that whoever lets go of entries cites this, and need not prove again how each of its parts goes.
+// By hand, so that each function that drops entries cites this, and does not prove again how its parts are dropped.
 impl<V: Drop> Drop for Stripped<V> {
     fn drop(self) {
         let Stripped { prefix, rests } = self;
@@ -104,7 +104,7 @@ impl<V> Stripped<V> {
         self.get_behind(key)
     }
 
-    // The same, called where there is a prefix.
+    // The same, called if there is a prefix.
     #[inline(never)]
     fn get_behind(&self, key: &[u8]) -> Option<&V>
         ensures { option_copied result ≡ find (slice_cmp nat_cmp) key.now self.now }
@@ -115,7 +115,7 @@ impl<V> Stripped<V> {
         }
     }
 
-    // The place of a key, `Some(None)` where it has none, and `None` where that takes a look at all entries.
+    // The place of a key, `Some(None)` if it has none, and `None` if that takes a look at all entries.
     fn place_alone(&self, key: &[u8]) -> Option<Option<usize>>
         ensures { IfSome result (IsOut (λ e. not (eq_by_cmp (slice_cmp nat_cmp) key.now e.0)) self.now) }
     {
@@ -136,7 +136,7 @@ impl<V> Stripped<V> {
         self.last_behind(bound, near)
     }
 
-    // The same, called where there is a prefix.
+    // The same, called if there is a prefix.
     #[inline(never)]
     fn last_behind(&self, bound: Bound<&[u8]>, near: usize) -> Option<usize>
         ensures { MatchOption result (list_any (λ e. within_upper (bound_of bound.entry) e.0) self.now ≡ false) (IsLastAt (λ e. within_upper (bound_of bound.entry) e.0) self.now) }
@@ -161,7 +161,7 @@ impl<V> Stripped<V> {
         self.first_behind(bound, near)
     }
 
-    // The same, called where there is a prefix.
+    // The same, called if there is a prefix.
     #[inline(never)]
     fn first_behind(&self, bound: Bound<&[u8]>, near: usize) -> Option<usize>
         ensures { MatchOption result (list_any (λ e. within_lower (bound_of bound.entry) e.0) self.now ≡ false) (IsFirstAt (λ e. within_lower (bound_of bound.entry) e.0) self.now) }
@@ -345,7 +345,7 @@ impl<V: Held> Stripped<V> {
 }
 
 impl<V: Held> Stripped<V> {
-    // The rest of a key, where the prefix stays when it comes in.
+    // The rest of a key, if the prefix stays when it comes in.
     #[inline(always)]
     fn rest(&self, alloc: Global, key: &IVec) -> Result<Option<IVec>>
         ensures ok { IfOk result (λ rest. IfSome rest (IsRest self.now key.now)) }
@@ -481,7 +481,7 @@ impl<V: Held> Stripped<V> {
         }
     }
 
-    // The same by the whole list, where the keys do not ascend.
+    // The same by the whole list, if the keys do not ascend.
     fn remove_all(&mut self, key: &IVec) -> Result<()>
         ensures ok { OnOk result (self.new ≡ where_key (slice_cmp nat_cmp) (λ x. not (eq_by_cmp (slice_cmp nat_cmp) key.now x)) self.old) }
         ensures err { OnErr result (self.new ≡ self.old) }
@@ -641,7 +641,7 @@ impl Stripped<Pid> {
         among::place_of(self.rests.as_slice(), to)
     }
 
-    // Puts a pointer in its place where the key has none.
+    // Puts a pointer in its place if the key has none.
     #[tactic(auto, unfolding(crate::specs::Order::key_cmp))]
     pub(crate) fn post(&mut self, at: &IVec, pid: Pid) -> Result<bool>
         ensures ok { IfOk result (λ posted. posted ≡ is_none (find key_cmp at.now self.old)) }

@@ -1,4 +1,4 @@
--- Slots by place, as they lie in blocks.
+-- Slots by place, as they are stored in blocks.
 use Rattle.std.specs.Prelude.{ℕ, Bool, Option}
 use Rattle.sled_pages.specs.declared.memory.slots.Slot.{Slot}
 use Rattle.sled_pages.specs.declared.memory.blocks.Blocks.{Blocks}

@@ -7,7 +7,7 @@ use Rattle.sled_store.specs.State.{nodes_of}
 use Rattle.sled_store.specs.Store.{Store}
 use Rattle.sled_nodes.specs.Image.{node_in, root_in, all_numbers}
 
--- a recovered store with these pages, roots and mark, of which nothing is recent; of one number or name the last entry stands.
+-- a recovered store with these pages, roots and mark, of which nothing is recent; of one number or name the last entry counts.
 -- The numbers that the image has or names count as given, so that no new page gets one of them
 pub record IsImage (image : List (ℕ × Node)) (roots : List (Key × ℕ)) (mark : ℕ) (s : Store) : Type 0 where
   pub pages : (p : ℕ) → nodes_of s.base p ≡ node_in image p

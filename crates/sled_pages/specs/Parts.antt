@@ -27,7 +27,7 @@ alone n = (n, [])
 abbrev pub is_full : Parts → Bool
 is_full p = not (nat_lt (length p.1) 8)
 
--- a page after a link: it goes last, but where there are 8 the base becomes the node after all nine
+-- a page after a link: it goes last, but if there are 8 the base becomes the node after all nine
 abbrev pub linked : Link → Parts → Parts
 linked link p = if is_full p then (after_link link (node_of p), []) else (p.0, p.1 ++ link ∷ [])
 
@@ -39,7 +39,7 @@ abbrev pub changes_parts_as : {X : Type 0} → (Option Parts → Option Parts) �
 changes_parts_as becomes pid old new (Ok done) = new ≡ put_at old pid (becomes (old pid))
 changes_parts_as becomes pid old new (Err present) = new ≡ old
 
--- the parts of a page that was changed become others; of all others, and where it was not, they stay
+-- the parts of a page that was changed become others; of all others, and if it was not, they stay
 pub record ChangesParts {X : Type 0} (becomes : Option Parts → Option Parts) (pid : ℕ) (old new : ℕ → Option Parts) (answer : Result X (Option ℕ)) : Type 0 where
   pub is : changes_parts_as becomes pid old new answer
 

@@ -1,4 +1,4 @@
--- Slots by place, as they lie in a list of blocks.
+-- Slots by place, as they are stored in a list of blocks.
 use Rattle.std.specs.Prelude.{ℕ, ◌/◌, ◌%◌, nat_lt, Bool, List, [], length, Option, Some, None, slice_get}
 use Rattle.std.specs.Global.{Vec}
 use Rattle.sled_pages.specs.Joined.{joined}

@@ -1,4 +1,4 @@
--- Slots by number, as they lie.
+-- Slots by number, as they are stored.
 use Rattle.std.specs.Prelude.{ℕ, ◌-◌, nat_le, nat_lt, is_some, ◌&&◌, Bool, Option, if◌then◌else◌}
 use Rattle.std.specs.Ordering.{nat_cmp}
 use Rattle.std.specs.BTreeMap.{BTreeMap, get}
@@ -7,7 +7,7 @@ use Rattle.sled_pages.specs.Blocks.{lies_of, has_of}
 use Rattle.sled_pages.specs.declared.memory.slots.Slot.{Slot}
 use Rattle.sled_pages.specs.declared.memory.slots.Slots.{Slots}
 
--- a number up to the last one of the image is looked up there, a greater one lies by place
+-- a number up to the last one of the image is looked up there, a greater one by place
 abbrev pub slot_in : ℕ → BTreeMap ℕ (Option Slot) → (ℕ → Option Slot) → ℕ → Option Slot
 slot_in last foreign own p = if nat_le p last then joined (get nat_cmp foreign p) else own (p - last - 1)
 

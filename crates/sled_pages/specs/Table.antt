@@ -84,7 +84,7 @@ undo_given next (UndoFold pid version page) = nat_lt version next
 undo_given next (UndoRoot name root) = true
 undo_given next (UndoGroup was_open) = true
 
--- every version that stands somewhere is below the next one
+-- every version that is in use is below the next one
 pub record AreBelow (next : ℕ) (slots : ℕ → Option Slot) (log : List Undo) : Type 0 where
   pub here : (p : ℕ) → slot_given next (slots p) ≡ true
   pub in_log : list_all (undo_given next) log ≡ true

@@ -1,8 +1,8 @@
-//! A store in memory, and again the names of what every store stands on.
+//! A store in memory, and the names of `sled_nodes` and `sled_store` again.
 //!
 //! `MemPages` keeps the contract `Pages` of `sled_store` (`specs/Memory`). It has the pages as they are now (`specs/Slots`), each as a
 //! base and the links since (`specs/Parts`), and how to take each action since the last flush back (`specs/Table`). The model, the laws
-//! and the steps of a call stand on `sled_nodes` and `sled_store` alone, so they know nothing of this store.
+//! and the steps of a call use `sled_nodes` and `sled_store` alone, so they know nothing of this store.
 #![tactic(auto)]
 
 mod memory;

@@ -61,7 +61,7 @@ pub struct MemPages {
     ghost below: { AreBelow next_version (slots_of slots) log.items },
 }
 
-// By hand, so that whoever lets go of a store cites this, and need not prove again how each of its parts goes.
+// By hand, so that each function that drops a store cites this, and does not prove again how its parts are dropped.
 impl Drop for MemPages {
     fn drop(self) {
         let MemPages {
@@ -114,7 +114,7 @@ fn names(named: &[u64], pid: Pid) -> bool
     named.contains(&pid.0)
 }
 
-// Counts a call, which is refused where its number was named.
+// Counts a call, which is refused if its number was named.
 fn count_call(calls: &mut u64, faults: &mut u64, refused: &[u64]) -> Result<()>
     ensures ok { OnOk result (faults.new ≡ faults.old) }
     ensures counted { OnOk result (calls.new ≡ calls.old + 1) }
@@ -163,7 +163,7 @@ impl MemPages {
     }
 
     /// A store of these pages, roots and mark, as if an earlier store had left them. Of one number or name the last entry
-    /// stands. Its next page number is greater than all that the image has or names. Refused with `NoMemory` alone.
+    /// counts. Its next page number is greater than all that the image has or names. Refused with `NoMemory` alone.
     ///
     /// ```
     /// // One leaf, the root of a tree.
@@ -270,8 +270,7 @@ impl MemPages {
         Ok(())
     }
 
-    /// The base node of a page and the links since, the first of them first, at most 8. `None` where there is no page. It takes no
-    /// memory.
+    /// The base node of a page and the links since, the first of them first, at most 8. `None` if there is no page. It takes no memory.
     ///
     /// ```
     /// if let Some((base, links)) = pages.parts(pid) {
@@ -289,7 +288,7 @@ impl MemPages {
         }
     }
 
-    /// The greatest page number that was given, 0 where none was, and how many versions were: all that are below it.
+    /// The greatest page number that was given, 0 if none was, and how many versions were: all that are below it.
     ///
     /// ```
     /// let (greatest, versions) = pages.numbers_given(); // (Pid(0), 0) of a new store.
@@ -318,7 +317,7 @@ impl MemPages {
     }
 
     /// What `flush` does, and answers what it answers, but it is never refused: it is none of the calls that are counted. It is for a
-    /// store that stands on this one, and has made all durable before.
+    /// store that is built over this one, and has made all durable before.
     ///
     /// ```
     /// if !pages.in_group() {
@@ -347,7 +346,7 @@ impl MemPages {
         count_call(&mut self.calls, &mut self.faults, self.refused.as_slice())
     }
 
-    // Counts a call. Where it is not refused there is room for one action.
+    // Counts a call. If it is not refused there is room for one action.
     fn start(&mut self) -> Result<()>
         ensures same { OnOk result (store_of self.new ≡ store_of self.old) }
         ensures named { OnOk result (is_named (self.old.calls + 1) (calls_refused self.old) ≡ false) }

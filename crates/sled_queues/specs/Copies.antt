@@ -25,12 +25,12 @@ abbrev pub after_events : List Event → Map → Map
 after_events [] m = m
 after_events (e ∷ es) m = after_events es (after_event e m)
 
--- where there may be no event, and then no change
+-- for an event that may be absent: without one nothing changes
 abbrev pub after_event_of : Option Event → Map → Map
 after_event_of None m = m
 after_event_of (Some e) m = after_event e m
 
--- the event of a call tells all that the call changes in its tree's map
+-- the event of a call describes all that the call changes in its tree's map
 abbrev pub ChangesLaw : Type 0
 ChangesLaw = (effect : Effect) (key : Key) (m : Map) → map_after effect key m ≡ after_event_of (event_of effect key) m
 
@@ -58,7 +58,7 @@ abbrev pub came_to : ℕ → List Turn → List Event
 came_to tree [] = []
 came_to tree (t ∷ ts) = came_to_at tree t ++ came_to tree ts
 
--- the events of what was told, and that nothing of it was a count of missed ones
+-- the events among these answers, and that none of the answers is a count of missed events
 abbrev pub events_told : List Next → List Event
 events_told [] = []
 events_told (told.Event e ∷ ns) = e ∷ events_told ns
@@ -69,8 +69,8 @@ TellsEvents [] = Unit {0}
 TellsEvents (told.Event e ∷ ns) = TellsEvents ns
 TellsEvents (told.Missed n ∷ ns) = ⊥
 
--- A subscriber that keeps a copy changes it by each event that it takes. Where it missed none, and the copy, once the events that wait
--- have changed it too, was a copy of the tree's map, it still is: so where none waits any more, it is one by itself
+-- A subscriber that keeps a copy changes it by each event that it takes. If it missed none, and the copy, once the events that wait have
+-- changed it too, was a copy of the tree's map, it still is: so if none waits any more, it is one by itself
 abbrev pub FollowsLaw : Type 0
 FollowsLaw = (turns : List Turn) (n : ℕ) (queues : ℕ → Option Queue) (q : Queue) → queues n ≡ Some q → Stays n turns
     → TellsEvents (taken_by n turns queues) → (backlog_in (after_turns turns queues n)).missed ≡ 0

@@ -7,7 +7,7 @@ use Rattle.sled_model.specs.Queues.{next_in, watched, taken, given_up}
 use Rattle.sled_model.specs.declared.event.Event.{Event}
 use Rattle.sled_model.specs.declared.event.Next.{Next}
 
--- what happens to queues: an event comes to a tree, a subscriber watches a prefix of a tree, takes what is next, or is given up
+-- what happens to queues: an event comes to a tree, a subscriber watches a prefix of a tree, takes what is next, or ends
 pub data Turn : Type 0 where
   Comes : (tree : ℕ) (event : Event) → Turn
   Watches : (subscriber tree : ℕ) (prefix : Key) → Turn

@@ -1,5 +1,5 @@
--- What a subscriber hears: the events under its prefix of its tree since it watched, each once and in order, but for those that it missed,
--- of which it is told how many they were.
+-- What a subscriber gets: the events under its prefix of its tree since it watched, each once and in order, but for those that it missed,
+-- whose number it gets.
 use Rattle.std.specs.Prelude.{◌≡◌, ℕ, ◌+◌, ◌<◌, ◌≤◌, length, drop, List, [], ◌∷◌, ◌++◌, Option, Some, None}
 use Rattle.sled_nodes.specs.Order.{Key}
 use Rattle.sled_model.specs.Backlog.{Backlog, no_backlog, most_missed}
@@ -10,7 +10,7 @@ use Rattle.sled_model.specs.declared.event.Next.{Next}
 use Rattle.sled_model.specs.declared.event.Next.TheVariants as told
 use Rattle.sled_queues.specs.Events.{Turn, Watches, after_turn, after_turns, taken_by, brought, Stays}
 
--- what was told accounts for the first of these events, with n of them at each `Missed n`, and the others are left
+-- these answers account for the first of these events, with n of them at each `Missed n`, and the others are left
 abbrev pub Accounts : List Next → List Event → List Event → Type 0
 Accounts [] all left = all ≡ left
 Accounts (told.Event e ∷ ns) [] left = ⊥
@@ -22,7 +22,7 @@ pub record Holds (b : Backlog) (all : List Event) : Type 0 where
   pub counted : b.missed ≤ length all
   pub waits : drop b.missed all ≡ b.events
 
--- what was told, then as many as are counted, and then those that wait are all these events, in their order
+-- what a subscriber got, then as many as are counted, and then those that wait are all these events, in their order
 pub record Hears (told : List Next) (all : List Event) (b : Backlog) : Type 0 where
   pub left : List Event
   pub accounts : Accounts told all left
@@ -34,18 +34,18 @@ CountsAll n [] queues = Unit {0}
 CountsAll n (t ∷ ts) queues = ((backlog_in (after_turn t queues n)).missed < most_missed) × CountsAll n ts (after_turn t queues)
 
 -- What a subscriber took, then as many events as are counted, and then those that wait, are those that it had at first and then those
--- that came for it, in their order. That is so if it watched before and is not given up, and all that it missed was counted
+-- that came for it, in their order. That is so if it watched before and does not end, and all that it missed was counted
 abbrev pub HearsLaw : Type 0
 HearsLaw = (turns : List Turn) (n : ℕ) (queues : ℕ → Option Queue) (q : Queue) → queues n ≡ Some q → Stays n turns → CountsAll n turns queues
     → (all : List Event) → Holds q.backlog all
     → Hears (taken_by n turns queues) (all ++ brought q turns) (backlog_in (after_turns turns queues n))
 
--- All that it missed was counted where what was counted before and the events that came are fewer than the greatest count
+-- All that it missed was counted if what was counted before and the events that came are fewer than the greatest count
 abbrev pub CountsLaw : Type 0
 CountsLaw = (turns : List Turn) (n : ℕ) (queues : ℕ → Option Queue) (q : Queue) → queues n ≡ Some q → Stays n turns
     → q.backlog.missed + length (brought q turns) < most_missed → CountsAll n turns queues
 
--- Where it begins in the midst of these turns, they are all that came for it since
+-- If it begins in the midst of these turns, they are all that came for it since
 abbrev pub HearsAllLaw : Type 0
 HearsAllLaw = (before after : List Turn) (n tree : ℕ) (prefix : Key) (queues : ℕ → Option Queue) → queues n ≡ None → Stays n before → Stays n after
     → CountsAll n (before ++ Watches n tree prefix ∷ after) queues

@@ -1,4 +1,4 @@
--- What the calls on queues come to in the model, as laws.
+-- What the calls on queues do in the model, as laws.
 use Rattle.std.specs.Prelude.{◌≡◌, ℕ, List, [], ◌∷◌, Option, Some}
 use Rattle.sled_nodes.specs.Order.{Key}
 use Rattle.sled_model.specs.State.{Queue, queues_after}
@@ -7,7 +7,7 @@ use Rattle.sled_model.specs.declared.event.Event.{Event}
 use Rattle.sled_queues.specs.Values.{Waitings}
 use Rattle.sled_queues.specs.Queues.{queues_of, IsCalm, with_subscriber, prepared, committed, cancelled, next_at, without_next_of, without_subscriber}
 
--- An event that is prepared is seen by nobody; once it is committed it is delivered, and nothing is prepared any more
+-- An event that is prepared is seen by no subscriber; once it is committed it is delivered, and nothing is prepared any more
 pub record Delivers (queues : Waitings) (tree : ℕ) (e : Event) : Type 0 where
   pub hidden : queues_of (prepared tree e queues) ≡ queues_of queues
   pub shown : queues_of (committed (prepared tree e queues)) ≡ queues_after tree (Some e) (queues_of queues)
@@ -30,7 +30,7 @@ pub record Serves (queues : Waitings) : Type 0 where
 abbrev pub ServesLaw : Type 0
 ServesLaw = (queues : Waitings) → Serves queues
 
--- where nothing is prepared, nothing is after the calls that prepare nothing
+-- if nothing is prepared, nothing is after the calls that prepare nothing
 pub record StaysCalm (queues : Waitings) : Type 0 where
   pub watches : (n tree : ℕ) (prefix : Key) → IsCalm (with_subscriber n tree prefix queues)
   pub takes : (n : ℕ) → IsCalm (without_next_of n queues)
@@ -48,7 +48,7 @@ abbrev pub delivered_all : List (ℕ × Event) → (ℕ → Option Queue) → �
 delivered_all [] queues = queues
 delivered_all (e ∷ es) queues = delivered_all es (queues_after e.0 (Some e.1) queues)
 
--- Events of any trees that are prepared are seen by nobody; once they are committed they are delivered, in order; and where they are
+-- Events of any trees that are prepared are seen by no subscriber; once they are committed they are delivered, in order; and if they are
 -- cancelled all is as it was
 pub record DeliversAll (queues : Waitings) (es : List (ℕ × Event)) : Type 0 where
   pub hidden : queues_of (prepared_all es queues) ≡ queues_of queues

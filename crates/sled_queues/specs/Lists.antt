@@ -52,7 +52,7 @@ abbrev pub watches : ℕ → Key → Option WaitingValue → Bool
 watches tree prefix None = false
 watches tree prefix (Some w) = nat_eq w.tree tree && bytes_eq w.prefix prefix
 
--- each subscriber with a queue stands once in the list of its tree and prefix, and nowhere else, and nobody else in any
+-- each subscriber with a queue is once in the list of its tree and prefix, and nowhere else, and no other number is in any
 pub record AreListed (queues : Waitings) (lists : ℕ → Key → List ℕ) : Type 0 where
   pub listed : (n tree : ℕ) (prefix : Key) → is_in n (lists tree prefix) ≡ watches tree prefix (queues n)
   pub once : (tree : ℕ) (prefix : Key) → Once (lists tree prefix)

@@ -59,7 +59,7 @@ cancelled_in w = record w { coming = [] }
 abbrev pub cancelled : Waitings → Waitings
 cancelled queues n = option_map cancelled_in (queues n)
 
--- what a subscriber is told next, and its queue after that
+-- what a subscriber gets next, and its queue after that
 abbrev pub next_at : Option WaitingValue → Option Next
 next_at None = None
 next_at (Some w) = next_of w.backlog

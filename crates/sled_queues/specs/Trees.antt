@@ -1,4 +1,4 @@
--- What a step makes of the map of a tree, told by the events that come to it.
+-- What a step makes of the map of a tree, by the events that come to it.
 use Rattle.std.specs.Prelude.{◌≡◌, ◌≤◌, Bool, true, false, List, Some}
 use Rattle.std.specs.Str.{bytes_eq}
 use Rattle.sled_nodes.specs.Order.{Key}
@@ -31,8 +31,8 @@ pub record IsTreeAfter (name : Key) (t : NamedTree) (turns : List Turn) (new : S
   pub number : tree.number ≡ t.number
   pub map : tree.map ≡ after_events (came_to t.number turns) t.map
 
--- The trees are numbered still; and where the database is open after it, each that is not dropped has the map that the events which came
--- to it made
+-- The trees are numbered still; and if the database is open after it, each that is not dropped has the map that the events which came to
+-- it made
 pub record TellsTrees (old : State) (s : Step) (o : Outcome) (turns : List Turn) (new : State) : Type 0 where
   pub numbered : AreNumbered new
   pub maps : new.is_open ≡ true → (name : Key) (t : NamedTree) → old.trees name ≡ Some t → drops name s o ≡ false → IsTreeAfter name t turns new

@@ -82,7 +82,7 @@ turns_of_stop (inl none) = []
 turns_of_stop (inr s) = turns_of_parts s.1.does
 
 -- a whole call that is refused: of a clear and an import, the parts that were done. A refused group brings
--- nothing, even where it closes the database
+-- nothing, even if it closes the database
 abbrev pub turns_of_refusal : (old : State) (a b : Store) (whole : Whole) (e : Error) (new : State) (maps : List Maps) → WholeRefuses old a b whole e new maps → List Turn
 turns_of_refusal old a b Flush e new maps d = []
 turns_of_refusal old a b (PopMin tree) e new maps d = []
@@ -109,7 +109,7 @@ abbrev pub TurnsLaw : Type 0
 TurnsLaw = (old : Configuration) (s : Step) (o : Outcome) (new : Configuration) (maps : List Maps) (t : transition_as old s o new maps)
     → new.state.queues ≡ after_turns (turns_of old s o new maps t) old.state.queues
 
--- what a subscriber is told by this step, if it is its `Next`
+-- what a subscriber gets by this step, if it is its `Next`
 abbrev pub told_at : ℕ → Step → Outcome → List event.Next
 told_at n (step.Whole (Next subscriber)) (Decided (told.Next next)) = if nat_eq subscriber n then option_to_list next else []
 told_at n s o = []
@@ -119,7 +119,7 @@ abbrev pub gives_up : ℕ → Step → Bool
 gives_up n (step.Whole (Unsubscribe subscriber)) = nat_eq subscriber n
 gives_up n s = false
 
--- A step that does not give a subscriber up leaves it its queue, and what it takes then is what it is told
+-- A step that does not end a subscriber leaves it its queue, and what it takes then is what it gets
 pub record IsHeard (n : ℕ) (s : Step) (o : Outcome) (turns : List Turn) (queues : ℕ → Option Queue) : Type 0 where
   pub stays : Stays n turns
   pub told : told_at n s o ≡ taken_by n turns queues

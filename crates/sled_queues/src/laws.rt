@@ -5,33 +5,33 @@ ghost use Rattle.sled_queues.specs.Copies.{ChangesLaw, CopyLaw, FollowsLaw};
 ghost use Rattle.sled_queues.specs.Turns.{TurnsLaw, HeardLaw};
 ghost use Rattle.sled_queues.specs.Trees.{TreesLaw};
 
-/// An event that is prepared and committed is delivered, where nothing was prepared before.
+/// An event that is prepared and committed is delivered, if nothing was prepared before.
 pub fn law_delivers()
     ensures { DeliversLaw }
 {}
 
-/// An event that is prepared and cancelled leaves all as it was, where nothing was prepared before.
+/// An event that is prepared and cancelled leaves all as it was, if nothing was prepared before.
 pub fn law_cancels()
     ensures { CancelsLaw }
 {}
 
 /// Events of several trees that are prepared one after the other are delivered in that order once they are committed, and
-/// are gone once they are cancelled, where nothing was prepared before.
+/// are gone once they are cancelled, if nothing was prepared before.
 pub fn law_delivers_all()
     ensures { DeliversGroupLaw }
 {}
 
-/// Where nothing is prepared, nothing is after the calls that prepare nothing.
+/// If nothing is prepared, nothing is after the calls that prepare nothing.
 pub fn law_stays_calm()
     ensures { CalmLaw }
 {}
 
-/// A new subscriber, what a subscriber is told next and the end of a subscriber are those of the model.
+/// A new subscriber, what a subscriber gets next and the end of a subscriber are those of the model.
 pub fn law_serves()
     ensures { ServesLaw }
 {}
 
-/// A subscriber gets each event that comes for it once and in order, or is told how many it missed.
+/// A subscriber gets each event that comes for it once and in order, or gets the number of those that it missed.
 pub fn law_hears()
     ensures { HearsLaw }
 {}
@@ -41,12 +41,12 @@ pub fn law_hears_all()
     ensures { HearsAllLaw }
 {}
 
-/// All that a subscriber missed was counted, where fewer events came than can be counted.
+/// All that a subscriber missed was counted, if fewer events came than can be counted.
 pub fn law_counts()
     ensures { CountsLaw }
 {}
 
-/// The event of a call tells all that the call changes in the map of its tree.
+/// The event of a call describes all that the call changes in the map of its tree.
 pub fn law_changes()
     ensures { ChangesLaw }
 {}
@@ -56,8 +56,8 @@ pub fn law_copy()
     ensures { CopyLaw }
 {}
 
-/// A subscriber that missed none and changes a copy by each event that it takes has a copy of its tree's map where nothing
-/// waits for it.
+/// A subscriber that missed none and changes a copy by each event that it takes has a copy of its tree's map if nothing waits
+/// for it.
 pub fn law_follows()
     ensures { FollowsLaw }
 {}
@@ -67,12 +67,12 @@ pub fn law_turns()
     ensures { TurnsLaw }
 {}
 
-/// What a subscriber takes at a step of a machine is what the step's reply tells it.
+/// What a subscriber takes at a step of a machine is what the step's reply gives it.
 pub fn law_heard()
     ensures { HeardLaw }
 {}
 
-/// The events that come to a tree at a step tell all that the step changes in its map, while the database is open.
+/// The events that come to a tree at a step describe all that the step changes in its map, while the database is open.
 pub fn law_trees()
     ensures { TreesLaw }
 {}

@@ -1,11 +1,11 @@
 //! The queues of subscribers.
 //!
 //! An event comes into them in two steps. `Queues::prepare` puts a copy of it behind the events of each queue that waits for
-//! it, where no subscriber sees it yet; this is refused for memory alone. `Queues::commit` makes wait what was prepared; it
-//! takes no memory and cannot be refused. So a call prepares, changes its page, and commits.
+//! it, but no subscriber sees it yet; this is refused for memory alone. `Queues::commit` makes wait what was prepared; it takes
+//! no memory and cannot be refused. So a call prepares, changes its page, and commits.
 //!
-//! A subscriber that reads nothing keeps no one up: where 1024 events wait for it, each one more makes the oldest go, and it is
-//! told how many it missed before it gets what is left.
+//! A subscriber that reads nothing delays no call: if 1024 events wait for it, each one more makes the oldest go, and it gets the
+//! number of those that it missed before it gets what is left.
 //!
 //! Contracts see the queues by subscriber (`specs/Values`), of which the model's queues are a part (`queues_of`). What each
 //! call makes of them is in `specs/Queues`, and what it answers in `specs/Tells`.

@@ -15,8 +15,8 @@ use std::alloc::Global;
 use std::collections::BTreeMap;
 use std::marker::Model;
 
-/// The queues of the subscribers of a database. At most 1024 events wait in each: where one more comes, the oldest goes and is
-/// counted. An event costs the subscribers that watch a beginning of its key alone.
+/// The queues of the subscribers of a database. At most 1024 events wait in each: if one more comes, the oldest goes and is counted.
+/// An event costs the subscribers that watch a beginning of its key alone.
 pub struct Queues {
     // the queues by subscriber
     queues: BTreeMap<u64, Waiting>,
@@ -28,7 +28,7 @@ pub struct Queues {
     given: u64,
 }
 
-// By hand, so that whoever lets go of the queues cites this, and need not prove again how each of its parts goes.
+// By hand, so that each function that drops the queues cites this, and does not prove again how its parts are dropped.
 impl Drop for Queues {
     fn drop(self) {
         let Queues {
@@ -107,8 +107,8 @@ impl Queues {
         Ok(Subscriber(number))
     }
 
-    /// Whether some subscriber waits for what happens to a key of a tree. Where it answers `false`, an event of that key comes
-    /// into no queue.
+    /// Whether some subscriber waits for what happens to a key of a tree. If it answers `false`, an event of that key comes into
+    /// no queue.
     ///
     /// ```
     /// if queues.is_watched(tree.number, b"ulm") {
@@ -122,8 +122,8 @@ impl Queues {
         any_watches(&self.lists, tree, key)
     }
 
-    /// Prepares an event of a tree: a copy comes behind the events of each queue that waits for it, where `next` does not
-    /// give it yet. Refused with `NoMemory` alone, and then nothing changes.
+    /// Prepares an event of a tree: a copy comes behind the events of each queue that waits for it, but `next` does not
+    /// return it yet. Refused with `NoMemory` alone, and then nothing changes.
     ///
     /// ```
     /// queues.prepare(tree.number, &event)?;
@@ -147,8 +147,8 @@ impl Queues {
         Ok(())
     }
 
-    /// Makes wait all that is prepared. Where 1024 events wait in a queue, the oldest goes for each that comes, and is counted.
-    /// It takes no memory.
+    /// Makes wait all that is prepared. If 1024 events wait in a queue, the oldest goes for each that comes, and is counted. It
+    /// takes no memory.
     ///
     /// ```
     /// queues.commit(); // Now `next` gives it.
@@ -173,9 +173,8 @@ impl Queues {
         self.pending.clear();
     }
 
-    /// Tells a subscriber how many events it missed, where it missed some since that was told last, and takes the oldest event
-    /// that waits otherwise: `None` where none waits, and for an unknown subscriber. It takes no memory, and no longer where many
-    /// wait.
+    /// Returns how many events a subscriber missed, if it missed some since that was returned last, and takes the oldest event
+    /// that waits otherwise: `None` if none waits, and for an unknown subscriber. It takes no memory, and no longer if many wait.
     ///
     /// ```
     /// match queues.next(&subscriber) {

@@ -38,7 +38,7 @@ impl Model for Waiting {
     ghost invariant = { λ w. (w.is ≤ length w.events.items) × (w.is ≤ queue_limit) };
 }
 
-// One event more waits: the first one behind those that wait. Where 1024 wait the oldest goes, and is counted.
+// One event more waits: the first one behind those that wait. If 1024 wait the oldest goes, and is counted.
 fn admit_one(events: &mut VecDeque<Event>, is: usize, missed: u64) -> (usize, u64)
     requires some { is < length events.old.items }
     requires within { is ≤ queue_limit }
@@ -124,7 +124,7 @@ impl Waiting {
         }
     }
 
-    // Makes wait what is prepared, one event after the other. Where 1024 wait, the oldest goes.
+    // Makes wait what is prepared, one event after the other. If 1024 wait, the oldest goes.
     pub(crate) fn commit(&mut self)
         ensures { self.new ≡ committed_in self.old }
     {

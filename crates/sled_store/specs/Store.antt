@@ -70,7 +70,7 @@ is_read_refused_as pid s NoMemory = Unit {0}
 is_read_refused_as pid s (Io fault) = s.is_readable pid ≡ false
 is_read_refused_as pid s _ = ⊥
 
--- a read is refused for want of memory, or for a fault where the page is not readable
+-- a read is refused for want of memory, or for a fault if the page is not readable
 pub record IsReadRefused (pid : ℕ) (s : Store) (e : Error) : Type 0 where
   pub is : is_read_refused_as pid s e
 
@@ -78,7 +78,7 @@ pub record IsReadRefused (pid : ℕ) (s : Store) (e : Error) : Type 0 where
 abbrev pub HasUnreadable : Store → Type 0
 HasUnreadable s = (pid : ℕ) × (s.is_readable pid ≡ false)
 
--- a read of some page is refused: for want of memory, or for a fault where some page is not readable
+-- a read of some page is refused: for want of memory, or for a fault if some page is not readable
 abbrev pub refuses_read_as : Store → Error → Type 0
 refuses_read_as s NoMemory = Unit {0}
 refuses_read_as s (Io fault) = HasUnreadable s
@@ -99,8 +99,8 @@ changes_as change pid version old new (Ok given) =
 changes_as change pid version old new (Err present) =
     (new ≡ old) × (present ≡ version_now old pid) × ((present ≡ Some version) → ⊥)
 
--- A page's node is changed where the page has the version, and has a new version then.
--- Else the answer is the version that it has, and nothing changes
+-- A page's node is changed if the page has the version, and has a new version then. Else
+-- the answer is the version that it has, and nothing changes
 pub record Changes (change : Node → Node) (pid version : ℕ) (old new : Store) (answer : Result ℕ (Option ℕ)) : Type 0 where
   pub is : changes_as change pid version old new answer
 
@@ -108,7 +108,7 @@ abbrev pub frees_as : ℕ → ℕ → Store → Store → Result (Unit {0}) (Opt
 frees_as pid version old new (Ok done) = (version_now old pid ≡ Some version) × (new ≡ after_action (PageBecomes pid None) old)
 frees_as pid version old new (Err present) = (new ≡ old) × (present ≡ version_now old pid) × ((present ≡ Some version) → ⊥)
 
--- a page is taken out where it has the version
+-- a page is taken out if it has the version
 pub record Frees (pid version : ℕ) (old new : Store) (answer : Result (Unit {0}) (Option ℕ)) : Type 0 where
   pub is : frees_as pid version old new answer
 
@@ -118,7 +118,7 @@ swaps_as name expected proposed old new (Ok done) =
 swaps_as name expected proposed old new (Err present) =
     (new ≡ old) × (present ≡ (now old).roots name) × (present ≡ expected → ⊥)
 
--- a name's root becomes the proposed one where it is the expected one
+-- a name's root becomes the proposed one if it is the expected one
 pub record SwapsRoot (name : Key) (expected proposed : Option ℕ) (old new : Store) (answer : Result (Unit {0}) (Option ℕ)) : Type 0 where
   pub is : swaps_as name expected proposed old new answer
 

@@ -11,9 +11,9 @@ use std::alloc::Global;
 
 /// A store of pages by number and of roots by name.
 ///
-/// The changing calls are `allocate`, `free`, `begin_group`, `seal_group`, and `link`, `replace` and `cas_root` where
-/// they find what they expect. A crash may undo the latest of them back to the last flush, but never breaks up a group.
-/// A call that is refused (an outer `Err`) changes nothing, but that the fault is counted.
+/// The changing calls are `allocate`, `free`, `begin_group`, `seal_group`, and `link`, `replace` and `cas_root` if they
+/// find what they expect. A crash may undo the latest of them back to the last flush, but never breaks up a group. A
+/// call that is refused (an outer `Err`) changes nothing, but that the fault is counted.
 pub trait Pages: Send + Drop {
     /// What the store means.
     ghost store: { Self → Store };
@@ -21,8 +21,8 @@ pub trait Pages: Send + Drop {
     /// The number that a flush would answer now.
     ghost flush_number: { Self → ℕ };
 
-    /// The page now, or `None` where there is none. `Io` comes only where the page is not readable, and such a page is
-    /// never answered.
+    /// The page now, or `None` if there is none. It answers `Io` only if the page is not readable, and such a page is never
+    /// answered.
     ///
     /// ```
     /// if let Some(view) = pages.read(alloc, pid)? {
@@ -43,7 +43,7 @@ pub trait Pages: Send + Drop {
         ensures ok { IfOk result (λ given. Allocates node given.0 given.1 (store self.old) (store self.new)) }
         ensures err { IfErr result (λ e. IsRefused e (store self.old) (store self.new)) };
 
-    /// Applies a link to a page where it has this version. Else answers the version that it has, `None` for no page.
+    /// Applies a link to a page if it has this version. Else answers the version that it has, `None` for no page.
     ///
     /// ```
     /// match pages.link(pid, version, Link::Set(key, value))? {
@@ -60,7 +60,7 @@ pub trait Pages: Send + Drop {
         ensures ok { IfOk result (Changes (after_link link) pid version (store self.old) (store self.new)) }
         ensures err { IfErr result (λ e. IsRefused e (store self.old) (store self.new)) };
 
-    /// Gives a page another node where it has this version. Else answers the version that it has, `None` for no page.
+    /// Gives a page another node if it has this version. Else answers the version that it has, `None` for no page.
     ///
     /// ```
     /// let done = pages.replace(pid, version, node)?; // The new version, or the one that it has.
@@ -74,7 +74,7 @@ pub trait Pages: Send + Drop {
         ensures ok { IfOk result (Changes (λ _. node) pid version (store self.old) (store self.new)) }
         ensures err { IfErr result (λ e. IsRefused e (store self.old) (store self.new)) };
 
-    /// Takes a page out where it has this version. Else answers the version that it has, `None` for no page.
+    /// Takes a page out if it has this version. Else answers the version that it has, `None` for no page.
     ///
     /// ```
     /// let done = pages.free(pid, version)?; // `Ok(())`, or the version that it has.
@@ -87,7 +87,7 @@ pub trait Pages: Send + Drop {
         ensures ok { IfOk result (Frees pid version (store self.old) (store self.new)) }
         ensures err { IfErr result (λ e. IsRefused e (store self.old) (store self.new)) };
 
-    /// The root of a name, or `None` where the name has none.
+    /// The root of a name, or `None` if the name has none.
     ///
     /// ```
     /// let root = pages.root(b"weather");
@@ -104,7 +104,7 @@ pub trait Pages: Send + Drop {
         ensures ok { IfOk result (λ roots. IsRoots (now (store self.now)) roots.items) }
         ensures err { IfErr result (λ e. e ≡ NoMemory) };
 
-    /// Makes `new` the root of a name where `old` is; `None` takes the name out. Else answers the root that it has.
+    /// Makes `new` the root of a name if `old` is; `None` takes the name out. Else answers the root that it has.
     ///
     /// ```
     /// // A first root for the name.
@@ -163,7 +163,7 @@ pub trait Pages: Send + Drop {
         ensures number { IfOk result (λ n. n ≡ flush_number self.old) }
         ensures err { IfErr result (λ e. IsRefused e (store self.old) (store self.new)) };
 
-    /// Raises the mark, which is durable at once.
+    /// Raises the mark, which is none of the actions that a crash may undo (`specs/Crash`).
     ///
     /// ```
     /// if let Some(upto) = pages.mark().checked_add(4096) {

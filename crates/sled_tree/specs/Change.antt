@@ -19,7 +19,7 @@ link_of effect.Nothing k = None
 link_of (effect.Set v) k = Some (Set k v)
 link_of effect.Remove k = Some (Del k)
 
--- what the call comes to by the value that a leaf has at its key, and by the operator of its tree
+-- the decision of the call by the value that a leaf has at its key, and by the operator of its tree
 abbrev pub decision_at : Option Merge → Call → Data → Decision
 decision_at merge call content = decision_of merge call (value_at content (key_of call))
 

@@ -20,7 +20,7 @@ start_of (Included k) = k
 start_of (Excluded k) = k
 start_of Unbounded = []
 
--- what the first walk of a call aims at: a call on a key aims at its key, and a scan at the end of its range where it begins
+-- what the first walk of a call aims at: a call on a key aims at its key, and a scan at the end of its range at which it begins
 abbrev pub first_aim : Call → Bound Key
 first_aim (Scan lo hi false) = Included (start_of lo)
 first_aim (Scan lo hi true) = hi

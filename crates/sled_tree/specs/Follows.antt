@@ -57,7 +57,7 @@ Where condition here below = (condition × here) ⊎ ((condition → ⊥) × bel
 abbrev pub OrNoMemory : Sequel → Sequel → Type 0
 OrNoMemory next comes = (next ≡ comes) ⊎ (next ≡ Refused NoMemory)
 
--- a half-done merge goes on from the reading of its child, where a pointer stands before the child's
+-- a half-done merge goes on from the reading of its child, if there is a pointer before the child's
 abbrev pub resumed : View → ℕ → Option ℕ → Sequel
 resumed v child None = Go stage.Root
 resumed v child (Some before) = Go (stage.Child (record { parent = v; child = child; before = before }))
@@ -67,7 +67,7 @@ pub record ResumesMerge (v : View) (child : ℕ) (next : Sequel) : Type 0 where
   pub is_before : IsPointerBefore child (pointers v.node.content) before
   pub is : next ≡ resumed v child before
 
--- a merge begins, where a pointer of the parent stands before the page's
+-- a merge begins, if the parent has a pointer before the page's
 abbrev pub begun : View → ℕ → Option ℕ → Sequel
 begun parent child None = Go stage.Root
 begun parent child (Some before) = Go (stage.Intend (record { parent = parent; child = child; before = before }))
@@ -126,8 +126,8 @@ abbrev pub follows_content : Data → Course → View → Sequel → Type 0
 follows_content (Index es) j v next = GoesDown j v next
 follows_content (Leaf es) j v next = follows_leaf j v next
 
--- An open page of at most 16 entries that lies under the aim. One that was reached by `next` gets its pointer. One of few entries that
--- was reached by a later pointer of an index that can have it for its merging child merges
+-- An open page of at most 16 entries that is under the aim. One that was reached by `next` gets its pointer. One of few entries that was
+-- reached by a later pointer of an index that can have it for its merging child merges
 abbrev pub follows_here : Course → View → Reached → Sequel → Type 0
 follows_here j v reached.Root next = follows_content v.node.content j v next
 follows_here j v (reached.FirstPointer parent) next = follows_content v.node.content j v next
@@ -136,7 +136,7 @@ follows_here j v (reached.LaterPointer parent) next =
     (follows_content v.node.content j v next)
 follows_here j v (reached.Next parent) next = OrNoMemory next (pointed v parent)
 
--- the node ends within the aim, so that the aim lies behind it
+-- the node ends within the aim, so that the aim is behind it
 abbrev pub EndsWithin : Node → Bound Key → Type 0
 EndsWithin n aim = (n.hi ≢ []) × (is_up_to aim n.hi ≡ true)
 
@@ -166,8 +166,8 @@ follows_child merge v next =
     Where (v.node.merging ≡ true) (next ≡ Go (stage.Seek (record { merge = merge; version = v.version; node = v.node; cursor = merge.before })))
     (follows_child_not_merging v.node.merging_child merge v next)
 
--- The search for the page before the merging child. The one that leads to the child receives it, and splits first where it is
--- too long; where the search came past the child, that was received already
+-- The search for the page before the merging child. The one that leads to the child receives it, and splits first if it is too
+-- long; if the search came past the child, that was received already
 abbrev pub searched : Seek → Option ℕ → Sequel
 searched seek None = Go stage.Root
 searched seek (Some q) = Go (stage.Seek (record { merge = seek.merge; version = seek.version; node = seek.node; cursor = q }))
@@ -194,8 +194,8 @@ follows_cursor_not_merging None seek v next = follows_search seek v next
 abbrev pub follows_cursor : Seek → View → Sequel → Type 0
 follows_cursor seek v next = Where (v.node.merging ≡ true) (next ≡ Go stage.Root) (follows_cursor_not_merging v.node.merging_child seek v next)
 
--- The page that a stage reads says what comes next. Where there is none the call begins again. Where the page is not readable
--- the call is refused: for that, or for want of memory
+-- The page that a stage reads says what comes next. If there is none the call begins again. If the page is not readable the call
+-- is refused: for that, or for want of memory
 pub record FollowsPage (s : Store) (pid : ℕ) (found : View → Sequel → Type 0) (next : Sequel) : Type 0 where
   pub is : ((s.is_readable pid ≡ true) × MatchOption (view_of pid ((now s).pages pid)) (next ≡ Go stage.Root) (λ v. found v next)) ⊎ ((e : Error) × (next ≡ Refused e) × IsReadRefused pid s e)
 
@@ -208,11 +208,11 @@ follows_walk j s a next = FollowsPage s a.cursor (λ v. follows_read j v a.reach
 
 -- A stage that acts
 
--- an action comes to this, or the store refuses it, and then the call is refused
+-- an action has this result, or the store refuses it, and then the call is refused
 abbrev pub OrRefused : Store → Store → Sequel → Type 0 → Type 0
 OrRefused old new next comes = comes ⊎ ((e : Error) × (next ≡ Refused e) × IsRefused e old new)
 
--- a page is changed where it has the version, and what comes is told by the new version; else by the one that it has
+-- a page is changed if it has the version, and what comes is given by the new version; else by the one that it has
 abbrev pub TakesWay : (Node → Node) → ℕ → ℕ → Store → Store → Sequel → (ℕ → Sequel) → (Option ℕ → Sequel) → Type 0
 TakesWay change pid version old new next took late =
     ((given : ℕ) × Changes change pid version old new (Ok given) × (next ≡ took given))
@@ -274,7 +274,7 @@ pub record SwapsTheRoot (name : Key) (old new : Store) (a : SwapRoot) (next : Se
   pub swaps : SwapsRoot name (Some a.old) (Some a.new) old new answer
   pub is : next ≡ after_swap_root a answer
 
--- a page that no tree came to have is freed
+-- a page that no tree has is freed
 pub record FreesOrphan (old new : Store) (a : Orphan) (next : Sequel) : Type 0 where
   pub answer : Result (Unit {0}) (Option ℕ)
   pub frees : Frees a.pid a.version old new answer
@@ -316,7 +316,7 @@ follows_confirm old new a next =
     (λ _. Go (stage.Free (record { pid = a.child; version = a.version })))
     (λ _. Go stage.Root)
 
--- what a step from a stage does, and what it leads to. A scan that has its leaf is gone on with elsewhere
+-- what a step from a stage does, and what it leads to. A scan that has its leaf is continued elsewhere
 abbrev pub follows_as : Course → Store → Stage → Sequel → Store → Type 0
 follows_as j old stage.Root next new = (new ≡ old) × follows_root j old ((now old).roots j.tree.name) next
 follows_as j old (stage.Walk a) next new = (new ≡ old) × follows_walk j old a next

@@ -1,4 +1,4 @@
--- Calls in flight on clean paths: where no other call is in the way, a call goes on by a page a step.
+-- Calls in flight on clean paths: if no other call is in the way, a call goes on by a page a step.
 use Rattle.std.specs.Prelude.{◌≡◌, ℕ, suc, true, false, List, [], Some, None, length}
 use Rattle.std.specs.declared.ops.Bound.{Bound}
 use Rattle.sled_nodes.specs.Order.{Key}
@@ -15,11 +15,11 @@ use Rattle.sled_tree.specs.declared.flight.Went.TheVariants as went
 use Rattle.tree_laws.specs.declared.flight.Reached.{Reached}
 use Rattle.tree_laws.specs.declared.flight.Reached.TheVariants as reached
 
--- the page stands as it was read
+-- the page is as it was read
 abbrev pub IsUnchanged : State → View → Type 0
 IsUnchanged s v = s.pages v.pid ≡ Some (record { version = v.version; node = v.node })
 
--- the rest of a clean path is ahead of a walk at a page that it came to so: no clean path goes on by `next`
+-- the rest of a clean path is ahead of a walk at a page that it reached so: no clean path goes on by `next`
 abbrev pub IsAheadOf : Nodes → Bound Key → ℕ → Reached → List ℕ → Type 0
 IsAheadOf nodes aim p reached.Root path = CleanFrom nodes aim p true path
 IsAheadOf nodes aim p (reached.FirstPointer parent) path = CleanFrom nodes aim p true path

@@ -25,8 +25,8 @@ pub record ActsOnce (old new : Store) : Type 0 where
 abbrev pub ActsAtMostOnce : Store → Store → Type 0
 ActsAtMostOnce old new = (new ≡ old) ⊎ ActsOnce old new
 
--- No page is left behind: what was the call's own still is, or was freed, or stands in a tree; and a page that was made, or that
--- its parent is to merge no more, is the call's own
+-- No page is left behind: what was the call's own still is, or was freed, or is in a tree; and a page that was made, or that its
+-- parent is to merge no more, is the call's own
 pub record LeaksNoPage (mine own : List ℕ) (old new : State) (v : Forest) : Type 0 where
   pub kept : (q : ℕ) → In q mine → In q own ⊎ ((new.pages q ≡ None) ⊎ ((x : Place) × In q (v.chain x)))
   pub made : (q : ℕ) → old.pages q ≡ None → (new.pages q ≡ None) ⊎ In q own

@@ -93,8 +93,8 @@ pub fn event_of(link: &Link) -> Result<Event>
     }
 }
 
-/// Prepares the change of a call that is to link it, by the operator of its tree, and changes nothing. There is none where the call
-/// changes nothing of the leaf that it read. Refused with `NoMemory` alone.
+/// Prepares the change of a call that is to link it, by the operator of its tree, and changes nothing. There is none if the call changes
+/// nothing of the leaf that it read. Refused with `NoMemory` alone.
 #[inline(always)]
 pub fn prepare_change<M: MergeOperator>(
     alloc: Global,
@@ -121,9 +121,8 @@ pub fn begin_again(flight: &mut InFlight)
     flight.turns += 1;
 }
 
-// Links a change that a call makes of its leaf, at the version that the call has read. Answers whether it was linked; where the leaf has
-// another version by now the call begins again at the root. It lets go of the leaf before it links, so that a store may change it in
-// place.
+// Links a change that a call makes of its leaf, at the version that the call has read. Answers whether it was linked; if the leaf has
+// another version by now the call begins again at the root. It drops the leaf before it links, so that a store may change it in place.
 #[inline(always)]
 fn link_at_leaf<P: Pages>(pages: &mut P, flight: &mut InFlight, link: Link) -> Result<bool>
     requires room { flight.old.turns < MAX_LOOPS }

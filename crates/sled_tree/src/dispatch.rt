@@ -94,7 +94,7 @@ fn advance_stage<P: Pages, M: MergeOperator>(
 }
 
 /// Does one step of a call in flight that has turns left: at most one page action. A merge is decided by the operator that its
-/// tree has then. A scan that has its leaf is gone on with elsewhere.
+/// tree has then. A scan that has its leaf is continued elsewhere.
 pub fn advance<P: Pages, M: MergeOperator>(
     pages: &mut P,
     alloc: Global,

@@ -18,13 +18,13 @@ pub struct Job {
 /// What the walk of a call in flight aims at: the last page of a level that begins within it has what it looks for.
 #[derive(Drop)]
 pub enum Aim {
-    /// What the call itself names: its key, or the end of its range where a scan begins.
+    /// What the call itself names: its key, or the end of its range at which a scan begins.
     Own,
     /// Where a scan goes on: at a key, or just below a key.
     At(Bound<IVec>),
 }
 
-/// A call in flight: what it is to do, what its walk aims at, where it stands, and how many of its steps went on so far.
+/// A call in flight: what it is to do, what its walk aims at, its stage, and how many of its steps went on so far.
 #[derive(Drop)]
 pub struct InFlight {
     pub job: Job,

@@ -91,7 +91,7 @@ pub(crate) fn hoist<P: Pages>(
     }))
 }
 
-// Sets the new root, where the old one is still the root.
+// Sets the new root, if the old one is still the root.
 pub(crate) fn swap_root<P: Pages>(
     pages: &mut P,
     job: &Job,

@@ -1,7 +1,7 @@
 //! A merge of a page into the one before it, in five changing actions. The parent takes the page for its merging child, and the child is
 //! capped and does not change any more. The page before it receives what it holds, the pointer to it goes, and it is freed.
 //!
-//! Whoever meets a half-done merge goes on with it, from what the pages show.
+//! A call that finds a half-done merge continues it, from what the pages show.
 ghost use Rattle.std.specs.Prelude.{◌≡◌, ◌↔◌, ◌⊎◌, [], false, true, Some, None, IsTrue, IfOk, IfErr};
 ghost use Rattle.sled_nodes.specs.declared.error.Error.TheVariants.{NoMemory};
 ghost use Rattle.sled_nodes.specs.Order.{UpTo};
@@ -210,7 +210,7 @@ fn leads_to(view: &View, seek: &Seek) -> bool
     view.node.next == Some(seek.merge.child)
 }
 
-// Whether the page reaches to where the merging child begins, or beyond it.
+// Whether the page reaches the place where the merging child begins, or beyond it.
 #[tactic(auto, unfolding(sled_nodes::specs::Order::key_cmp))]
 fn reaches(view: &View, seek: &Seek) -> bool
     ensures { IsTrue result ↔ ((view.now.node.hi ≡ []) ⊎ UpTo seek.now.node.lo view.now.node.hi) }

@@ -43,7 +43,7 @@ fn ends_within(node: &Node, target: Bound<&[u8]>) -> bool
     node.hi.len() != 0 && is_up_to(node.hi.as_ref(), target)
 }
 
-// What comes after a page was read where something is to be repaired, or which does not lie under the aim.
+// What comes after a page was read at which something is to be repaired, or which is not under the aim.
 pub(crate) fn repair(job: &Job, aim: &Aim, view: View, reached: Reached) -> Sequel
     requires { NeedsRepair (course job.now aim.now) reached view }
     ensures arrives { AfterPage (course job.now aim.now) view reached result }
@@ -93,7 +93,7 @@ fn split(job: &Job, aim: &Aim, view: View, reached: Reached) -> Sequel
     }
 }
 
-// The target lies behind the page: a root is hoisted, and below a parent the walk goes on to the next page.
+// The target is behind the page: a root is hoisted, and below a parent the walk goes on to the next page.
 fn go_on(job: &Job, aim: &Aim, view: View, reached: Reached) -> Sequel
     requires not_merging { view.node.merging ≡ false }
     requires free { view.node.merging_child ≡ None }

@@ -1,6 +1,6 @@
 //! A split: the right half becomes a new page, then the page becomes its left half, then the right half gets its pointer.
 //!
-//! Between any two of these steps the tree is whole. A right half that nobody came to want is freed.
+//! Between any two of these steps the tree is whole. A right half that is not needed is freed.
 ghost use Rattle.sled_tree.specs.Course.{course};
 ghost use Rattle.sled_tree.specs.theory.StageAction.{StageAction};
 ghost use Rattle.sled_tree.specs.Follows.{OrRefused, follows_split, follows_install_left, follows_post, FreesOrphan};
@@ -129,7 +129,7 @@ pub(crate) fn install_left<P: Pages>(
     }
 }
 
-// Puts a pointer to a page into its parent, where it has none.
+// Puts a pointer to a page into its parent, if it has none.
 pub(crate) fn post<P: Pages>(
     pages: &mut P,
     alloc: Global,

@@ -4,8 +4,8 @@
 //! moved nor made anew.
 //!
 //! Every call takes most of its time here. So what a step does at such a page is inlined wherever a step is made; left to itself LLVM
-//! does that only where there is one such place. Repairs are not (`mend`): with them the step would be so long that its own hint is
-//! dropped. And what a step comes to (`Descent`) is short, since it is copied at each page.
+//! does that only if there is one such place. Repairs are not (`mend`): with them the step would be so long that its own hint is dropped.
+//! And the outcome of a step (`Descent`) is short, since it is copied at each page.
 ghost use Rattle.std.specs.Prelude.{◌≡◌, ◌<◌, ◌↔◌, false, true, is_none, MatchOption, IsTrue, IfOk, IfErr};
 ghost use Rattle.std.specs.declared.ops.Bound.TheVariants.{Included};
 ghost use Rattle.sled_nodes.specs.Among.{IsPointerFor, bound_of};
@@ -40,9 +40,9 @@ pub(crate) enum Descent {
     None,
     // It passed an index.
     Further,
-    // It read the leaf of the call's key, where nothing is to be repaired. Nothing else was done so far.
+    // It read the leaf of the call's key, and nothing is to be repaired there. Nothing else was done so far.
     Leaf(View),
-    // It read a page where something is to be repaired, or which does not lie under the aim. Nothing else was done so far.
+    // It read a page at which something is to be repaired, or which is not under the aim. Nothing else was done so far.
     Unclean(View),
     // It found no page, or an index without a pointer to go down by: the call begins again at the root.
     Lost,
@@ -50,7 +50,7 @@ pub(crate) enum Descent {
     Refused(Error),
 }
 
-// How a walk comes to where a pointer of an index leads, the first or a later one.
+// How a walk reaches the page that a pointer of an index names, the first or a later one.
 #[inline(always)]
 fn by_pointer(parent: View, first: bool) -> Reached
     ensures { result ≡ reached_by parent first }
@@ -121,7 +121,7 @@ pub(crate) fn is_on_walk(stage: &Stage) -> bool
     }
 }
 
-// Reads the page of a stage of a walk. There is none where the tree has no root.
+// Reads the page of a stage of a walk. There is none if the tree has no root.
 #[inline(always)]
 fn meet<P: Pages>(
     pages: &P,
@@ -142,7 +142,7 @@ fn meet<P: Pages>(
     }
 }
 
-// How a stage comes to its page. The stage is taken.
+// How a stage reaches its page. The stage is taken.
 #[inline(always)]
 fn take_way(stage: &mut Stage) -> Reached
     ensures { result ≡ way_of stage.old }
@@ -172,7 +172,7 @@ fn repairs_parent(stage: &Stage, node: &Node) -> bool
     }
 }
 
-// Whether a node lies under what a walk aims at. Most walks have a key, which is told apart once.
+// Whether a node is under what a walk aims at. Most walks have a key, and that is tested once.
 #[inline(always)]
 fn is_under(job: &Job, aim: &Aim, node: &Node) -> bool
     ensures { IsTrue result ↔ LiesUnder (aim_of job.now aim.now) node.now }
@@ -194,7 +194,7 @@ fn pointer_under(job: &Job, aim: &Aim, node: &Node) -> Option<(Pid, bool)>
     }
 }
 
-// Whether nothing is to be repaired at a page, and it lies under the aim.
+// Whether nothing is to be repaired at a page, and it is under the aim.
 #[inline(always)]
 fn is_clean(job: &Job, aim: &Aim, stage: &Stage, view: &View) -> bool
     ensures clean { IsTrue result → IsClean (course job.now aim.now) (way_of stage.now) view.now }
@@ -308,7 +308,7 @@ pub(crate) fn settle(flight: &mut InFlight, next: Sequel) -> Went
     }
 }
 
-// The rest of the step at a page where something is to be repaired, or which does not lie under the aim, as at few pages.
+// The rest of the step at a page at which something is to be repaired, or which is not under the aim, as at few pages.
 #[inline(never)]
 pub(crate) fn mend(flight: &mut InFlight, view: View) -> Went
     requires room { flight.old.turns < MAX_LOOPS }

@@ -1,4 +1,4 @@
--- What a check of pages answers where it refuses them.
+-- What a check of pages answers if it refuses them.
 use Rattle.std.specs.Prelude.{◌≤◌}
 use Rattle.sled_nodes.specs.declared.error.Error.{Error}
 use Rattle.sled_nodes.specs.declared.error.Error.TheVariants.{Corruption}
@@ -13,6 +13,6 @@ abbrev pub refuses_check_as : Store → Error → Type 0
 refuses_check_as s (Corruption fault) = IsFinding fault
 refuses_check_as s e = refuses_read_as s e
 
--- refused with the code of what was found, or as a read is: for want of memory, or for a fault where some page is not readable
+-- refused with the code of what was found, or as a read is: for want of memory, or for a fault if some page is not readable
 pub record RefusesCheck (s : Store) (e : Error) : Type 0 where
   pub is : refuses_check_as s e

@@ -48,7 +48,7 @@ pub fn merging_children(alloc: Global, above: &[View]) -> Result<BTreeSet<u64>>
     Ok(children)
 }
 
-// The key that a chain has come to: where its last page ends, and at first the empty key.
+// The key that a chain has reached: where its last page ends, and at first the empty key.
 fn end_of(chain: &[View]) -> &[u8]
     ensures { result.now ≡ end_of_pages chain.now }
 {
@@ -58,7 +58,7 @@ fn end_of(chain: &[View]) -> &[u8]
     }
 }
 
-// Tests that a page begins at this key, that it ends above it where it leads on, and that its end is unbounded where it does not.
+// Tests that a page begins at this key, that it ends above it if it leads on, and that its end is unbounded if it does not.
 #[tactic(auto, unfolding(sled_nodes::specs::Order::key_cmp))]
 fn check_bounds(node: &Node, lo: &[u8]) -> Result<()>
     ensures lo { OnOk result (lo.now ≡ node.now.lo) }
@@ -76,7 +76,7 @@ fn check_bounds(node: &Node, lo: &[u8]) -> Result<()>
     Ok(())
 }
 
-// Tests a page of a chain that has come to this key: that it goes on there, that it is merging only as a merging child of the level above,
+// Tests a page of a chain that has reached this key: that it goes on there, that it is merging only as a merging child of the level above,
 // and the page itself. Then notes its level, if it was not found before.
 fn check_chained(
     alloc: Global,
@@ -107,7 +107,7 @@ fn check_chained(
     }
 }
 
-// Reads and tests the next page of a chain that has come to this key.
+// Reads and tests the next page of a chain that has reached this key.
 fn read_next<P: Pages>(
     alloc: Global,
     pages: &P,

@@ -13,7 +13,7 @@ pub struct Level {
     pub height: u64,
 }
 
-/// Notes on which level a page was found. Refused where it was found before.
+/// Notes on which level a page was found. Refused if it was found before.
 pub fn set_level(levels: &mut BTreeMap<u64, Level>, pid: Pid, level: Level) -> Result<()>
     ensures ok { OnOk result (SetsLevel pid level levels.old levels.new) }
     ensures err { IfErr result RefusesPage }

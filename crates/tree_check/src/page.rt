@@ -26,7 +26,7 @@ const MOST: usize = 33;
 
 const MOST_OF_A_CHILD: usize = 17;
 
-/// The page of this number. Where there is none the fault says so.
+/// The page of this number. If there is none the fault says so.
 pub fn page_at<P: Pages>(alloc: Global, pages: &P, pid: Pid, fault: Fault) -> Result<View>
     requires { IsFinding fault }
     ensures ok { IfOk result (IsRead (now (P.store pages.now)) pid) }
@@ -39,7 +39,7 @@ pub fn page_at<P: Pages>(alloc: Global, pages: &P, pid: Pid, fault: Fault) -> Re
     }
 }
 
-// Whether a key lies within the bounds.
+// Whether a key is within the bounds.
 #[tactic(auto, unfolding(sled_nodes::specs::Order::key_cmp))]
 fn is_within(key: &IVec, lo: &IVec, hi: &IVec) -> bool
     ensures { result ≡ true → Within lo.now hi.now key.now }
@@ -59,7 +59,7 @@ fn ascends<V>(entries: &[(IVec, V)]) -> bool
     true
 }
 
-// Whether all keys lie within the bounds.
+// Whether all keys are within the bounds.
 fn are_within<V>(entries: &[(IVec, V)], lo: &IVec, hi: &IVec) -> bool
     ensures { result ≡ true → All (λ e. Within lo.now hi.now e.0) entries.now }
 {

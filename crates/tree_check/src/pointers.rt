@@ -16,7 +16,7 @@ use sled_store::{Pages, View};
 use std::alloc::Global;
 use std::collections::BTreeMap;
 
-// Tests a page that a pointer leads to and that stands in no chain: it is to be merging, and so was received.
+// Tests a page that a pointer leads to and that is in no chain: it is to be merging, and so was received.
 fn check_received(alloc: Global, node: &Node, height: u64) -> Result<()>
     ensures page { OnOk result (IsPage height node.now) }
     ensures merging { OnOk result (node.now.merging ≡ true) }

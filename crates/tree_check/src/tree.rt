@@ -15,7 +15,7 @@ use std::alloc::Global;
 use std::collections::{BTreeMap, BTreeSet};
 use std::mem;
 
-// The page under the first pointer of a page that has not been passed, and that lies so many levels below the root.
+// The page under the first pointer of a page that has not been passed, and that is so many levels below the root.
 fn child_of<P: Pages>(
     alloc: Global,
     pages: &P,
@@ -44,7 +44,7 @@ fn child_of<P: Pages>(
     child
 }
 
-// How many levels lie below the root, by first pointers. It says only at which height the levels begin; that the leaves are at
+// How many levels are below the root, by first pointers. It says only at which height the levels begin; that the leaves are at
 // height 0 is tested when they are read.
 fn height_of<P: Pages>(alloc: Global, pages: &P, root: Pid) -> Result<u64>
     ensures err { IfErr result (RefusesCheck (P.store pages.now)) }

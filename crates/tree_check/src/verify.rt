@@ -13,21 +13,21 @@ use std::collections::BTreeMap;
 /// Tests whether the pages are well formed, as `Db::open` asks for. Half-done splits and merges are, and nothing is asked of pages that
 /// no tree has. It reads each page of each tree, and changes nothing.
 ///
-/// Refused with `NoMemory`; with `Io` where a page cannot be read; and with `Corruption` and a code from 1 to 9, which stands in `findings`.
-/// What it accepts is well formed: that is proved. That it refuses nothing else, and that the code names something that is wrong, is tested
-/// alone; where several things are wrong it is one of theirs:
+/// Refused with `NoMemory`; with `Io` if a page cannot be read; and with `Corruption` and a code from 1 to 9, which is in `findings`. What
+/// it accepts is well formed: that is proved. That it refuses nothing else, and that the code names something that is wrong, is tested
+/// alone; if several things are wrong it is one of theirs:
 ///
 /// | code | constant | what was found |
 /// |---|---|---|
 /// | 1 | `MISSING_ROOT` | a root names no page |
-/// | 2 | `FOUND_TWICE` | a page stands on two levels of a tree, or twice on one |
+/// | 2 | `FOUND_TWICE` | a page is on two levels of a tree, or twice on one |
 /// | 3 | `BROKEN_CHAIN` | the pages of a level do not begin at the empty key, have a gap, go back, or do not end unbounded |
 /// | 4 | `DANGLING_POINTER` | a pointer or a `next` names no page, or a pointer one that is neither on the level below nor merging |
 /// | 5 | `WRONG_POINTER_KEY` | a pointer's key is not where its page begins, or an index does not begin at its first key |
 /// | 6 | `WRONG_MERGE` | a merging page is not its parent's merging child, or has one itself; or a merging child has no pointer, or only the first one |
 /// | 7 | `TOO_MANY_ENTRIES` | a page has more than 33 entries, or a merging child more than 17 |
-/// | 8 | `WRONG_ENTRIES` | entries do not ascend, or lie outside the bounds of their page, or an index has no pointer |
-/// | 9 | `MIXED_PAGES` | a leaf stands among indexes, or an index among leaves, or a page in two trees |
+/// | 8 | `WRONG_ENTRIES` | entries do not ascend, or are outside the bounds of their page, or an index has no pointer |
+/// | 9 | `MIXED_PAGES` | a leaf is among indexes, or an index among leaves, or a page in two trees |
 ///
 /// ```
 /// match verify_integrity(alloc, &pages) {

@@ -89,8 +89,8 @@ pub record KeepsForests (m : Snapshot) (w : Forest) (n : Snapshot) : Type 0 wher
   pub after : Forest
   pub keeps : Keeps m w n after
 
--- A group is refused: where it is to begin, and then nothing was done; or at a write or where it is to be sealed, and then it stays open
--- and nothing more is done. A crash leaves nothing of it. A group without a write is not refused
+-- A group is refused: when it is to begin, and then nothing was done; or at a write or when it is to be sealed, and then it stays open and
+-- nothing more is done. A crash leaves nothing of it. A group without a write is not refused
 pub record LeavesGroup (ws : List KeyWrite) (old new : Store) (e : Error) : Type 0 where
   pub some : jobs_of ws ≢ []
   pub acts : is_refused_as e old new ⊎ ((last : Store) × ActsInside old last × is_write_refused_as e last new × ((now new).in_group ≡ true))

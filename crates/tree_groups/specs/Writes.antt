@@ -69,14 +69,14 @@ pub record KeepsMapsAt (m : Snapshot) (w : Forest) (n : Snapshot) : Type 0 where
   pub keeps : Keeps m w n after
   pub same : (t : Tree) → contents (nodes_at n) after t ≡ contents (nodes_at m) w t
 
--- One write is made, at every forest where the call's tree has its number
+-- One write is made, at every forest in which the call's tree has its number
 pub record MakesWrite (j : Job) (old new : Store) : Type 0 where
   pub acts : ActsOften old new
   pub told : (numbers : Tree → Option ℕ) (given : ℕ → Bool) (w : Forest) → HasForest (snapshot_of old numbers given) w → numbers j.tree.name ≡ Some j.tree.number
       → WrittenAt j (snapshot_of old numbers given) w (snapshot_of new numbers given)
 
--- .. or it is refused, after which nothing more is done, and has written nothing. Its turns are used up only where there was something to
--- repair on the way to its key, or where the way has so many levels
+-- .. or it is refused, after which nothing more is done, and has written nothing. Its turns are used up only if there was something to
+-- repair on the way to its key, or if the way has so many levels
 pub record StopsWriting (j : Job) (old new : Store) (e : Error) : Type 0 where
   pub last : Store
   pub acts : ActsOften old last
@@ -94,7 +94,7 @@ pub record IsInside (old new : Store) : Type 0 where
 abbrev pub OpenGroupLaw : Type 0
 OpenGroupLaw = (a b c : Store) → b ≡ after_action GroupBegins a → ActsOften b c → IsInside a c
 
--- also where a write of it is refused,
+-- even if a write of it is refused,
 abbrev pub RefusedGroupLaw : Type 0
 RefusedGroupLaw = (a b c d : Store) (e : Error) → b ≡ after_action GroupBegins a → ActsOften b c → is_write_refused_as e c d → IsInside a d
 

@@ -17,7 +17,8 @@ use sled_tree::{InFlight, Went, advance};
 use std::alloc::Global;
 
 /// Makes one write: the steps of a call on a key that has yet to begin, repairs included, until it ends. A call that is refused leaves
-/// the repairs that it made, and changes no map. It asks for no operator, so no merge can be written so; and it tells no subscriber.
+/// the repairs that it made, and changes no map. It asks for no operator, so no merge can be written so; and it sends no event to
+/// subscribers.
 ///
 /// ```
 /// pages.begin_group()?;
@@ -67,7 +68,7 @@ pub(crate) fn write_from_root<P: Pages>(
     }
 }
 
-// Makes a write at the leaf that was read for it, or from the root. Where the write before it changed that leaf, it is read again.
+// Makes a write at the leaf that was read for it, or from the root. If the write before it changed that leaf, it is read again.
 #[inline(always)]
 fn write_key<P: Pages>(
     pages: &mut P,
@@ -91,10 +92,10 @@ fn write_key<P: Pages>(
     }
 }
 
-/// Makes a group of writes: begins it, makes the writes, one after the other, and seals it. Where there is none it does nothing. A group
-/// that is refused after it began stays open, and a crash leaves nothing of it. A write that names its leaf is linked there, and where
-/// another write of the group changed the leaf before, it is read again. The leaf is to be the one that the call of the write would have
-/// read; else nothing is said of the contents.
+/// Makes a group of writes: begins it, makes the writes, one after the other, and seals it. If there is none it does nothing. A group that
+/// is refused after it began stays open, and a crash leaves nothing of it. A write that names its leaf is linked there, and if another
+/// write of the group changed the leaf before, it is read again. The leaf is to be the one that the call of the write would have read; else
+/// nothing is said of the contents.
 ///
 /// ```
 /// let mut writes = Vec::new(alloc);
@@ -136,8 +137,8 @@ fn write_all<P: Pages>(pages: &mut P, alloc: Global, writes: &[KeyWrite]) -> Res
     Ok(())
 }
 
-/// Does nothing. It tells what a group adds to what a crash may leave: its end the trees that it leaves, and nothing else of it
-/// anything, also where a write of it was refused.
+/// Does nothing. It says what a group adds to what a crash may leave: its end the trees that it leaves, and nothing else of it anything,
+/// even if a write of it was refused.
 ///
 /// ```
 /// law_group(); // From here on a proof knows what a crash leaves of a group.

@@ -16,7 +16,7 @@ pub struct KeyWrite<'a> {
     pub tree: &'a Tree,
     pub key: &'a IVec,
     pub value: &'a Option<IVec>,
-    /// The leaf of the key, and the version at which it was read, where the write changes it and nothing is to be repaired there.
+    /// The leaf of the key, and the version at which it was read, if the write changes it and nothing is to be repaired there.
     pub leaf: Option<(Pid, Version)>,
 }
 

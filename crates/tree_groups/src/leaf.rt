@@ -14,7 +14,7 @@ use std::alloc::Global;
 use std::ops::Bound;
 
 /// Whether nothing is to be repaired at a leaf, and it need not merge either. Only of `true` something is promised: a write goes a longer
-/// way where it answers `false`.
+/// way if it answers `false`.
 #[inline(always)]
 pub fn is_settled(leaf: &View) -> bool
     ensures { result ≡ true → IsSettled leaf.now.node }
@@ -44,7 +44,7 @@ pub(crate) fn link_write<P: Pages>(
     }
 }
 
-// Whether a write may change a leaf where it is: nothing is to be repaired there, its key lies there, and it changes what the leaf has.
+// Whether a write may change a leaf in place: nothing is to be repaired there, its key is there, and it changes what the leaf has.
 fn may_change(write: &KeyWrite, leaf: &View) -> Result<bool>
     ensures ok { IfOk result (λ may. may ≡ true → MayChange write.now leaf.now) }
     ensures err { IfErr result (λ e. e ≡ NoMemory) }
@@ -89,7 +89,7 @@ fn version_again<P: Pages>(
     }
 }
 
-// Makes a write at the leaf that it had before, where it may change that as it is now, and else from the root.
+// Makes a write at the leaf that it had before, if it may change that as it is now, and else from the root.
 pub(crate) fn write_again<P: Pages>(
     pages: &mut P,
     alloc: Global,

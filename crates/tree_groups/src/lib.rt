@@ -1,7 +1,7 @@
 //! Groups of writes over the pages of trees.
 //!
 //! A group is begun, its writes are made one after the other, repairs included, and then it is sealed: a crash leaves all of it or
-//! nothing. What a write does is told over the pages alone, at every forest that shows them well formed (`specs/Writes`). Whose
+//! nothing. What a write does is stated over the pages alone, at every forest that shows them well formed (`specs/Writes`). Whose
 //! trees they are, and who subscribes to them, is the caller's.
 #![tactic(auto)]
 

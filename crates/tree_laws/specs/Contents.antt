@@ -37,6 +37,6 @@ first_leaf (ℕ.suc n) nodes p (Some c) = first_leaf n nodes c (first_of (nodes 
 abbrev pub pairs_under : Nodes → ℕ → List (Key × Key)
 pairs_under nodes r = along page_numbers nodes (Some (first_leaf page_numbers nodes r (first_of (nodes r))))
 
--- the pairs of each tree; none where the name has no root
+-- the pairs of each tree; none if the name has no root
 abbrev pub trees_of : State → Tree → Option (List (Key × Key))
 trees_of s t = option_map (pairs_under (nodes_of s)) (s.roots t)

@@ -18,7 +18,7 @@ pub record IsValid (s : State) : Type 0 where
 pub record IsCrashConsistent (s : Store) : Type 0 where
   pub whole : (x : State) → In x (crash_states s) → IsValid x
 
--- xs is `once`, but that elements of it may stand several times in a row
+-- xs is `once`, but that elements of it may be several times in a row
 abbrev pub Stutters : {X : Type 0} → List X → List X → Type 0
 Stutters [] [] = Unit {0}
 Stutters [] (x ∷ xs) = ⊥

@@ -14,7 +14,7 @@ use Rattle.sled_nodes.specs.declared.node.Data.TheVariants.{Leaf, Index}
 abbrev pub Tree : Type 0
 Tree = Key
 
--- A level of a tree: leaves stand at height 0 and a hoist adds a level on top, so a page's place never changes
+-- A level of a tree: leaves are at height 0 and a hoist adds a level on top, so a page's place never changes
 pub record Place : Type 0 where
   pub tree : Tree
   pub height : ℕ
@@ -22,8 +22,8 @@ pub record Place : Type 0 where
 abbrev pub place : Tree → ℕ → Place
 place t h = record { tree = t; height = h }
 
--- The witness of well-formedness: the chain of pages at each place, and the home of each page that stands in a chain,
--- or that was received and still has its pointer
+-- The witness of well-formedness: the chain of pages at each place, and the home of each page that is in a chain, or
+-- that was received and still has its pointer
 pub record Forest : Type 0 where
   pub chain : Place → List ℕ
   pub home : ℕ → Option Place
@@ -46,7 +46,7 @@ abbrev pub later : List (Key × ℕ) → List (Key × ℕ)
 later [] = []
 later (e ∷ es) = es
 
--- leaves stand at height 0, indexes above; entries ascend within the bounds; an index's first key is its lo
+-- leaves are at height 0, indexes above; entries ascend within the bounds; an index's first key is its lo
 abbrev pub Holds : ℕ → Key → Key → Data → Type 0
 Holds ℕ.zero lo hi (Leaf es) = T (is_sorted key_cmp es) × AllByRecursion (λ e. Within lo hi e.0) es
 Holds (ℕ.suc h) lo hi (Index es) = T (is_sorted key_cmp es) × AllByRecursion (λ e. Within lo hi e.0) es × (first_key es ≡ Some lo)
@@ -69,8 +69,8 @@ abbrev pub Run : Nodes → List ℕ → Option ℕ → Key → Option ℕ → Ke
 Run nodes [] from lo to hi = (from ≡ to) × (lo ≡ hi)
 Run nodes (p ∷ ps) from lo to hi = (n : Node) × IsLink nodes from lo p n × Run nodes ps n.next n.hi to hi
 
--- Of each page with a home: it is live and sound; it stands in the chain or is merging; a merging page has no merging
--- child, and is itself the merging child of a chain page of the level above
+-- Of each page with a home: it is live and sound; it is in the chain or is merging; a merging page has no merging child,
+-- and is itself the merging child of a chain page of the level above
 pub record IsHomed (nodes : Nodes) (w : Forest) (p : ℕ) (x : Place) (n : Node) : Type 0 where
   pub live : nodes p ≡ Some n
   pub sound : IsNodeAt x.height n
@@ -89,7 +89,7 @@ pub record IsPointer (nodes : Nodes) (w : Forest) (n : Node) (t : Tree) (h : ℕ
 
 -- The pages and the roots have this shape:
 pub record WellFormed (nodes : Nodes) (roots : Tree → Option ℕ) (w : Forest) : Type 0 where
-  -- a page stands in one chain at most
+  -- a page is in one chain at most
   pub homed : (x : Place) (p : ℕ) → In p (w.chain x) → w.home p ≡ Some x
   pub page : (x : Place) (p : ℕ) → w.home p ≡ Some x → (n : Node) × IsHomed nodes w p x n
   -- a chain goes by `next` from the empty lo to the empty hi, and its last page has no next

@@ -43,7 +43,7 @@ pages_under ℕ.zero nodes p = 0
 pages_under (ℕ.suc n) nodes None = 0
 pages_under (ℕ.suc n) nodes (Some p) = length_along page_numbers nodes (Some p) + pages_under n nodes (first_of (nodes p))
 
--- how many pages stand in a tree's chains
+-- how many pages are in a tree's chains
 abbrev pub tree_pages : State → Tree → ℕ
 tree_pages s t = pages_under page_numbers (nodes_of s) (s.roots t)
 
@@ -52,8 +52,8 @@ abbrev pub pages_below : Forest → Tree → ℕ → ℕ
 pages_below w t ℕ.zero = 0
 pages_below w t (ℕ.suc h) = length (w.chain (place t h)) + pages_below w t h
 
--- A reading walk stands at the page p, and this many pages lie ahead of it: itself, those behind it on its level, and those of
--- the levels below
+-- A reading walk is at the page p, and this many pages are ahead of it: itself, those behind it on its level, and those of the
+-- levels below
 pub record IsAhead (w : Forest) (t : Tree) (h p ahead : ℕ) : Type 0 where
   pub before : List ℕ
   pub behind : List ℕ

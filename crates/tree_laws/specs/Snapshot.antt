@@ -21,7 +21,7 @@ pub record Snapshot : Type 0 where
   pub numbers : Tree → Option ℕ
   pub given : ℕ → Bool
 
--- a store now, where the trees have these numbers
+-- a store now, if the trees have these numbers
 abbrev pub snapshot_of : Store → (Tree → Option ℕ) → (ℕ → Bool) → Snapshot
 snapshot_of s numbers given = record { state = now s; pids = s.pids; versions = s.versions; numbers = numbers; given = given }
 
@@ -34,7 +34,7 @@ pub record HasForest (m : Snapshot) (w : Forest) : Type 0 where
   pub pids : (p : ℕ) (g : Page) → m.state.pages p ≡ Some g → m.pids p ≡ true
   pub versions : (p : ℕ) (g : Page) → m.state.pages p ≡ Some g → m.versions g.version ≡ true
   pub below : (p : ℕ) (g : Page) → m.state.pages p ≡ Some g → p < 2 ^ 64
-  -- a name has a number exactly where it has a root
+  -- a name has a number exactly if it has a root
   pub numbered : (t : Tree) (r : ℕ) → m.state.roots t ≡ Some r → (n : ℕ) × (m.numbers t ≡ Some n)
   pub rooted : (t : Tree) (n : ℕ) → m.numbers t ≡ Some n → (r : ℕ) × (m.state.roots t ≡ Some r)
   -- a tree's number was given, and is no other tree's
@@ -46,7 +46,7 @@ pub record HasForest (m : Snapshot) (w : Forest) : Type 0 where
 abbrev pub IsOrphan : Forest → ℕ → Type 0
 IsOrphan w p = (y : Place) → w.home p ≢ Some y
 
--- p is live with this lo, and stands in the chain at x or is merging
+-- p is live with this lo, and is in the chain at x or is merging
 abbrev pub IsInChain : Nodes → Forest → Place → Key → ℕ → Type 0
 IsInChain nodes w x lo p = (n : Node) × (nodes p ≡ Some n) × (n.lo ≡ lo) × (In p (w.chain x) ⊎ (n.merging ≡ true))
 
@@ -84,7 +84,7 @@ pub record SeenOpen (m : Snapshot) (w : Forest) (x : Place) (number : ℕ) (look
 abbrev pub LiesUnder : Bound Key → Node → Type 0
 LiesUnder aim n = (is_up_to aim n.lo ≡ true) × ((n.hi ≡ []) ⊎ (is_up_to aim n.hi ≡ false))
 
--- a leaf that lies under the aim
+-- a leaf that is under the aim
 pub record IsActing (m : Snapshot) (w : Forest) (t : Tree) (number : ℕ) (aim : Bound Key) (look : View) : Type 0 where
   pub seen : SeenOpen m w (place t 0) number look
   pub under : LiesUnder aim look.node

@@ -36,7 +36,7 @@ pub record IsParent (m : Snapshot) (w : Forest) (t : Tree) (number h : ℕ) (loo
   pub es : List (Key × ℕ)
   pub content : look.node.content ≡ Index es
 
--- what begins at lo on the level below a parent lies within its bounds. The parent lies under the aim, and takes one pointer more
+-- what begins at lo on the level below a parent is within its bounds. The parent is under the aim, and takes one pointer more
 pub record IsBelowParent (m : Snapshot) (w : Forest) (t : Tree) (number h : ℕ) (aim : Bound Key) (parent : View) (lo : Key) : Type 0 where
   pub above : IsParent m w t number h parent
   pub under : LiesUnder aim parent.node
@@ -55,23 +55,23 @@ abbrev pub by_pointer : View → Bool → Reached
 by_pointer parent true = reached.FirstPointer parent
 by_pointer parent false = reached.LaterPointer parent
 
--- how the page p was reached, which begins at lo: the root begins at the empty key, and any other lies below its parent. One that
--- was reached by a later pointer has it, and one that was reached by `next` begins behind the parent
+-- how the page p was reached, which begins at lo: the root begins at the empty key, and any other is below its parent. One that was
+-- reached by a later pointer has it, and one that was reached by `next` begins behind the parent
 abbrev pub IsReached : Snapshot → Forest → Tree → ℕ → ℕ → Bound Key → Reached → Key → ℕ → Type 0
 IsReached m w t number h aim reached.Root lo p = lo ≡ []
 IsReached m w t number h aim (reached.FirstPointer parent) lo p = IsBelowParent m w t number h aim parent lo
 IsReached m w t number h aim (reached.LaterPointer parent) lo p = IsBelowParent m w t number h aim parent lo × In (lo, p) (later (pointers parent.node.content))
 IsReached m w t number h aim (reached.Next parent) lo p = IsBelowParent m w t number h aim parent lo × Below parent.node.lo lo
 
--- the walk: its cursor stood on a level, where it was reached
+-- the walk: its cursor was on a level, if it was reached
 pub record IsWalking (m : Snapshot) (w : Forest) (t : Tree) (number : ℕ) (aim : Bound Key) (a : Walk) : Type 0 where
   pub height : ℕ
   pub lo : Key
   pub stood : StoodInChain m w (place t height) number lo a.cursor
   pub is_reached : IsReached m w t number height aim a.reached lo a.cursor
 
--- where the right half of a split is posted: at a parent, which takes one pointer more and below which the page lies, or at the root, where
--- the page is the first of its level. A split that serves a merge is posted nowhere
+-- where the right half of a split is posted: at a parent, which takes one pointer more and below which the page is, or at the root, if the
+-- page is the first of its level. A split that serves a merge is posted nowhere
 abbrev pub IsPlace : Snapshot → Forest → Tree → ℕ → ℕ → View → Posting → Type 0
 IsPlace m w t number h page (posting.Parent parent) = IsParent m w t number h parent × Covers parent.node page.node.lo × HasRoomForOne parent
 IsPlace m w t number h page posting.Root = page.node.lo ≡ []
@@ -98,7 +98,7 @@ pub record IsReplacing (m : Snapshot) (w : Forest) (t : Tree) (number : ℕ) (a 
   pub split : IsSplit height a.page.node a.left right a.right
   pub begins : right.lo ≡ a.at
 
--- q stands on the level below the parent, begins there within the parent's bounds, and is not merging
+-- q is on the level below the parent, begins there within the parent's bounds, and is not merging
 pub record IsUnder (m : Snapshot) (w : Forest) (x : Place) (parent : View) (at : Key) (q : ℕ) : Type 0 where
   pub covers : Covers parent.node at
   pub node : Node
@@ -107,7 +107,7 @@ pub record IsUnder (m : Snapshot) (w : Forest) (x : Place) (parent : View) (at :
   pub lo : node.lo ≡ at
   pub not_merging : node.merging ≡ false
 
--- the parent takes one pointer more and is to get one to a page: while the parent has its version, the page stands under it
+-- the parent takes one pointer more and is to get one to a page: while the parent has its version, the page is under it
 pub record IsPosting (m : Snapshot) (w : Forest) (t : Tree) (number : ℕ) (a : Post) : Type 0 where
   pub height : ℕ
   pub above : IsParent m w t number height a.parent
@@ -115,7 +115,7 @@ pub record IsPosting (m : Snapshot) (w : Forest) (t : Tree) (number : ℕ) (a : 
   pub beyond : Below a.parent.node.lo a.at
   pub under : m.numbers t ≡ Some number → IsAtVersion m a.parent → IsUnder m w (place t height) a.parent a.at a.pid
 
--- a new root is to come over two pages: while the left one is the root, the right one stands beside it
+-- a new root is to come over two pages: while the left one is the root, the right one is beside it
 pub record IsHoisting (m : Snapshot) (w : Forest) (t : Tree) (number : ℕ) (a : Hoist) : Type 0 where
   pub height : ℕ
   pub stood : StoodInChain m w (place t height) number [] a.left
@@ -147,8 +147,8 @@ pub record IsFreeing (m : Snapshot) (w : Forest) (a : Orphan) : Type 0 where
 
 -- The stages of a merge of a page into the one before it
 
--- The parent is to take a later child for its merging child: while the parent has its version, the child stands under it, and has
--- at most 17 entries. `before` is the page whose pointer stands before the child's
+-- The parent is to take a later child for its merging child: while the parent has its version, the child is under it, and has at
+-- most 17 entries. `before` is the page whose pointer is before the child's
 pub record IsIntending (m : Snapshot) (w : Forest) (t : Tree) (number : ℕ) (a : Merge) : Type 0 where
   pub height : ℕ
   pub above : IsParent m w t number height a.parent
@@ -188,7 +188,7 @@ pub record IsMerger (m : Snapshot) (w : Forest) (t : Tree) (number h c : ℕ) (l
   pub es : List (Key × ℕ)
   pub content : look.node.content ≡ Index es
 
--- a merge as it begins: the index with its merging child, and the page whose pointer stands before the child's
+-- a merge as it begins: the index with its merging child, and the page whose pointer is before the child's
 pub record IsMerging (m : Snapshot) (w : Forest) (t : Tree) (number height : ℕ) (a : Merge) : Type 0 where
   pub merger : IsMerger m w t number height a.child a.parent
   pub wanted : IsWanted m w t number height a.child
@@ -216,7 +216,7 @@ pub record IsCapping (m : Snapshot) (w : Forest) (t : Tree) (number : ℕ) (a : 
   pub is_open : IsOpen a.node
   pub wanted : m.numbers t ≡ Some number → IsAtVersion m (child_of a) → IsChild m w t height a.merge.child
 
--- the search for the page that the child follows: its cursor stood left of the child
+-- the search for the page that the child follows: its cursor was left of the child
 pub record IsSeeking (m : Snapshot) (w : Forest) (t : Tree) (number : ℕ) (a : Seek) : Type 0 where
   pub height : ℕ
   pub merging : IsMerging m w t number height a.merge

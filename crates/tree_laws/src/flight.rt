@@ -1,11 +1,10 @@
-//! Where a call in flight stands, as values: what it goes on to, and what of the pages it has read for that.
+//! The stages of a call in flight, as values: what it does next, and which of the pages that it read it needs for that.
 
 use crate::half::Half;
 use sled_nodes::{IVec, Pid, Shared, Version};
 use sled_store::View;
 
-/// How a walk comes to a page: by nothing, where the page is the root, or below the index that it came through to the page's
-/// level.
+/// How a walk reaches a page: by nothing, if the page is the root, or below the index that it came through to the page's level.
 #[derive(Drop)]
 pub enum Reached {
     /// It is the root.
@@ -23,7 +22,7 @@ pub enum Reached {
 pub struct Walk {
     /// The page that is read next.
     pub cursor: Pid,
-    /// How the walk comes to it.
+    /// How the walk reaches it.
     pub reached: Reached,
 }
 
@@ -34,7 +33,7 @@ pub enum Posting {
     Parent(View),
     /// In a new root over both halves.
     Root,
-    /// Nowhere yet: whoever comes to it by the `next` of the left half posts it.
+    /// Nowhere yet: a call that reaches it by the `next` of the left half posts it.
     Nowhere,
 }
 
@@ -102,7 +101,7 @@ pub struct Merge {
     pub parent: View,
     /// The page that merges.
     pub child: Pid,
-    /// The page whose pointer stands before the child's.
+    /// The page whose pointer is before the child's.
     pub before: Pid,
 }
 
@@ -154,7 +153,7 @@ pub struct Giving {
     pub given: usize,
 }
 
-/// Where a call in flight stands: what its next step does.
+/// The stage of a call in flight: what its next step does.
 #[derive(Drop)]
 pub enum Stage {
     /// It reads the root.

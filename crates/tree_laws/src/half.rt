@@ -1,4 +1,4 @@
-//! The left half of a split, before it stands in its page. It lies apart, so that a call in flight is small.
+//! The left half of a split, before it is in its page. It has memory of its own, so that a call in flight is small.
 ghost use Rattle.std.specs.Prelude.{◌≡◌, Some, IfOk, IfErr};
 ghost use Rattle.sled_nodes.specs.declared.error.Error.TheVariants.{NoMemory};
 
@@ -11,7 +11,7 @@ pub struct Half {
     node: Box<Node>,
 }
 
-// By hand, so that whoever lets go of a half cites this, and need not prove again how each of its parts goes.
+// By hand, so that each function that drops a half cites this, and does not prove again how its parts are dropped.
 impl Drop for Half {
     fn drop(self) {
         let Half { node } = self;

@@ -6,10 +6,10 @@
 //!
 //! # The form
 //!
-//! A tree is its name. A place is a tree and a height above its leaves: leaves stand at height 0 and a hoist adds a level
-//! on top, so the place of a page never changes. A forest is the witness of well-formedness: the chain of pages at each
-//! place, and the home of each page that stands in a chain, or that was received and still has its pointer. The pages and
-//! the roots determine it (`OneLaw`), so that two crates that each say "there is a forest" speak of the same one.
+//! A tree is its name. A place is a tree and a height above its leaves: leaves are at height 0 and a hoist adds a level on
+//! top, so the place of a page never changes. A forest is the witness of well-formedness: the chain of pages at each place,
+//! and the home of each page that is in a chain, or that was received and still has its pointer. The pages and the roots
+//! determine it (`OneLaw`), so that two crates that each say "there is a forest" speak of the same one.
 //!
 //! Shape and size are two records, `WellFormed` and `IsSized`. A law that keeps the shape says beside it what has to be
 //! small for the size to be kept.
@@ -22,13 +22,13 @@
 //!   over `Run` and `IsLink`. *Its last page has no `next`, and every other has one*: `Run` ends where `next` is none and `hi`
 //!   is empty, and goes on where `next` is the page that follows.
 //! - *Bounds rise*: a page with a `next` has its `lo` below its `hi` (`IsLink.rises`), so that an empty `hi` has no `next`. Without
-//!   this line an empty leaf may end below where it begins, and a key may then stand in a tree twice.
-//! - *No page stands in a chain twice*: not asked, since the chain's pages begin at ascending keys (`run_different`).
-//! - *The top level begins at the root, each other where the first pointer of the level above leads*: `top` and `down`. No level
-//!   stands above the root's: `top` asks it of the next one, and `down` then gives it of all. A name without a root has no level.
+//!   this line an empty leaf may end below where it begins, and a key may then be in a tree twice.
+//! - *No page is in a chain twice*: not asked, since the chain's pages begin at ascending keys (`run_different`).
+//! - *The top level begins at the root, each other where the first pointer of the level above leads*: `top` and `down`. No level is
+//!   above the root's: `top` asks it of the next one, and `down` then gives it of all. A name without a root has no level.
 //! - *A pointer names a live page of the level below whose `lo` is the pointer's key*: `IsPointer.live`, `homed` and `key`. *It
-//!   stands in the chain, or is merging and was received*: `IsHomed.stands`. That a page was received says just that it is not
-//!   in the chain: some page of the chain then covers its `lo`, and reaches beyond it.
+//!   is in the chain, or is merging and was received*: `IsHomed.stands`. That a page was received says just that it is not in
+//!   the chain: some page of the chain then covers its `lo`, and reaches beyond it.
 //! - *A merging child is a pointer of its page, not the first*: `child`. *It has at most 17 entries*: `IsSized.child`.
 //! - *A page of a chain needs no pointer*: nothing asks for one.
 //!
@@ -39,15 +39,15 @@
 //!   kind (`Holds`).
 //! - *Entries ascend within the bounds; an index has a pointer, and its first key is its `lo`*: `Holds`. *At most 33 entries*:
 //!   `IsSized.fits`.
-//! - *A merging page is the merging child of whoever points to it*: `IsPointer.merged`. *It has such a parent in the chain above*:
+//! - *A merging page is the merging child of the page that points to it*: `IsPointer.merged`. *It has such a parent in the chain above*:
 //!   `IsHomed.parent`. So no root is merging, and no page beside a root.
 //! - *No page both is merging and has a merging child*: `IsHomed.calm`.
 //! - *It belongs to one level of one tree*: a home is one place, and a page of a chain has its home there (`homed`). *One pointer
 //!   leads to it*: not asked, since that pointer's key is its `lo`, which one page of the level above covers (`one_parent`).
-//! - Nothing is asked of where a received page's own pointers and `next` lead, nor that its bounds rise.
+//! - Nothing is asked of the pages to which a received page's own pointers and `next` lead, nor that its bounds rise.
 //!
-//! *Of pages that no tree names nothing is asked*: they have no home. A home is no freedom of whoever says that there is a forest:
-//! a page has one exactly if it stands in a chain, or is the merging child of a page of a chain (`OneLaw`).
+//! *Of pages that no tree names nothing is asked*: they have no home. The statement that there is a forest leaves no choice of
+//! homes: a page has one exactly if it is in a chain, or is the merging child of a page of a chain (`OneLaw`).
 //!
 //! `RefusedImages` has images that break these lines, which no forest has; `AcceptedImages` has what a
 //! split, a hoist and each stage of a merge leave when they stop half done.
@@ -60,8 +60,8 @@
 //! - *The contents of all roots by name*: a name without a root has none, which is not the same as no pairs.
 //! - *From the root down by first pointers to a leaf*: `first_leaf`. *Then along `next` to the end*: `along`. *The pairs are
 //!   joined*: in the order of the pages.
-//! - It has fuel for as many steps as there are page numbers, which is never used up where the pages are well formed: there it is
-//!   what the forest says (`ContentsLaw`). Elsewhere a page that is missing has no pairs, no pointer and no `next`.
+//! - It has fuel for as many steps as there are page numbers, which is never used up if the pages are well formed: then it is what
+//!   the forest says (`ContentsLaw`). Elsewhere a page that is missing has no pairs, no pointer and no `next`.
 //!
 //! What the leaf that covers a key has at it is what the tree has at it (`FindLaw`), the pairs ascend (`SortedLaw`), and a leaf's
 //! pairs are the part of the contents within its bounds (`RangeLaw`).
@@ -72,12 +72,12 @@
 //!
 //! - *It begins at the root*: `is_root`. *It goes down by the last pointer within the aim, to a leaf*: `CleanFrom`. So it has
 //!   a page of each level (`CleanLaw`), and a walk goes one down the list with each step (`CleanStepLaw`).
-//! - *Each page lies under the aim: where it is a key, the page covers it*: `NeedsNoRepair.under`. *None is merging or has a merging child*: `is_open`. *None should split*: an open
-//!   page should where it has more than 16 entries (`fits`). *One that should merge is the root or was reached by a first
-//!   pointer*: an open page should where it has 3 or fewer (`many`).
+//! - *Each page is under the aim: if it is a key, the page covers it*: `NeedsNoRepair.under`. *None is merging or has a merging child*:
+//!   `is_open`. *None should split*: an open page should if it has more than 16 entries (`fits`). *One that should merge is the root or was
+//!   reached by a first pointer*: an open page should if it has 3 or fewer (`many`).
 //!
 //! `CleanPaths` has a path for each of these lines that breaks it. A reading walk looks at each page of a tree at most once
-//! (`IsAhead`), and how many pages stand in a tree's chains is a function of pages and roots (`tree_pages`).
+//! (`IsAhead`), and how many pages are in a tree's chains is a function of pages and roots (`tree_pages`).
 //!
 //! # Crashes
 //!
@@ -132,13 +132,13 @@
 //! `kept`: what a call in flight knows survives each action of others.
 //!
 //! - `ViewLaw`: A kept view speaks of its page while the version is the same.
-//! - `StoodLaw`: What is known of a page that stood in a chain stays known: its tree lost its number, or it is gone, or merging, or stands there.
-//! - `NowLaw`: A page that stood in a chain, is live and not merging, and whose tree has its number, stands there now.
+//! - `StoodLaw`: What is known of a page that was in a chain stays known: its tree lost its number, or it is gone, or merging, or is there.
+//! - `NowLaw`: A page that was in a chain, is live and not merging, and whose tree has its number, is there now.
 //! - `ActingLaw`: A leaf that a call means to change stays so.
 //!
-//! `levels`: how the pages of a level lie under those of the level above, and what a node's own functions make of it.
+//! `levels`: how the pages of a level are under those of the level above, and what a node's own functions make of it.
 //!
-//! - `InsideLaw`: A page lies within the bounds of the index above that covers where it begins.
+//! - `InsideLaw`: A page is within the bounds of the index above that covers where it begins.
 //! - `ReachedLaw`: A merge that was done is seen at the page before.
 //! - `HalvedLaw`: The halves of a node of two entries or more make a split, whatever its height.
 //! - `JoinedLaw`: A node with what the node behind it holds is sound, whatever its height.
@@ -149,10 +149,10 @@
 //! `maps`: the contents of all trees, as a function of pages and roots.
 //!
 //! - `NewLaw`: A store with no page and no root is well formed.
-//! - `WellLaw`: The state at a well-formed moment has the shape of a forest, and its size where the forest has it.
+//! - `WellLaw`: The state at a well-formed moment has the shape of a forest, and its size if the forest has it.
 //! - `MapLaw`: The map of a name with a root is the contents of its tree.
-//! - `QuietLaw`: Where no tree's contents change, no map does.
-//! - `ChangedLaw`: Where one tree's contents change, its map changes so, and no other does.
+//! - `QuietLaw`: If no tree's contents change, no map does.
+//! - `ChangedLaw`: If one tree's contents change, its map changes so, and no other does.
 //! - `QuietCrashLaw`: An action outside every group that no tree's contents show adds nothing to what a crash may leave.
 //! - `PlantsLaw`: A new name over an empty leaf of the call's own has an empty map, and every other map is as it was.
 //! - `DropsLaw`: A name that is dropped has no map, every other map is as it was, and its chains are left to be freed.
@@ -160,15 +160,15 @@
 //! `meaning`: what the pages say of the trees.
 //!
 //! - `FindLaw`: What the leaf that covers a key has at it is what the tree has at it.
-//! - `RangeLaw`: A leaf's pairs are the part of the tree's contents that lies within its bounds.
+//! - `RangeLaw`: A leaf's pairs are the part of the tree's contents that are within its bounds.
 //! - `SortedLaw`: The contents of a tree ascend.
 //! - `OneLaw`: The pages and the roots determine the forest.
 //! - `ContentsLaw`: The contents as a function of pages and roots are the forest's.
 //!
 //! `paths`: reading walks and clean paths.
 //!
-//! - `PointerInLaw`: Where a pointer that is not to the merging child leads stands in the chain below, and begins at its key.
-//! - `NextInLaw`: The next page stands in the chain, and begins where this one ends.
+//! - `PointerInLaw`: The page that a pointer names, unless it is the merging child, is in the chain below, and begins at the pointer's key.
+//! - `NextInLaw`: The next page is in the chain, and begins where this one ends.
 //! - `AheadLaw`: A reading walk has fewer pages ahead of it with each step, so that it looks at each page at most once.
 //! - `LastPointerLaw`: The last pointer within a bound is one alone, and a later one if it is not the first.
 //! - `CleanStepLaw`: A walk at the first page of a clean path repairs nothing there, and goes one down the path.
@@ -177,7 +177,7 @@
 //!
 //! `splits`: what the actions of splits and merges do to the shape, the size and the contents of trees.
 //!
-//! - `SplitLaw`: A split of an open page changes no tree, and the new page then stands in the chain.
+//! - `SplitLaw`: A split of an open page changes no tree, and the new page then is in the chain.
 //! - `PostLaw`: A pointer that goes into an open index changes no tree.
 //! - `IntentionLaw`: The intention of a merge changes no tree.
 //! - `CapLaw`: The cap of a merging child changes no tree.
@@ -191,23 +191,23 @@
 //! - `RootHereLaw`: What is known of the root as it is read.
 //! - `CursorHereLaw`: What is known of the cursor of a walk as it is read.
 //! - `HereLaw`: What a walk knows after it read an open page, by what it goes on to.
-//! - `StoodMergesLaw`: Where a page of a level was read with a merging child of its own, that merge begins.
+//! - `StoodMergesLaw`: If a page of a level was read with a merging child of its own, that merge begins.
 //! - `SplitAction`: A split begins with its right half as a new page, and changes no tree.
 //! - `InstallLeftAction`: The page that is split becomes its left half, which changes no tree, and its right half is to be posted or hoisted over.
-//! - `InstallLeftLate`: Where the page changed before, the right half is to be freed.
+//! - `InstallLeftLate`: If the page changed before, the right half is to be freed.
 //! - `PostAction`: The pointer to the right half goes into the parent, which changes no tree.
 //! - `HoistAction`: A hoist begins with the new root as a new page.
 //! - `SwapRootAction`: The new root becomes the root, which changes no tree.
-//! - `SwapRootLate`: Where the tree has another root already, the new one is to be freed.
+//! - `SwapRootLate`: If the tree has another root already, the new one is to be freed.
 //! - `FreeAction`: A page that is a call's own is freed, which changes no tree.
 //! - `IntendAction`: The parent takes its merging child, which changes no tree, and the merge begins.
-//! - `ChildSeeks`: Where the merging child was read and is merging already, the page before it is looked for.
-//! - `ChildCaps`: Where the merging child was read and is open, it is to be capped.
+//! - `ChildSeeks`: If the merging child was read and is merging already, the page before it is looked for.
+//! - `ChildCaps`: If the merging child was read and is open, it is to be capped.
 //! - `CapAction`: The merging child is capped, which changes no tree, and the page before it is looked for.
-//! - `CapLate`: Where the child changed before it could be capped, it is read again.
+//! - `CapLate`: If the child changed before it could be capped, it is read again.
 //! - `SeekLaw`: What the search for the page before the child knows after it read an open page.
 //! - `ReceiveAction`: The page before the child receives it, which changes no tree.
-//! - `ReceiveLate`: Where the page before the child changed before it could receive, it is looked for again.
+//! - `ReceiveLate`: If the page before the child changed before it could receive, it is looked for again.
 //! - `ConfirmAction`: The pointer to the received child goes, which changes no tree, and the child is the call's own.
 //!
 //! `steps`: page actions as steps of a store, which keep what every other call knows.

@@ -28,8 +28,8 @@ key_bytes_of pairs = sum_by (λ e. length e.0) pairs
 abbrev pub value_bytes_of : Map → ℕ
 value_bytes_of pairs = sum_by (λ e. length e.1) pairs
 
--- What these trees come to: how many they are, all their pages, the levels of the highest of them, and all their pairs, with the bytes of
--- the keys and of the values
+-- The statistics of these trees: how many they are, all their pages, the levels of the highest of them, and all their pairs, with the bytes
+-- of the keys and of the values
 pub record AreStats (s : State) (ts : List (Key × ℕ)) (stats : Stats) : Type 0 where
   pub trees : stats.trees ≡ length ts
   pub pages : stats.pages ≡ sum_by (λ t. tree_pages s t.0) ts

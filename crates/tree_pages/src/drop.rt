@@ -39,7 +39,7 @@ fn first_pages<P: Pages>(alloc: Global, pages: &P, root: Pid) -> Result<Vec<Pid>
     }
 }
 
-// Frees a page, and answers the one behind it; `None` too where it is not there, or a refusal keeps it.
+// Frees a page, and answers the one behind it; `None` too if it is not there, or a refusal keeps it.
 fn free_page<P: Pages>(alloc: Global, pages: &mut P, pid: Pid) -> Option<Pid>
     ensures { FreesPage pid (P.store pages.old) result (P.store pages.new) }
 {

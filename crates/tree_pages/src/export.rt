@@ -147,8 +147,8 @@ fn collection_of<P: Pages>(alloc: Global, pages: &P, name: &IVec) -> Result<Coll
     ))
 }
 
-/// The collections of these trees, in their order. It reads each page on the way to the first leaf of a tree, and each leaf. Refused
-/// where a page cannot be read, and for want of memory.
+/// The collections of these trees, in their order. It reads each page on the way to the first leaf of a tree, and each leaf. Refused if a
+/// page cannot be read, and for want of memory.
 pub fn collections_of<P: Pages>(
     alloc: Global,
     pages: &P,

@@ -21,7 +21,7 @@ pub fn operator_of<M>(operators: &[(u64, M)], number: u64) -> Option<&M>
     None
 }
 
-// The place of the tree of this number in the list; where it has none, the list's end.
+// The place of the tree of this number in the list; if it has none, the list's end.
 fn place_of_number<M>(operators: &[(u64, M)], number: u64) -> usize
     ensures { result ≡ place number operators.now }
 {

@@ -155,7 +155,7 @@ fn with_page<P: Pages>(
     }
 }
 
-// What the pairs from a leaf on come to, along `next`.
+// The statistics of the pairs from a leaf on, along `next`.
 fn weight_along<P: Pages>(alloc: Global, pages: &P, first: Pid) -> Result<Weight>
     ensures ok { IfOk result (Weighs (record { pairs = 0; key_bytes = 0; value_bytes = 0 }) (along page_numbers (nodes_of (now (P.store pages.now))) (Some first))) }
     ensures err { IfErr result (RefusesRead (P.store pages.now)) }
@@ -177,7 +177,7 @@ fn weight_along<P: Pages>(alloc: Global, pages: &P, first: Pid) -> Result<Weight
     Err(Error::NoMemory)
 }
 
-// What the pairs under a root come to.
+// The statistics of the pairs under a root.
 fn weight_of<P: Pages>(alloc: Global, pages: &P, root: Pid) -> Result<Weight>
     ensures ok { IfOk result (Weighs (record { pairs = 0; key_bytes = 0; value_bytes = 0 }) (pairs_of_root (nodes_of (now (P.store pages.now))) root)) }
     ensures err { IfErr result (RefusesRead (P.store pages.now)) }
@@ -186,7 +186,7 @@ fn weight_of<P: Pages>(alloc: Global, pages: &P, root: Pid) -> Result<Weight>
     weight_along(alloc, pages, leaf)
 }
 
-// What the tree of this name comes to.
+// The statistics of the tree of this name.
 fn tree_of<P: Pages>(alloc: Global, pages: &P, name: &IVec) -> Result<(Height, Weight)>
     ensures ok { IfOk result (λ tree. IsTree (now (P.store pages.now)) name.now tree.0 tree.1) }
     ensures err { IfErr result (RefusesRead (P.store pages.now)) }
@@ -232,8 +232,8 @@ fn with_tree(stats: Stats, height: Height, weight: Weight) -> Result<Stats>
     })
 }
 
-/// How large these trees are. It reads each page of each tree, and each leaf once more. Refused where a page cannot be read, for want of
-/// memory, and where a number is too large, with `NoMemory` too.
+/// How large these trees are. It reads each page of each tree, and each leaf once more. Refused if a page cannot be read, for want of
+/// memory, and if a number is too large, with `NoMemory` too.
 pub fn stats_of<P: Pages>(alloc: Global, pages: &P, trees: &[(IVec, u64)]) -> Result<Stats>
     ensures ok { IfOk result (AreStats (now (P.store pages.now)) trees.now) }
     ensures err { IfErr result (RefusesRead (P.store pages.now)) }

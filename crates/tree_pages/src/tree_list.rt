@@ -9,7 +9,7 @@ ghost use Rattle.sled_nodes.specs.declared.error.Error.TheVariants.{NoMemory};
 use sled_nodes::{IVec, Result, value_at};
 use std::alloc::Global;
 
-// Where the tree of a name stands, or would go.
+// Where the tree of a name is, or would go.
 #[inline(always)]
 #[tactic(auto, unfolding(sled_nodes::specs::Order::key_cmp))]
 fn place_of_name(trees: &[(IVec, u64)], name: &[u8]) -> std::result::Result<usize, usize>
@@ -39,7 +39,7 @@ pub fn reserve_one(trees: &mut Vec<(IVec, u64)>) -> Result<()>
     Ok(())
 }
 
-/// Puts a tree in its place, where no other has its name, and there is room.
+/// Puts a tree in its place, if no other has its name, and there is room.
 pub fn put_tree(trees: &mut Vec<(IVec, u64)>, name: IVec, number: u64)
     requires ascends { is_sorted key_cmp trees.old.items ≡ true }
     requires unknown { find key_cmp name trees.old.items ≡ None }

@@ -22,12 +22,12 @@ use Rattle.tree_progress.specs.ToDo.{to_do}
 abbrev pub alone_steps : State → Tree → ℕ
 alone_steps s t = (to_do s t + 1) * (2 * (tree_pages s t + to_do s t) + 4)
 
--- each page that stood in a tree stands there still, or is merging
+-- each page that was in a tree is still there, or is merging
 abbrev pub StayInTree : Nodes → Forest → Forest → Type 0
 StayInTree nodes w v = (x : Place) (p : ℕ) → In p (w.chain x) → In p (v.chain x) ⊎ ((n : Node) × (nodes p ≡ Some n) × (n.merging ≡ true))
 
 -- A step by which a call goes on, from the stage a to the stage b: it does what its stage is to do. The pages are well formed after it, as
--- the forest v tells, and the call knows then what it needs
+-- the forest v shows, and the call knows then what it needs
 pub record GoesOnAlone (numbers : Tree → Option ℕ) (given : ℕ → Bool) (j : Course) (old : Store) (a : Stage) (w : Forest) (new : Store) (b : Stage) (v : Forest) : Type 0 where
   pub follows : Follows j old a (Go b) new
   pub formed : HasForest (snapshot_of new numbers given) v
@@ -39,8 +39,8 @@ pub data MovesAlone (numbers : Tree → Option ℕ) (given : ℕ → Bool) (j : 
   Begins : MovesAlone numbers given j s first w 0 s first w
   Moves : {n : ℕ} {b c : Store} {a e : Stage} {u v : Forest} → MovesAlone numbers given j s first w n b a u → GoesOnAlone numbers given j b a u c e v → MovesAlone numbers given j s first w (suc n) c e v
 
--- Of a call on a key that begins on well-formed pages, half-done splits and merges included, and of no other, fewer steps go on in a row than
--- the pages tell
+-- Only a call on a key does steps, and it begins on well-formed pages, half-done splits and merges included: fewer of its steps go on than
+-- `alone_steps`
 abbrev pub AloneLaw : Type 0
 AloneLaw = (numbers : Tree → Option ℕ) (given : ℕ → Bool) (j : Course) (s : Store) (w : Forest) → HasForest (snapshot_of s numbers given) w → numbers j.tree.name ≡ Some j.tree.number → IsOnKey j.call → IsAimed j
     → (n : ℕ) (new : Store) (a : Stage) (v : Forest) → MovesAlone numbers given j s Root w n new a v → n < alone_steps (now s) j.tree.name
@@ -51,8 +51,8 @@ AloneLaw = (numbers : Tree → Option ℕ) (given : ℕ → Bool) (j : Course) (
 abbrev pub resumed_steps : State → Tree → ℕ
 resumed_steps s t = (to_do s t + 16) * (4 * (tree_pages s t + to_do s t + 16) + 9)
 
--- Of a call on a key in flight, whatever its stage is and whatever others left half done, and of no other from then on, no more steps go on in
--- a row than the pages tell
+-- Only a call in flight on a key does steps from now on, whatever its stage is and whatever others left half done: at most `resumed_steps`
+-- of its steps go on
 abbrev pub ResumedLaw : Type 0
 ResumedLaw = (numbers : Tree → Option ℕ) (given : ℕ → Bool) (j : Course) (s : Store) (first : Stage) (w : Forest) → HasForest (snapshot_of s numbers given) w → numbers j.tree.name ≡ Some j.tree.number → IsOnKey j.call → Knows (snapshot_of s numbers given) w j first → HasHalves (nodes_of (now s)) first
     → (n : ℕ) (new : Store) (a : Stage) (v : Forest) → MovesAlone numbers given j s first w n new a v → n ≤ resumed_steps (now s) j.tree.name

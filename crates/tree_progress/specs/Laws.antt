@@ -61,7 +61,7 @@ abbrev pub SwapLowers : Type 0
 SwapLowers = (m : Snapshot) (w : Forest) (t : Tree) (number : ℕ) (a : SwapRoot) → HasForest m w → m.numbers t ≡ Some number → m.state.roots t ≡ Some a.old → IsSwapping m w t number a
     → Lowers m.state (after (RootBecomes t (Some a.new)) m.state) t 4
 
--- A page of n entries in the tree t, which weighed as others do, weighs as a merging child: less is left to repair where it is small
+-- A page of n entries in the tree t, which weighed as others do, weighs as a merging child: less is left to repair if it is small
 pub record Intends (old new : State) (t : Tree) (n : ℕ) : Type 0 where
   pub here : to_do new t + weight n ≤ to_do old t + child_weight false n
   pub small : n ≤ 3 → to_do new t + 1 ≤ to_do old t

@@ -37,7 +37,7 @@ weighs_as nodes other old new t = Leaves old new ⊎ Lowers old new t 1
 pub record StepWeighs (stage : Stage) (old new : State) (t : Tree) : Type 0 where
   pub is : weighs_as (nodes_of old) stage old new t
 
--- where the pages are well formed, and the call knows at its stage what every call in flight knows there
+-- if the pages are well formed, and the call knows at its stage what every call in flight knows there
 abbrev pub StepLaw : Type 0
 StepLaw = (j : Course) (old new : Store) (numbers : Tree → Option ℕ) (given : ℕ → Bool) (w : Forest) (number : ℕ) (stage : Stage) (next : Sequel) → HasForest (snapshot_of old numbers given) w → numbers j.tree.name ≡ Some number
     → IsStage (snapshot_of old numbers given) w j.tree.name number j.aim stage → HasHalves (nodes_of (now old)) stage → Follows j old stage next new → StepWeighs stage (now old) (now new) j.tree.name

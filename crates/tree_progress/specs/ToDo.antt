@@ -64,6 +64,6 @@ to_do_under (ℕ.suc n) nodes above None = 0
 to_do_under (ℕ.suc n) nodes above (Some p) =
     level_weight nodes above (pages_along page_numbers nodes (Some p)) + to_do_under n nodes (pages_along page_numbers nodes (Some p)) (first_of (nodes p))
 
--- what is left to repair in a tree; nothing stands above its root
+-- what is left to repair in a tree; nothing is above its root
 abbrev pub to_do : State → Tree → ℕ
 to_do s t = to_do_under page_numbers (nodes_of s) [] (s.roots t)

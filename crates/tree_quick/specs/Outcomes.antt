@@ -1,4 +1,4 @@
--- What a call comes to that is made at once.
+-- The outcome of a call that is made at once.
 use Rattle.std.specs.Prelude.{Result, Ok, Err}
 use Rattle.sled_nodes.specs.declared.error.Error.{Error}
 use Rattle.sled_model.specs.declared.reply.Reply.{Reply}

@@ -22,7 +22,7 @@ use std::ops::Bound;
 // A walk that comes so deep is left to a call in flight, which counts its turns.
 const MOST_LEVELS: u64 = 1_000;
 
-// What a call comes to at its leaf.
+// The outcome of a call at its leaf.
 #[derive(Drop)]
 pub(crate) enum AtLeaf {
     // It changes nothing, and replies.
@@ -31,7 +31,7 @@ pub(crate) enum AtLeaf {
     Links(Change),
 }
 
-// Whether nothing is to be repaired at a page, and the key lies under it.
+// Whether nothing is to be repaired at a page, and the key is under it.
 #[inline(always)]
 fn is_clean(node: &Node, first: bool, key: &[u8]) -> bool
     ensures { result ≡ true → IsCleanFor key.now first node.now }
@@ -43,7 +43,7 @@ fn is_clean(node: &Node, first: bool, key: &[u8]) -> bool
         && lies_under(node, Bound::Included(key))
 }
 
-// A page, where it is there and can be read.
+// A page, if it is there and can be read.
 #[inline(always)]
 fn read<P: Pages>(pages: &P, alloc: Global, pid: Pid) -> Option<View>
     ensures { IfSome result (IsRead (P.store pages.now) pid) }
@@ -57,7 +57,7 @@ fn read<P: Pages>(pages: &P, alloc: Global, pid: Pid) -> Option<View>
     }
 }
 
-// The leaf of a key, where the path to it is clean.
+// The leaf of a key, if the path to it is clean.
 #[inline(always)]
 fn clean_leaf<P: Pages>(pages: &P, alloc: Global, root: Pid, key: &[u8]) -> Option<View>
     ensures leads { IfSome result (LeadsToLeaf (P.store pages.now) root key.now) }
@@ -91,7 +91,7 @@ fn clean_leaf<P: Pages>(pages: &P, alloc: Global, root: Pid, key: &[u8]) -> Opti
     None
 }
 
-// What a call comes to at its leaf, by the operator of its tree.
+// The outcome of a call at its leaf, by the operator of its tree.
 #[inline(always)]
 fn decide<M: MergeOperator>(
     alloc: Global,
@@ -130,7 +130,7 @@ fn decide<M: MergeOperator>(
     }
 }
 
-// Links a change at the version of a leaf that was just read. It lets go of the leaf before, so that a store may change it in place.
+// Links a change at the version of a leaf that was just read. It drops the leaf before, so that a store may change it in place.
 #[inline(always)]
 fn link<P: Pages>(pages: &mut P, leaf: View, change: Change) -> Result<Reply>
     requires { IsUnchanged (now (P.store pages.old)) leaf }
@@ -226,7 +226,7 @@ fn change_quick<P: Pages, M: MergeOperator>(
     Some(end_at(pages, alloc, operator, call, leaf))
 }
 
-/// Makes a call on a key of a tree, where nothing is to be repaired on the way to its leaf, by the steps that a call in flight makes there.
+/// Makes a call on a key of a tree, if nothing is to be repaired on the way to its leaf, by the steps that a call in flight makes there.
 /// Else it does nothing, and answers `None`.
 ///
 /// ```

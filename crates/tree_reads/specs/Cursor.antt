@@ -8,12 +8,12 @@ use Rattle.sled_store.specs.declared.page.View.{View}
 use Rattle.tree_reads.specs.declared.cursor.Cursor.{Cursor}
 use Rattle.tree_reads.specs.Leaves.{entry_at}
 
--- behind a pair; where there is none, within the bound
+-- behind a pair; if there is none, within the bound
 abbrev pub lower_from : Bound Key → Option (Key × Key) → Bound Key
 lower_from lo None = lo
 lower_from lo (Some e) = Excluded e.0
 
--- where it is known how many pairs of the leaf may come, all that is still to come is behind the pair at the place
+-- if it is known how many pairs of the leaf may come, all that is still to come is behind the pair at the place
 abbrev pub lower_at : Bound Key → Option View → ℕ → Option ℕ → Bound Key
 lower_at lo leaf place None = lo
 lower_at lo leaf place (Some n) = lower_from lo (entry_at leaf place)

@@ -1,4 +1,4 @@
--- Searches along the leaves of a tree, and the leaves at which they stand.
+-- Searches along the leaves of a tree, and the leaves at which they are.
 use Rattle.std.specs.Prelude.{◌≡◌, ◌≢◌, ℕ, ◌+◌, ◌*◌, ◌<◌, ◌≤◌, ◌^◌, false, List, [], ◌∷◌, ◌++◌, length, slice_get, Option, Some, None}
 use Rattle.std.specs.declared.ops.Bound.{Bound}
 use Rattle.sled_nodes.specs.Order.{Key, Below, UpTo}
@@ -20,8 +20,8 @@ pub record IsRead (s : State) (v : View) : Type 0 where
   pub live : s.pages v.pid ≡ Some (record { version = v.version; node = v.node })
   pub below : (p : ℕ) (g : Page) → s.pages p ≡ Some g → p < 2 ^ 64
 
--- A search to the right stands at a leaf: all pairs before the leaf are without the lower bound, and the pages looked at so far,
--- this one among them, and those ahead are no more than the tree's
+-- A search to the right is at a leaf: all pairs before the leaf are without the lower bound, and the pages looked at so far, this
+-- one among them, and those ahead are no more than the tree's
 pub record Seeks (s : State) (root : ℕ) (lo : Bound Key) (v : View) (looked : ℕ) : Type 0 where
   pub read : IsRead s v
   pub is : (w : Forest) → WellFormed (nodes_of s) s.roots w → (t : Tree) → s.roots t ≡ Some root

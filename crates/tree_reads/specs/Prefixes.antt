@@ -10,7 +10,7 @@ use Rattle.sled_nodes.specs.Among.{is_up_to, is_from}
 abbrev pub IsBytes : Key → Type 0
 IsBytes bytes = AllByRecursion (λ b. b < 256) bytes
 
--- a byte before what its rest is raised to; where that is nothing it is raised itself, and 255 is left out
+-- a byte before what its rest is raised to; if that is nothing it is raised itself, and 255 is left out
 abbrev pub or_raised : ℕ → Option Key → Option Key
 or_raised byte (Some rest) = Some (byte ∷ rest)
 or_raised byte None = if nat_lt byte 255 then Some ((byte + 1) ∷ []) else None
@@ -33,6 +33,6 @@ raised prefix = below (raised_key prefix)
 abbrev pub pairs_beginning : Key → List (Key × Key) → List (Key × Key)
 pairs_beginning prefix pairs = filter (λ e. starts_with nat_eq e.0 prefix) pairs
 
--- a byte string lies from a prefix on and below what it is raised to exactly where it begins with it
+-- a byte string is from a prefix on and below what it is raised to exactly if it begins with it
 abbrev pub PrefixLaw : Type 0
 PrefixLaw = (prefix key : Key) → IsBytes key → (is_from (Included prefix) key && is_up_to (raised prefix) key) ≡ starts_with nat_eq key prefix

@@ -30,7 +30,7 @@ pub record Coming (P : Type 0) : Type 0 where
 
 -- Which of the pairs is taken, what is shown of it, and why a taking is refused
 module _ {P A : Type 0} (store : P → Store) (splits : List (Key × Key) → Key × Key → List (Key × Key) → Type 0) (shows : Key × Key → A) (of : ℕ → ℕ) where
-  -- none where there is none or it has ended; else one of the pairs, and the others are left. After none and after an error it has ended
+  -- none if there is none or it has ended; else one of the pairs, and the others are left. After none and after an error it has ended
   abbrev pub takes : Coming P → Option (Result A Error) → Coming P → Type 0
   takes old None new = ((old.pairs ≡ []) ⊎ (old.ended ≡ true)) × (new ≡ record old { ended = true })
   takes old (Some (Ok x)) new = (old.ended ≡ false) × (p : Key × Key) × (x ≡ shows p) × (rest : List (Key × Key)) × splits old.pairs p rest × (new ≡ record old { pairs = rest })

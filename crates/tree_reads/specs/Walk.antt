@@ -35,7 +35,7 @@ pub record IsLeafOf (s : State) (root : ℕ) (target : Bound Key) (v : View) : T
   pub looked : ℕ
   pub is : IsLeafFor s root target 0 v looked
 
--- The page is live as it was read, and at every forest it stands on a level of the tree, with no more pages ahead of it than the tree has
+-- The page is live as it was read, and at every forest it is on a level of the tree, with no more pages ahead of it than the tree has
 pub record IsOfTree (s : State) (root : ℕ) (v : View) : Type 0 where
   pub live : s.pages v.pid ≡ Some (record { version = v.version; node = v.node })
   pub is : (w : Forest) → WellFormed (nodes_of s) s.roots w → (t : Tree) → s.roots t ≡ Some root
@@ -53,8 +53,8 @@ abbrev pub refuses_walk_as : (ℕ → ℕ) → Store → ℕ → Error → Type 
 refuses_walk_as of s root (ReportableBug text) = (text.now ≡ WALK_PASSED_TURNS.now) × HasTooMany of (now s) root
 refuses_walk_as of s root e = refuses_read_as s e
 
--- Refused for want of memory, for a fault where some page is not readable, or for too many pages: from left to right no page is
--- looked at twice
+-- Refused for want of memory, for a fault if some page is not readable, or for too many pages: from left to right no page is looked
+-- at twice
 pub record RefusesWalk (of : ℕ → ℕ) (s : Store) (root : ℕ) (e : Error) : Type 0 where
   pub is : refuses_walk_as of s root e
 
@@ -69,6 +69,6 @@ abbrev pub gives_up_as : State → ℕ → Key → ℕ → Error → Type 0
 gives_up_as s root key from (ReportableBug text) = (first : Bool) (path : List ℕ) → CleanFrom (nodes_of s) (Included key) root first path → MOST_PAGES < from + length path
 gives_up_as s root key from e = Unit {0}
 
--- a walk to a key over a clean path is given up only where the path has more pages than may still be looked at
+-- a walk to a key over a clean path is refused only if the path has more pages than may still be looked at
 pub record GivesUp (s : State) (root : ℕ) (target : Bound Key) (from : ℕ) (e : Error) : Type 0 where
   pub is : (key : Key) → target ≡ Included key → gives_up_as s root key from e

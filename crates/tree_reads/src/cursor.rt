@@ -28,11 +28,11 @@ use std::ops::Bound;
 pub struct Cursor {
     /// What is to come is within this bound, if `end` is not set.
     pub lo: Bound<IVec>,
-    /// The leaf at which the search stands.
+    /// The leaf at which the search is.
     pub leaf: Option<View>,
     /// Where the last pair was found in the leaf.
     pub place: usize,
-    /// How many of the leaf's pairs are within the upper bound. Where it is set, what is to come is behind the pair at `place`.
+    /// How many of the leaf's pairs are within the upper bound. If it is set, what is to come is behind the pair at `place`.
     pub end: Option<usize>,
 }
 
@@ -81,7 +81,7 @@ impl Cursor {
         }
     }
 
-    // The key of the last pair that was given, where the lower bound stayed behind it. Refused with `NoMemory` alone.
+    // The key of the last pair that was given, if the lower bound stayed behind it. Refused with `NoMemory` alone.
     fn key_here(&self) -> Result<Option<IVec>>
         ensures ok { IfOk result (λ found. MatchOption found (lower self.now ≡ self.now.lo) (λ key. lower self.now ≡ Excluded key)) }
         ensures err { IfErr result (λ e. e ≡ NoMemory) }
@@ -102,7 +102,7 @@ impl Cursor {
         }
     }
 
-    /// The lower bound comes to the last pair that was given. Refused with `NoMemory` alone, and then unchanged.
+    /// Moves the lower bound to the last pair that was given. Refused with `NoMemory` alone, and then unchanged.
     pub fn catch_up(&mut self) -> Result<()>
         ensures ok { OnOk result (self.new ≡ record self.old { lo = lower self.old; end = None }) }
         ensures err { OnErr result (self.new ≡ self.old) }

@@ -80,7 +80,7 @@ pub struct Iter<'a, R: Reads> {
     // where it goes on from the front
     front: Cursor,
     hi: Bound<IVec>,
-    // the leaf at which the search from the back stands, and where the last pair was found in it
+    // the leaf at which the search from the back is, and where the last pair was found in it
     back: Option<View>,
     back_place: usize,
     ended: bool,
@@ -101,8 +101,8 @@ impl<'a, R: Reads> Model for Iter<'a, R> {
     ghost invariant = { λ r. IsRoot (now (R.store r.pages.now)) r.root × SeeksAt (now (R.store r.pages.now)) r.root (lower r.front) r.front.leaf × EndsAt r.hi r.front × SeeksBackAt (now (R.store r.pages.now)) r.root r.hi r.back };
 }
 
-/// The pairs of the tree with this root whose keys are within two bounds. It reads no page. Where the range starts above its
-/// end, or at it and not both are included, the iterator has ended.
+/// The pairs of the tree with this root whose keys are within two bounds. It reads no page. If the range starts above its end,
+/// or at it and not both are included, the iterator has ended.
 pub fn pairs_of<'a, R: Reads>(
     alloc: Global,
     pages: &'a R,
@@ -221,7 +221,7 @@ impl<'a, R: Reads> Model for Keys<'a, R> {
     ghost view = { λ k. k.pairs };
 }
 
-// What is left of a pair whose value is let go.
+// What is left of a pair whose value is dropped.
 fn key_of(pair: Option<Result<(IVec, IVec)>>) -> Option<Result<IVec>>
     ensures { result ≡ shown_of key_alone pair }
 {
@@ -235,7 +235,7 @@ fn key_of(pair: Option<Result<(IVec, IVec)>>) -> Option<Result<IVec>>
     }
 }
 
-// What is left of a pair whose key is let go.
+// What is left of a pair whose key is dropped.
 fn value_of(pair: Option<Result<(IVec, IVec)>>) -> Option<Result<IVec>>
     ensures { result ≡ shown_of value_alone pair }
 {

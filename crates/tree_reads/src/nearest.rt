@@ -19,7 +19,7 @@ use std::alloc::Global;
 use std::mem;
 use std::ops::Bound;
 
-/// The value at a key of the tree with this root, or `None` where the key is absent.
+/// The value at a key of the tree with this root, or `None` if the key is absent.
 pub fn value_at<R: Reads>(alloc: Global, pages: &R, root: Pid, key: &[u8]) -> Result<Option<IVec>>
     ensures ok { IfOk result (λ value. OfContents (now (R.store pages.now)) root (λ pairs. value ≡ find key_cmp key.now pairs)) }
     ensures err { IfErr result (RefusesWalk once (R.store pages.now) root) }

@@ -8,7 +8,7 @@ use std::alloc::Global;
 use std::ops::Bound;
 
 /// The upper bound of the keys that begin with a prefix: the prefix without its last bytes 255 and with the last byte that is left
-/// raised by one, excluded; none where nothing is left. Refused with `NoMemory` alone.
+/// raised by one, excluded; none if nothing is left. Refused with `NoMemory` alone.
 pub fn above_prefix(alloc: Global, prefix: &[u8]) -> Result<Bound<IVec>>
     ensures ok { IfOk result (λ bound. bound ≡ raised prefix.now) }
     ensures err { IfErr result (λ e. e ≡ NoMemory) }
@@ -28,7 +28,7 @@ pub fn law_bytes(bytes: &[u8])
     ensures { IsBytes bytes.now }
 {}
 
-/// Does nothing. A byte string lies from a prefix on and below what it is raised to exactly where it begins with it.
+/// Does nothing. A byte string is from a prefix on and below what it is raised to exactly if it begins with it.
 pub fn law_prefix()
     ensures { PrefixLaw }
 {}

@@ -11,7 +11,7 @@ pub trait Reads: Drop {
     /// What the store means.
     ghost store: { Self → Store };
 
-    /// The page now, or `None` where there is none. `Io` comes only where the page is not readable.
+    /// The page now, or `None` if there is none. `Io` comes only if the page is not readable.
     fn page(&self, alloc: Global, pid: Pid) -> Result<Option<View>>
         ensures ok { IfOk result (λ view. view ≡ view_of pid ((now (store self.now)).pages pid)) }
         ensures err { IfErr result (IsReadRefused pid (store self.now)) };

@@ -17,7 +17,7 @@ use sled_store::View;
 use std::alloc::Global;
 use std::ops::Bound;
 
-// Whether the target lies behind the node.
+// Whether the target is behind the node.
 #[inline(always)]
 fn is_behind(node: &Node, target: Bound<&[u8]>) -> bool
     ensures { IsTrue result ↔ LiesBehind (bound_of target.entry) node.now }
@@ -63,8 +63,8 @@ fn down(node: &Node, target: Bound<&[u8]>) -> Option<Pid>
     Some(child)
 }
 
-/// The leaf of the tree with this root in which a key just within the target lies, and how many pages have been looked at by
-/// then, `looked` of them before this call.
+/// The leaf of the tree with this root in which a key just within the target is, and how many pages have been looked at by then,
+/// `looked` of them before this call.
 pub fn leaf_at<R: Reads>(
     alloc: Global,
     pages: &R,
@@ -94,7 +94,7 @@ pub fn leaf_at<R: Reads>(
     Err(Error::ReportableBug(WALK_PASSED_TURNS))
 }
 
-// Where a walk to the target goes down from an index that the target lies under.
+// Where a walk to the target goes down from an index that the target is under.
 #[inline(always)]
 fn down_from(node: &Node, target: Bound<&[u8]>) -> Option<Pid>
     ensures { GoesDown (bound_of target.entry) node.now result }
@@ -108,7 +108,7 @@ fn down_from(node: &Node, target: Bound<&[u8]>) -> Option<Pid>
     }
 }
 
-// Where a walk begins: below the last index of the way that the target lies under, and else at the root. The indexes behind that one go.
+// Where a walk begins: below the last index of the way that the target is under, and else at the root. The indexes behind that one go.
 #[inline(always)]
 fn begin(way: &mut Vec<View>, root: Pid, target: Bound<&[u8]>) -> Pid
     ensures begins { BeginsWalk (bound_of target.entry) way.old.items root result }
@@ -143,8 +143,8 @@ fn keep(way: &mut Vec<View>, view: View) -> Result<()>
     }
 }
 
-/// The leaf of the tree with this root in which the key lies, for many keys one after the other. The walk leaves its way: the indexes that
-/// it went down by. The next one begins below the last of them that its key lies under, and else at the root. At first the way is empty.
+/// The leaf of the tree with this root in which the key is, for many keys one after the other. The walk leaves its way: the indexes that it
+/// went down by. The next one begins below the last of them that its key is under, and else at the root. At first the way is empty.
 ///
 /// ```
 /// let mut way = Vec::new(alloc);

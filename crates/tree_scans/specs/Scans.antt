@@ -25,7 +25,7 @@ abbrev pub range_from : Aim → Range → Range
 range_from Own r = r
 range_from (At bound) r = if r.back then (record r { hi = bound }) else (record r { lo = bound })
 
--- the range from a key up, or below it; none where the key is no bound
+-- the range from a key up, or below it; none if the key is no bound
 abbrev pub range_up : Key → Range → Option Range
 range_up [] r = None
 range_up (b ∷ bs) r = Some (record r { lo = Included (b ∷ bs) })
@@ -34,11 +34,11 @@ abbrev pub range_down : Key → Range → Option Range
 range_down [] r = None
 range_down (b ∷ bs) r = Some (record r { hi = Excluded (b ∷ bs) })
 
--- what lies behind a leaf in the direction of the range: from where it ends or, backwards, below where it begins
+-- what is behind a leaf in the direction of the range: from where it ends or, backwards, below where it begins
 abbrev pub range_behind : Node → Range → Option Range
 range_behind n r = if r.back then (range_down n.lo r) else (range_up n.hi r)
 
--- what is left to read: behind its leaf, where a scan has one
+-- what is left to read: behind its leaf, if a scan has one
 abbrev pub rest_at : Stage → Range → Option Range
 rest_at (stage.Give a) r = range_behind a.leaf.node r
 rest_at other r = Some r
@@ -70,7 +70,7 @@ aim_behind n false = At (Included n.hi)
 abbrev pub behind : InFlight → Giving → Range → InFlight
 behind f a r = record f { aim = aim_behind a.leaf.node r.back; stage = stage.Root }
 
--- a scan ends where it has its leaf, or before it reads the root
+-- a scan ends once it has its leaf, or before it reads the root
 abbrev pub CanEnd : Stage → Type 0
 CanEnd stage.Root = Unit {0}
 CanEnd (stage.Give a) = Unit {0}
@@ -81,13 +81,13 @@ pub data ScanStep (steps : Store → InFlight → Went → Store → InFlight �
   -- at its leaf it gives the first pair that waits, and its turns begin again
   Gives : (a : Giving) (key value : Key) (more : List (Key × Key)) → f.stage ≡ stage.Give a → waiting_of f ≡ (key, value) ∷ more
       → ScanStep steps old f (Yielded key value) old (record f { stage = stage.Give (record a { given = a.given + 1 }); turns = 0 })
-  -- where none waits and nothing is left to read it ends: at its leaf, or before it reads the root
+  -- if none waits and nothing is left to read it ends: at its leaf, or before it reads the root
   Ends : (g : InFlight) → CanEnd f.stage → waiting_of f ≡ [] → is_read (rest_of f) ≡ true → ScanStep steps old f (Decided End) old g
-  -- where none waits and something is left to read, it does what a scan does that begins at the root, from behind its leaf
+  -- if none waits and something is left to read, it does what a scan does that begins at the root, from behind its leaf
   GoesOn : (a : Giving) (r : Range) (went : Went) (new : Store) (g : InFlight) → f.stage ≡ stage.Give a → range_of f.job.call ≡ Some r
       → waiting_of f ≡ [] → is_read (rest_of f) ≡ false → steps old (behind f a r) went new g → ScanStep steps old f went new g
   -- on its way to a leaf it does what every call does; bounds that give nothing end it before it reads the root
   Walks : (went : Went) (new : Store) (g : InFlight) → IsOnItsWay f.stage → (f.stage ≡ stage.Root → is_read (rest_of f) ≡ false)
       → steps old f went new g → ScanStep steps old f went new g
-  -- there is no memory for the pair, or for where it goes on
+  -- there is no memory for the pair, or for the place where it goes on
   Lacks : (a : Giving) (g : InFlight) → f.stage ≡ stage.Give a → ScanStep steps old f (Refused NoMemory) old g

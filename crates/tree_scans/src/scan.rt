@@ -29,7 +29,7 @@ struct Bounds<'a> {
     back: bool,
 }
 
-// What a scan comes to at its leaf.
+// The outcome of a scan at its leaf.
 #[derive(Drop)]
 enum AtLeaf {
     // The next pair that waits.
@@ -93,7 +93,7 @@ fn behind(node: &Node, back: bool) -> Result<Aim>
     }
 }
 
-// What comes where none of the leaf's pairs waits.
+// What comes if none of the leaf's pairs waits.
 fn at_end(node: &Node, bounds: Bounds) -> Result<AtLeaf>
     ensures ok { IfOk result (ComesBehind node.now (range_between (bound_of bounds.entry.lo) (bound_of bounds.entry.hi) bounds.entry.back)) }
     ensures err { IfErr result (λ e. e ≡ NoMemory) }
@@ -105,14 +105,14 @@ fn at_end(node: &Node, bounds: Bounds) -> Result<AtLeaf>
     }
 }
 
-// Takes the next pair that waits, where one does.
+// Takes the next pair that waits, if one does.
 #[inline(always)]
 fn at_leaf(job: &Job, aim: &Aim, giving: &mut Giving) -> Result<AtLeaf>
     requires { IsOnKey job.now.call → ⊥ }
     ensures ok { IfOk result (ComesTo job.now.call aim.now giving.old giving.new) }
     ensures err { IfErr result (λ e. e ≡ NoMemory) }
 {
-    // No leaf comes to where this overflows.
+    // No leaf has so many pairs that this overflows.
     let Some(given) = giving.given.checked_add(1) else {
         return Err(Error::NoMemory);
     };

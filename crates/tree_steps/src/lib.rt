@@ -1,7 +1,8 @@
 //! One step of a call in flight, over the pages and the queues of subscribers.
 //!
-//! It is a step over the pages alone (`sled_tree`, and `tree_scans` for a scan), and where it links a change, the event waits in each queue
-//! for its key from then on (`step`). Whoever records what calls come to takes the step that keeps copies of the reply (`step_kept`).
+//! It is a step over the pages alone (`sled_tree`, and `tree_scans` for a scan), and if it links a change, the event waits in each queue
+//! for its key from then on (`step`). A program that records the outcomes of calls takes the step that keeps copies of the reply
+//! (`step_kept`).
 #![tactic(auto)]
 
 mod step;

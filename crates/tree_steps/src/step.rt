@@ -1,8 +1,8 @@
 //! One step of a call in flight, over the pages and the queues of subscribers.
 //!
-//! Where the step is to link a change, and some queue waits for the key, the event is prepared in the queues before the page is touched,
-//! which is refused for memory alone. Once the link is made the event waits there, and where it is not made the event is dropped. Every
-//! other step is one over the pages alone, and one that links nothing does not look at the queues.
+//! If the step is to link a change, and some queue waits for the key, the event is prepared in the queues before the page is touched, which
+//! is refused for memory alone. Once the link is made the event waits there, and if it is not made the event is dropped. Every other step
+//! is one over the pages alone, and one that links nothing does not look at the queues.
 ghost use Rattle.std.specs.Prelude.{◌<◌};
 ghost use Rattle.std.specs.Option.{option_map};
 ghost use Rattle.sled_queues.specs.Values.{queue_at};
@@ -31,7 +31,7 @@ pub(crate) fn links_watched(queues: &Queues, flight: &InFlight) -> bool
     }
 }
 
-// Links a change that was prepared for a call, and tells its event. All that may be refused comes before the link.
+// Links a change that was prepared for a call, and sends its event. All that may be refused is before the link.
 #[inline(always)]
 pub(crate) fn link_told<P: Pages>(
     pages: &mut P,
@@ -70,7 +70,7 @@ pub(crate) fn link_told<P: Pages>(
     }
 }
 
-// The step of a call that is to link its change, and tells its event.
+// The step of a call that is to link its change, and sends its event.
 fn link_watched<P: Pages, M: MergeOperator>(
     pages: &mut P,
     queues: &mut Queues,

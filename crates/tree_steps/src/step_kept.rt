@@ -1,6 +1,6 @@
-//! Steps that keep copies of a reply, for whoever records what calls came to.
+//! Steps that keep copies of a reply, for programs that record the outcomes of calls.
 //!
-//! The copies are made before the action that decides the call: where there is no memory for them the step is refused, and no call is
+//! The copies are made before the action that decides the call: if there is no memory for them the step is refused, and no call is
 //! decided. A call that links a change has its reply before the link. Any other is decided by a page that it read, after which nothing
 //! was changed, and so it may still be refused.
 ghost use Rattle.std.specs.Prelude.{◌≡◌, ◌≢◌, ◌<◌, true, false, IfOk, IfErr};
@@ -49,7 +49,7 @@ fn copies_of(reply: &Reply) -> Result<(Reply, Reply)>
     }
 }
 
-// Keeps the reply of a step that is to be refused where there is no memory for the copies.
+// Keeps the reply of a step that is to be refused if there is no memory for the copies.
 fn keep(went: Went) -> Kept
     ensures comes { ComesOut went result.0 }
     ensures kept { result.1 ≡ kept_of (outcome_of result.0) }
@@ -66,7 +66,7 @@ fn keep(went: Went) -> Kept
     }
 }
 
-// Links a change that was prepared for a call, and tells its event where some queue waits for the key.
+// Links a change that was prepared for a call, and sends its event if some queue waits for the key.
 fn link_prepared<P: Pages>(
     pages: &mut P,
     queues: &mut Queues,
@@ -148,7 +148,7 @@ fn is_at_link(flight: &InFlight) -> bool
     matches!(&flight.stage, Stage::Act(_))
 }
 
-/// One step of a call in flight that has turns left, as `advance_over` makes it, and copies of its reply where it decides the call.
+/// One step of a call in flight that has turns left, as `advance_over` makes it, and copies of its reply if it decides the call.
 pub fn keep_over<P: Pages, M: MergeOperator>(
     pages: &mut P,
     queues: &mut Queues,

@@ -22,7 +22,7 @@ Answer A E = Result A (ConflictableTransactionError E)
 abbrev pub Closure : Type 0 → Type 0 → Type 0 → Type 1
 Closure F T R = Shared F (MutBor T × Unit {0}) (R × (MutBor T × Unit {0}))
 
--- a call of the closure at this may tell what is this answer, and leave that
+-- a call of the closure at this may return what is this answer, and leave that
 pub record Calls {F T R A E : Type 0} (says : Closure F T R) (result_of : R → Answer A E) (f : F) (given : T) (answer : Answer A E) (after : T) : Type 0 where
   pub shown : MutBor T
   pub shows : shown.now ≡ given
@@ -78,7 +78,7 @@ module _ {F T R A E W : Type 0} (says : Closure F T R) (result_of : R → Answer
     pub last : Attempt mid here answer writes flushes new next
     pub only : OnlyRaises old new
 
-  -- as many attempts as there may be met a conflict, and that is told
+  -- as many attempts as there may be met a conflict, and that is the error
   pub record Passes (old : Store) (greatest : ℕ) (e : Error) (new : Store) (next : ℕ) : Type 0 where
     pub all : Conflicts old greatest MOST_ATTEMPTS new next
     pub told : tells_attempts e
@@ -98,7 +98,7 @@ module _ {F T R A E W : Type 0} (says : Closure F T R) (result_of : R → Answer
   runs_as old greatest (Err (Storage e)) new next =
       ((writes : W) × (flushes : Bool) × Ends old greatest (Err (closure.Storage e)) writes flushes new next) ⊎ Passes old greatest e new next
 
-  -- It is run until an attempt does not answer that there was a conflict, which is to be made, is given up or is refused, or until as many
+  -- It is run until an attempt does not answer that there was a conflict, which is to be made, is aborted or is refused, or until as many
   -- attempts were made as there may be. The pages stay as they are, and ids that were given stay given
   pub record RunsAttempts (old : Store) (greatest : ℕ) (answer : Result (Commit A W) (TransactionError E)) (new : Store) (next : ℕ) : Type 0 where
     pub is : runs_as old greatest answer new next

@@ -29,11 +29,11 @@ abbrev pub sets_aside_as : Bool → Store → Store → Type 0
 sets_aside_as false old new = new ≡ old
 sets_aside_as true old new = (new ≡ record old { mark = raised old.mark }) ⊎ ((e : Error) × IsRefused e old new)
 
--- where few ids are set aside the mark is raised, or the store refuses that, which is passed over
+-- if few ids are set aside the mark is raised, or the store refuses that, which is passed over
 pub record SetsAside (greatest : ℕ) (old new : Store) : Type 0 where
   pub is : sets_aside_as (is_short greatest old.mark) old new
 
--- .. and where a list has no trees nothing is done
+-- .. and if a list has no trees nothing is done
 abbrev pub sets_aside_for : List ℕ → ℕ → Store → Store → Type 0
 sets_aside_for [] greatest old new = new ≡ old
 sets_aside_for (root ∷ roots) greatest old new = SetsAside greatest old new

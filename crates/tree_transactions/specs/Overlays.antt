@@ -13,7 +13,7 @@ use Rattle.tree_reads.specs.Leaves.{OfContents}
 use Rattle.tree_reads.specs.Walk.{RefusesWalk, GivesUp, once}
 
 -- A key has this value, or none, as it is read through an overlay over the tree with this root: the overlay's own write of the key,
--- and where it has none what stands in the tree
+-- and if it has none what is in the tree
 pub record ReadsThrough (s : State) (root : ℕ) (overlay : Writes) (key : Key) (value : Option Key) : Type 0 where
   pub own : (written : Option Key) → find key_cmp key overlay ≡ Some written → value ≡ written
   pub is : OfContents s root (λ pairs. value ≡ unwrap_or (find key_cmp key overlay) (find key_cmp key pairs))
@@ -22,7 +22,7 @@ abbrev pub refuses_through_as : Option (Option Key) → Store → ℕ → Key �
 refuses_through_as (Some written) s root key e = e ≡ NoMemory
 refuses_through_as None s root key e = RefusesWalk once s root e × GivesUp (now s) root (Included key) 0 e
 
--- a read through an overlay is refused as a walk to the key is, and where the overlay has a write of it for want of memory alone
+-- a read through an overlay is refused as a walk to the key is, and if the overlay has a write of it for want of memory alone
 pub record RefusesThrough (s : Store) (root : ℕ) (overlay : Writes) (key : Key) (e : Error) : Type 0 where
   pub is : refuses_through_as (find key_cmp key overlay) s root key e
 

@@ -32,7 +32,7 @@ pub record RefusesAt {P : Type 0} (trees : TransactionalTrees P) (position : ℕ
   pub is : RefusedFor (LacksTree trees position) e ⊎ ((root : ℕ) × (overlay : Writes) × IsAt trees position root overlay × RefusedFor (why root overlay) e)
 
 module _ {P : Type 0} (store : P → Store) (trees : TransactionalTrees P) (position : ℕ) (key : Key) where
-  -- the key of the tree at this position has this value inside: the own write of it there, and where there is none what stands in the pages
+  -- the key of the tree at this position has this value inside: the own write of it there, and if there is none what is in the pages
   pub record ShowsAt (value : Option Key) : Type 0 where
     pub root : ℕ
     pub overlay : Writes

@@ -18,7 +18,7 @@ pub record RefusedFor (why : Error → Type 0) (e : UnabortableTransactionError)
   pub is : is_storage why e
 
 module _ {P : Type 0} (store : P → Store) (tree : TransactionalTree P) (key : Key) where
-  -- the key has this value inside: the transaction's own write of it, and where there is none what stands in the pages
+  -- the key has this value inside: the transaction's own write of it, and if there is none what is in the pages
   pub record Shows (value : Option Key) : Type 0 where
     pub is : ReadsThrough (now (store tree.pages.now)) tree.root tree.overlay key value
 

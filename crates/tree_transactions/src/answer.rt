@@ -7,7 +7,7 @@ use crate::errors::{
 
 /// What the closure of a transaction answers: a `ConflictableTransactionResult<A, E>`, for which alone this crate implements it. It is a
 /// parameter of each call that takes such a closure, and names what that call answers (`Ended`). For what is proved of a call through a
-/// bound does not reach into types that hold a text, as an `Error` does. Who writes a closure need not name it.
+/// bound does not reach into types that hold a text, as an `Error` does. The author of a closure need not name it.
 pub trait TransactionAnswer<A, E> {
     ghost use Rattle.std.specs.Prelude.{Result};
     ghost use Rattle.tree_transactions.specs.declared.errors.ConflictableTransactionError.{ConflictableTransactionError as Ending};

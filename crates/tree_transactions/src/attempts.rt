@@ -53,7 +53,7 @@ where
     (answer.into_result(), given)
 }
 
-// What is to be made of an attempt that ended so. What it wrote is let go where its closure did not end by `Ok`.
+// What is to be made of an attempt that ended so. What it wrote is dropped if its closure did not end by `Ok`.
 pub(crate) fn made<A, E, W: Drop>(
     answer: ConflictableTransactionResult<A, E>,
     writes: W,
@@ -74,7 +74,7 @@ pub(crate) fn made<A, E, W: Drop>(
     }
 }
 
-// What a transaction answers whose last attempt ended so; none where another is to follow.
+// What a transaction answers whose last attempt ended so; none if another is to follow.
 pub(crate) fn ended<A, E, W>(
     attempt: ConflictableTransactionResult<Commit<A, W>, E>,
 ) -> Option<TransactionResult<Commit<A, W>, E>>
@@ -127,9 +127,9 @@ where
 
 /// Runs a closure as a transaction of the tree with this root, up to what is to be made of it: nothing is written here.
 ///
-/// Each attempt begins with nothing written, over the same pages. Before it ids are set aside, where fewer than 1024 are; a refusal of
-/// that is passed over. An id that was given stays given. The closure is run again while it answers `Conflict`, for at most
-/// `MOST_ATTEMPTS` attempts; then it is refused with `ReportableBug`.
+/// Each attempt begins with nothing written, over the same pages. Before it ids are set aside, if fewer than 1024 are; a refusal of that
+/// is passed over. An id that was given stays given. The closure is run again while it answers `Conflict`, for at most `MOST_ATTEMPTS`
+/// attempts; then it is refused with `ReportableBug`.
 ///
 /// ```
 /// let ended: TransactionResult<Commit<(), Batch>, ()> =

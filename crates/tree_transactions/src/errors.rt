@@ -18,7 +18,7 @@ pub enum UnabortableTransactionError {
 /// How a closure ends a transaction of which nothing is written.
 #[derive(Debug, PartialEq, Eq, Drop)]
 pub enum ConflictableTransactionError<T> {
-    /// The transaction is given up, with this as its answer.
+    /// The transaction is aborted, with this as its answer.
     Abort(T),
     /// The closure is to be run again.
     Conflict,
@@ -31,7 +31,7 @@ pub enum ConflictableTransactionError<T> {
 pub enum TransactionError<T> {
     /// The closure gave it up.
     Abort(T),
-    /// It was refused. Where its flush was, what it wrote stands; where its commit was refused midway, the database is closed.
+    /// It was refused. If its flush was, what it wrote stays; if its commit was refused midway, the database is closed.
     Storage(Error),
 }
 
@@ -178,7 +178,7 @@ impl<T> From<UnabortableTransactionError> for ConflictableTransactionError<T> {
     }
 }
 
-// What is printed where a closure is to be run again.
+// What is printed if a closure is to be run again.
 const CONFLICT: &str = "Conflict during transaction";
 
 impl Display for UnabortableTransactionError {

@@ -9,7 +9,7 @@ use sled_store::Pages;
 // So many ids are set aside at a time.
 const IDS_AT_A_TIME: u64 = 4096;
 
-// Where fewer are set aside, an attempt sets more aside.
+// If fewer are set aside, an attempt sets more aside.
 const IDS_FOR_ATTEMPT: u64 = 1024;
 
 /// The mark that comes after this one: 4096 ids more are set aside, or as many as there are.
@@ -35,7 +35,7 @@ fn few_ids(greatest: u64, mark: u64) -> bool
     mark.saturating_sub(greatest) < IDS_FOR_ATTEMPT && mark < u64::MAX
 }
 
-// Sets ids aside for an attempt, where few are. A refusal is passed over: the closure may need none.
+// Sets ids aside for an attempt, if few are. A refusal is passed over: the closure may need none.
 pub(crate) fn set_ids_aside<P: Pages>(pages: &mut P, greatest: u64)
     ensures { SetsAside greatest (P.store pages.old) (P.store pages.new) }
 {
@@ -46,8 +46,8 @@ pub(crate) fn set_ids_aside<P: Pages>(pages: &mut P, greatest: u64)
     }
 }
 
-// The greatest id that was given, before a closure ran and after it. What a closure leaves lies between this one and the mark, since
-// no call does otherwise; that is not taken from what it says of itself, but looked at.
+// The greatest id that was given, before a closure ran and after it. What a closure leaves is between this one and the mark, since no
+// call does otherwise; that is not taken from what it says of itself, but looked at.
 pub(crate) fn ids_after(before: u64, mark: u64, left: u64) -> u64
     ensures { GoesOn before mark left result }
 {
@@ -58,7 +58,7 @@ pub(crate) fn ids_after(before: u64, mark: u64, left: u64) -> u64
     }
 }
 
-// .. and for an attempt at the trees of a list, where there are any.
+// .. and for an attempt at the trees of a list, if there are any.
 pub(crate) fn set_ids_aside_for<P: Pages>(pages: &mut P, roots: &[Pid], greatest: u64)
     ensures { sets_aside_for roots.now greatest (P.store pages.old) (P.store pages.new) }
 {

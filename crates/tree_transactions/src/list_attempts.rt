@@ -57,8 +57,8 @@ where
 
 /// Runs a closure as a transaction of the trees with these roots, up to what is to be made of it: nothing is written here.
 ///
-/// It is as `transact`, but that each attempt has writes of its own for each position. Where there is no memory for them it is refused
-/// with `NoMemory`. For an empty list no ids are set aside.
+/// It is as `transact`, but that each attempt has writes of its own for each position. If there is no memory for them it is refused with
+/// `NoMemory`. For an empty list no ids are set aside.
 ///
 /// ```
 /// let ended: TransactionResult<Commit<(), Overlays>, ()> =

@@ -18,7 +18,7 @@ pub struct Overlays {
     batches: Vec<Batch>,
 }
 
-// By hand, so that whoever lets go of these cites this, and need not prove again how each of its parts goes.
+// By hand, so that each function that drops these cites this, and does not prove again how its parts are dropped.
 impl Drop for Overlays {
     fn drop(self) {
         let Overlays { batches } = self;

@@ -28,8 +28,8 @@ pub struct TransactionalTree<'a, P: Pages> {
 }
 
 impl<'a, P: Pages> TransactionalTree<'a, P> {
-    /// The value at a key, or `None` where it is absent, as the transaction's own writes leave it. Refused as a read of the
-    /// database, and where the transaction has a write of the key with `NoMemory` alone.
+    /// The value at a key, or `None` if it is absent, as the transaction's own writes leave it. Refused as a read of the database,
+    /// and if the transaction has a write of the key with `NoMemory` alone.
     ///
     /// ```
     /// inside.insert(b"ulm", b"21")?;
@@ -102,8 +102,8 @@ impl<'a, P: Pages> TransactionalTree<'a, P> {
         self.flushes = true;
     }
 
-    /// The next of the ids that were set aside for the transaction. It stays taken, however the transaction ends. Where none is
-    /// left it is refused with `Unsupported`.
+    /// The next of the ids that were set aside for the transaction. It stays taken, however the transaction ends. If none is left
+    /// it is refused with `Unsupported`.
     ///
     /// ```
     /// let id = inside.generate_id()?;

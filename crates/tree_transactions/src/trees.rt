@@ -18,7 +18,7 @@ use sled_store::Pages;
 use std::alloc::Global;
 
 /// The trees of a list inside a transaction, from position 0 on. Each position has writes of its own, which are kept beside the pages
-/// and which its reads see first. A tree that stands in the list twice has two positions, of which neither sees the other's writes.
+/// and which its reads see first. A tree that is in the list twice has two positions, of which neither sees the other's writes.
 #[derive(Drop)]
 pub struct TransactionalTrees<'a, P: Pages> {
     pub(crate) alloc: Global,
@@ -41,8 +41,8 @@ fn no_tree() -> UnabortableTransactionError
 }
 
 impl<'a, P: Pages> TransactionalTrees<'a, P> {
-    /// The value at a key of the tree at a position, or `None` where it is absent, as the own writes there leave it. Refused with
-    /// `Unsupported` where the list has no such position, and as `TransactionalTree::get`.
+    /// The value at a key of the tree at a position, or `None` if it is absent, as the own writes there leave it. Refused with
+    /// `Unsupported` if the list has no such position, and as `TransactionalTree::get`.
     ///
     /// ```
     /// trees.insert(0, b"ulm", b"21")?;
@@ -106,8 +106,8 @@ impl<'a, P: Pages> TransactionalTrees<'a, P> {
         Ok(stood)
     }
 
-    /// The writes of a batch in the tree at a position, in the order of its keys. It reads nothing. Refused with `Unsupported` where the
-    /// list has no such position; else with `NoMemory` alone, and then the first of them, but not all, are written.
+    /// The writes of a batch in the tree at a position, in the order of its keys. It reads nothing. Refused with `Unsupported` if the list
+    /// has no such position; else with `NoMemory` alone, and then the first of them, but not all, are written.
     ///
     /// ```
     /// batch.insert(alloc, b"ulm", b"21")?;
@@ -138,8 +138,8 @@ impl<'a, P: Pages> TransactionalTrees<'a, P> {
         self.flushes = true;
     }
 
-    /// The next of the ids that were set aside for the transaction. It stays taken, however the transaction ends. Where none is
-    /// left it is refused with `Unsupported`.
+    /// The next of the ids that were set aside for the transaction. It stays taken, however the transaction ends. If none is left
+    /// it is refused with `Unsupported`.
     ///
     /// ```
     /// let id = trees.generate_id()?;

@@ -34,7 +34,7 @@ abbrev pub jobs_of_write : Option NamedTree → Write → List Job
 jobs_of_write None w = []
 jobs_of_write (Some t) w = map (λ e. record { tree = w.tree; call = call_of_write w }) (option_to_list (answer_of_write t w).event)
 
--- the calls of those of these writes that bring an event, where all are made one after the other
+-- the calls of those of these writes that bring an event, if all are made one after the other
 abbrev pub jobs_of_writes : List Write → State → List Job
 jobs_of_writes [] s = []
 jobs_of_writes (w ∷ ws) s = jobs_of_write (s.trees w.tree.name) w ++ jobs_of_writes ws (after_write w s)
@@ -44,7 +44,7 @@ pub record Finds (m : Snapshot) (js : List Job) (writes : List KeyWrite) : Type 
   pub jobs : jobs_of writes ≡ js
   pub known : AreKnown m writes
 
--- .. and stand behind others
+-- .. and follow others
 pub record FindsMore (m : Snapshot) (js : List Job) (first writes : List KeyWrite) : Type 0 where
   pub more : List KeyWrite
   pub is : writes ≡ first ++ more
@@ -55,22 +55,22 @@ abbrev pub value_in : Option NamedTree → Key → Option Key
 value_in None key = None
 value_in (Some t) key = find key_cmp key t.map
 
--- whether the value that a key is to have stands there
+-- whether the value that a key is to have is there
 pub record Stands (s : State) (tree : Tree) (key : Key) (value : Option Key) (stands : Bool) : Type 0 where
   pub is : stands ≡ same_value (value_in (s.trees tree.name) key) value
 
--- .. once writes are made that have this for the key, where it is among them
+-- .. once writes are made that have this for the key, if it is among them
 abbrev pub stands_over : Option (Option Key) → Option Key → Bool → Bool
 stands_over None value stands = stands
 stands_over (Some written) value stands = same_value written value
 
--- the leaf of a key was read, and whether the value that the key is to have stands there
+-- the leaf of a key was read, and whether the value that the key is to have is there
 pub record ReadsKey (s : Store) (root : ℕ) (key : Key) (value : Option Key) (leaf : View) (stands : Bool) : Type 0 where
   pub looked : ℕ
   pub found : IsLeafFor (now s) root (Included key) 0 leaf looked
   pub is : stands ≡ same_value (value_at leaf.node.content key) value
 
--- a write is linked at its leaf only where it changes the leaf and nothing is to be repaired there
+-- a write is linked at its leaf only if it changes the leaf and nothing is to be repaired there
 abbrev pub begins_as : View → Bool → Option (ℕ × ℕ) → Type 0
 begins_as leaf stands None = Unit {0}
 begins_as leaf stands (Some at) = (leaf.pid ≡ at.0) × (leaf.version ≡ at.1) × (stands ≡ false) × IsSettled leaf.node

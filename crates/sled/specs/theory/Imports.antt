@@ -41,7 +41,7 @@ module _ {P M : Type 0} (store : P → Store) (meant : M → Merge) where
     pub leaves : LeavesAll store maps None old new
     pub same : grows_trees old new
 
-  -- .. and their number was told so
+  -- .. and their number was returned so
   pub record PartsStoppedAfter (old : DbValue P M) (parts : List Part) (number : ℕ) (e : Error) (new : DbValue P M) : Type 0 where
     pub count : ℕ
     pub told : number ≡ told_parts count

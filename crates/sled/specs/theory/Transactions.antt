@@ -1,4 +1,4 @@
--- The commit of a transaction, as its functions tell it.
+-- The commit of a transaction, as its functions state it.
 use Rattle.std.specs.Prelude.{◌≡◌, ◌⊎◌, ℕ, true, Bool, List}
 use Rattle.sled_nodes.specs.declared.error.Error.{Error}
 use Rattle.sled_batch.specs.Batch.{Writes}
@@ -11,7 +11,7 @@ use Rattle.sled.specs.Groups.{GroupDecided, GroupRefused, IsQuietGroup}
 use Rattle.sled.specs.Transactions.{flushes_as}
 
 module _ {P M : Type 0} (store : P → Store) (flush_number : P → ℕ) (meant : M → Merge) (old : DbValue P M) (batches : List (Tree × Writes)) (flushes : Bool) where
-  -- the group is made, and then a flush where one is asked for
+  -- the group is made, and then a flush if one is asked for
   pub record CommitsGroup (new : DbValue P M) : Type 0 where
     pub made : DbValue P M
     pub group : GroupDecided store meant old batches made

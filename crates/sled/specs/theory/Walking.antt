@@ -14,7 +14,7 @@ pub data DbWalksTo {P M : Type 0} (store : P → Store) (meant : M → Merge) (d
   Stays : {f : InFlight} → DbWalksTo store meant db f f
   GoesOn : {f g h : InFlight} → DbWalksTo store meant db f g → DbStepContract store meant db g Moved db h → DbWalksTo store meant db f h
 
--- and the one that ends the call, where there is one
+-- and the one that ends the call, if there is one
 abbrev pub db_walks_down_as : {P M : Type 0} → (P → Store) → (M → Merge) → DbValue P M → InFlight → Option Went → InFlight → Type 0
 db_walks_down_as store meant db f None g = DbWalksTo store meant db f g
 db_walks_down_as store meant db f (Some went) g = (h : InFlight) × DbWalksTo store meant db f h × DbStepContract store meant db h went db g × (went ≢ Moved)

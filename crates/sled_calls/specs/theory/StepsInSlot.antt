@@ -8,7 +8,7 @@ use Rattle.sled.specs.Values.{DbValue}
 use Rattle.tree_steps.specs.Outcomes.{outcome_of}
 use Rattle.sled_calls.specs.StepsInSlot.{flight_after}
 
--- the call in the slot flew so, and stands there as it is now
+-- the call in the slot flew so, and is in it as it is now
 pub record FliesInSlot {P M : Type 0} (Flew : DbValue P M → InFlight → Went → DbValue P M → InFlight → Type 0) (old : DbValue P M) (flights : ℕ → Option InFlight) (slot : ℕ) (went : Went) (new : DbValue P M) (after : ℕ → Option InFlight) : Type 0 where
   pub flight : InFlight
   pub next : InFlight
@@ -16,7 +16,7 @@ pub record FliesInSlot {P M : Type 0} (Flew : DbValue P M → InFlight → Went 
   pub flew : Flew old flight went new next
   pub is : (q : ℕ) → after q ≡ put_at flights slot (Some next) q
 
--- .. and is let go where it has ended
+-- .. and is dropped if it has ended
 pub record StepsInSlot {P M : Type 0} (Flew : DbValue P M → InFlight → Went → DbValue P M → InFlight → Type 0) (old : DbValue P M) (flights : ℕ → Option InFlight) (slot : ℕ) (o : Outcome) (new : DbValue P M) (after : ℕ → Option InFlight) : Type 0 where
   pub flight : InFlight
   pub next : InFlight

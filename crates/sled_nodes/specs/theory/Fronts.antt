@@ -6,11 +6,11 @@ use Rattle.std.specs.declared.ops.Bound.TheVariants.{Included, Excluded, Unbound
 use Rattle.sled_nodes.specs.Order.{Key}
 use Rattle.sled_nodes.specs.Bytes.{padded}
 
--- the first of them counts most, and zeros stand behind a shorter string
+-- the first of them counts most, and zeros follow a shorter string
 unfoldable pub front : Key → ℕ
 front bytes = from_be_bytes w64 (padded 8 bytes)
 
--- the same bytes stand before the rests of two byte strings
+-- the same bytes precede the rests of two byte strings
 pub record AreBehind (a b rest other : Key) : Type 0 where
   pub before : Key
   pub is : a ≡ before ++ rest

@@ -8,7 +8,7 @@ use Rattle.sled_nodes.specs.Order.{Key}
 use Rattle.sled_nodes.specs.Prefix.{prefix_of}
 use Rattle.sled_nodes.specs.theory.Fronts.{front}
 
--- within a bound of rests; where there is none, none is
+-- within a bound of rests; if there is none, none is
 abbrev pub is_up_to_in : Option (Bound (Bor Key)) → Key → Bool
 is_up_to_in None k = false
 is_up_to_in (Some bound) k = is_up_to (bound_of bound) k

@@ -1,11 +1,11 @@
--- Of Parts, for proofs. A page as the node that it stands for, and what lies below it.
+-- Of Parts, for proofs. A page as the node that it stands for, and what is below it.
 use Rattle.std.specs.Prelude.{◌≡◌, []}
 use Rattle.sled_nodes.specs.declared.node.Node.{Node}
 use Rattle.sled_pages.specs.declared.memory.linked.Below.{Below}
 use Rattle.sled_pages.specs.declared.memory.linked.Below.TheVariants.{Nothing, Joined, Apart}
 use Rattle.sled_pages.specs.Parts.{Parts, node_of}
 
--- the base and the links of a page; where nothing lies below it is its base
+-- the base and the links of a page; if nothing is below it is its base
 abbrev pub parts_under : Node → Below → Parts
 parts_under n Nothing = (n, [])
 parts_under n (Joined p) = p

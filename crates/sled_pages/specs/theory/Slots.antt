@@ -1,4 +1,4 @@
--- Of Slots, for proofs. Slots by number, as they lie.
+-- Of Slots, for proofs. Slots by number, as they are stored.
 use Rattle.std.specs.Prelude.{◌≡◌, ◌+◌, ◌^◌, ◌<◌, true}
 use Rattle.sled_pages.specs.declared.memory.slots.Slots.{Slots}
 use Rattle.sled_pages.specs.Blocks.{has_of}

@@ -35,7 +35,7 @@ pub fn set_root(roots: &mut Vec<(IVec, Pid)>, name: IVec, root: Option<Pid>) -> 
     }
 }
 
-// The roots of a list in order. Of one name the last entry stands.
+// The roots of a list in order. Of one name the last entry counts.
 pub fn sorted_roots(alloc: Global, list: Vec<(IVec, Pid)>) -> Result<Vec<(IVec, Pid)>>
     ensures ok { IfOk result (λ roots. (name : Key) → roots_of roots.items name ≡ root_in list.items name) }
     ensures ascends { IfOk result (λ roots. is_sorted key_cmp roots.items ≡ true) }
@@ -99,7 +99,7 @@ fn take_back(
     }
 }
 
-// Takes actions back, down to this number of them, and on to where no group is open.
+// Takes actions back, down to this number of them, and further until no group is open.
 pub fn take_all_back(
     slots: &mut Slots,
     roots: &mut Vec<(IVec, Pid)>,

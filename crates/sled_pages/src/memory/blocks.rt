@@ -1,5 +1,5 @@
-//! Slots by place, in blocks of 64 places. A block in which no slot lies may be let go: then it takes no memory but for its entry in the
-//! list of blocks, and has no places.
+//! Slots by place, in blocks of 64 places. A block without slots may be freed: then it takes no memory but for its entry in the list of
+//! blocks, and has no places.
 ghost use Rattle.std.specs.Prelude.{◌≡◌, ℕ, ◌≤◌, ◌<◌, Some, None, true, false, length, is_some, IfSome, IfOk, IfErr, OnOk, OnErr, slice_set};
 ghost use Rattle.std.specs.List.{slice_get};
 ghost use Rattle.std.specs.Option.{option_copied};
@@ -24,7 +24,7 @@ pub struct Blocks {
     blocks: Vec<Vec<Option<Slot>>>,
 }
 
-// Whether no slot lies in a block.
+// Whether no slot is in a block.
 fn is_empty(block: &[Option<Slot>]) -> bool
     ensures { result ≡ true → (i : ℕ) → joined (slice_get block.now i) ≡ None }
 {
@@ -62,7 +62,7 @@ fn lengthen(alloc: Global, blocks: &mut Vec<Vec<Option<Slot>>>, count: usize) ->
     Ok(())
 }
 
-// Puts a slot at a place of a block, and gives back what lay there.
+// Puts a slot at a place of a block, and returns what was there.
 #[inline(always)]
 fn put_in(block: &mut Vec<Option<Slot>>, i: usize, slot: Option<Slot>) -> Option<Slot>
     requires { i < length block.old.items }
@@ -118,7 +118,7 @@ impl Blocks {
         }
     }
 
-    /// Puts a slot at a place that is there, and gives back what lay there.
+    /// Puts a slot at a place that is there, and returns what was there.
     pub fn put(&mut self, place: usize, slot: Option<Slot>) -> Option<Slot>
         requires { has_of self.old place ≡ true }
         ensures was { result ≡ lies_of self.old place }
@@ -128,7 +128,7 @@ impl Blocks {
         put_in(&mut self.blocks[place / PLACES], place % PLACES, slot)
     }
 
-    /// Changes the page of a slot by a link where it lies, and gives it a version. Says how that is taken back, by the number of the page.
+    /// Changes the page of a slot by a link in place, and gives it a version. Says how that is taken back, by the number of the page.
     /// Refused with `NoMemory` alone, and then unchanged.
     pub fn link(
         &mut self,
@@ -162,7 +162,7 @@ impl Blocks {
         fill(&mut self.blocks[block])
     }
 
-    /// Lets the block of a place go where no slot lies in it.
+    /// Frees the block of a place if no slot is in it.
     pub fn let_go(&mut self, alloc: Global, place: usize)
         ensures { lies_of self.new ≡ lies_of self.old }
     {

@@ -24,7 +24,7 @@ struct Since {
     links: Vec<Link>,
 }
 
-/// A base and at most 8 links since. They lie apart, so that a page without links is small. Contracts see the two.
+/// A base and at most 8 links since. They are apart, so that a page without links is small. Contracts see the two.
 pub struct Under {
     since: Box<Since>,
 }
@@ -134,7 +134,7 @@ fn link_more(alloc: Global, node: &mut Shared, under: &mut Under, link: Link) ->
     Ok(())
 }
 
-// A page's first link. Gives what lies below it then.
+// A page's first link. Returns what is below it then.
 fn link_first(alloc: Global, node: &mut Shared, link: Link) -> Result<Under>
     ensures ok { OnOk result (node.new ≡ after_link link node.old) }
     ensures made { IfOk result (λ under. under ≡ (node.old, link ∷ [])) }
@@ -147,7 +147,7 @@ fn link_first(alloc: Global, node: &mut Shared, link: Link) -> Result<Under>
     Ok(under)
 }
 
-// What lies below a page's node.
+// What is below a page's node.
 #[derive(Drop)]
 enum Below {
     // No links: the node is the base.
@@ -158,7 +158,7 @@ enum Below {
     Apart(Under),
 }
 
-// What lies below the node that these join to: where there are no links that is nothing, since the node is the base.
+// What is below the node that these join to: if there are no links that is nothing, since the node is the base.
 fn below_of(under: Under) -> Below
     ensures same { parts_under (node_of under) result ≡ under }
     ensures ready { IsReady (node_of under) result }
@@ -170,7 +170,7 @@ fn below_of(under: Under) -> Below
     Below::Nothing
 }
 
-// Joins what lies below a node and is apart. Refused with `NoMemory` alone, and then unchanged.
+// Joins what is below a node and is apart. Refused with `NoMemory` alone, and then unchanged.
 #[cold]
 #[inline(never)]
 fn join_apart(alloc: Global, node: &mut Shared, below: &mut Below) -> Result<()>
@@ -199,7 +199,7 @@ fn join_apart(alloc: Global, node: &mut Shared, below: &mut Below) -> Result<()>
     }
 }
 
-// Joins what lies below a node, if it is apart. Refused with `NoMemory` alone, and then unchanged.
+// Joins what is below a node, if it is apart. Refused with `NoMemory` alone, and then unchanged.
 #[inline(always)]
 fn make_ready(alloc: Global, node: &mut Shared, below: &mut Below) -> Result<()>
     requires { IsJoined node.old below.old }
@@ -214,7 +214,7 @@ fn make_ready(alloc: Global, node: &mut Shared, below: &mut Below) -> Result<()>
     }
 }
 
-// The ninth link of a page: the base becomes the node after it. Gives what lay below the node. Refused with `NoMemory` alone, and then
+// The ninth link of a page: the base becomes the node after it. Returns what was below the node. Refused with `NoMemory` alone, and then
 // unchanged.
 fn fold(alloc: Global, node: &mut Shared, below: &mut Below, ninth: &Link) -> Result<Option<Under>>
     requires ready { IsReady node.old below.old }
@@ -234,8 +234,7 @@ fn fold(alloc: Global, node: &mut Shared, below: &mut Below, ninth: &Link) -> Re
     }
 }
 
-// One link more of a page that is joined. Gives what lay below its node where it folds. Refused with `NoMemory` alone, and then
-// unchanged.
+// One link more of a page that is joined. Returns what was below its node if it folds. Refused with `NoMemory` alone, and then unchanged.
 fn link_ready(
     alloc: Global,
     node: &mut Shared,
@@ -337,8 +336,7 @@ impl Linked {
         }
     }
 
-    /// The base after the links. Refused where there is no memory, which is all that a read needs to be told: so short an answer makes
-    /// reads cheap.
+    /// The base after the links. Refused if there is no memory, which is all that a read has to know: so short an answer makes reads cheap.
     #[inline(always)]
     pub fn node(&self, alloc: Global) -> std::result::Result<Shared, AllocError>
         ensures { IfOk result (λ node. node ≡ node_of self.now) }
@@ -362,8 +360,8 @@ impl Linked {
         make_ready(alloc, &mut self.node, &mut self.below)
     }
 
-    /// One link more. Where there are 8 the base becomes the node after all of them, and the base and the links before are given.
-    /// Refused with `NoMemory` alone, and then unchanged.
+    /// One link more. If there are 8 the base becomes the node after all of them, and the base and the links before are given. Refused
+    /// with `NoMemory` alone, and then unchanged.
     pub fn link(&mut self, alloc: Global, link: Link) -> Result<Option<Under>>
         ensures ok { OnOk result (self.new ≡ linked link self.old) }
         ensures folded { IfOk result (λ folded. folded ≡ (if is_full self.old then Some self.old else None)) }

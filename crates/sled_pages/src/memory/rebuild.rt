@@ -146,8 +146,8 @@ impl Rebuild {
         Ok(())
     }
 
-    /// Changes a page by a link, and gives it a version. Where there is no page the version counts as given, and no more is done.
-    /// Refused with `NoMemory` alone, and then unchanged.
+    /// Changes a page by a link, and gives it a version. If there is no page the version counts as given, and no more is done. Refused
+    /// with `NoMemory` alone, and then unchanged.
     ///
     /// ```
     /// rebuild.link(Pid(1), Version(1), link)?;

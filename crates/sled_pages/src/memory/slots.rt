@@ -72,7 +72,7 @@ pub fn link_slot(
     }
 }
 
-/// Slots by number. Those of an image have any numbers up to `last`; those that were added since lie in order behind. Numbers whose
+/// Slots by number. Those of an image have any numbers up to `last`; those that were added since are in order behind. Numbers whose
 /// slots are gone for good lose their places, so that these take no memory.
 #[derive(Drop)]
 pub struct Slots {
@@ -122,7 +122,7 @@ impl Slots {
         }
     }
 
-    /// The slots of an image's pages, and the first version that none of them has. Of one number the last entry stands.
+    /// The slots of an image's pages, and the first version that none of them has. Of one number the last entry counts.
     /// New slots get numbers above `least` and above all that the pages have or name. Refused with `NoMemory` alone.
     pub fn from_pages(alloc: Global, pages: Vec<(Pid, Node)>, least: u64) -> Result<(Slots, u64)>
         ensures ok { IfOk result (λ laid. IsLaid pages.items least laid.0 laid.1) }
@@ -190,7 +190,7 @@ impl Slots {
         }
     }
 
-    /// Puts a slot at a number that has a place, and gives back what stood there.
+    /// Puts a slot at a number that has a place, and returns what was there.
     pub fn put(&mut self, pid: Pid, slot: Option<Slot>) -> Option<Slot>
         requires { places_of self.old pid ≡ true }
         ensures was { result ≡ slots_of self.old pid }
@@ -328,7 +328,7 @@ impl Slots {
         }
     }
 
-    /// The greatest number that was given, 0 where none was.
+    /// The greatest number that was given, 0 if none was.
     pub fn greatest(&self) -> Pid
         ensures { (p : ℕ) → 0 < p → given_of self.now p ≡ nat_le p result }
     {
@@ -371,8 +371,8 @@ impl Slots {
         pid
     }
 
-    /// Lets the place of a number go whose page is gone for good: that of a number of an image by itself, and others together with those
-    /// that lie beside them, once all of these are gone.
+    /// Frees the place of a number whose page is gone for good: that of a number of an image by itself, and others together with those that
+    /// are beside them, once all of these are gone.
     pub fn let_go(&mut self, alloc: Global, pid: Pid)
         ensures slots { slots_of self.new ≡ slots_of self.old }
         ensures given { given_of self.new ≡ given_of self.old }
@@ -388,7 +388,7 @@ impl Slots {
         }
     }
 
-    /// The slots that lie in blocks, by number from 1 on. So many numbers count as given.
+    /// The slots that are in blocks, by number from 1 on. So many numbers count as given.
     pub fn from_blocks(alloc: Global, own: Blocks, given: u64) -> Slots
         requires { IsUnused given (lies_of own) }
         ensures slots { slots_of result ≡ numbered (lies_of own) }

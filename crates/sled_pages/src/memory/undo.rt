@@ -3,7 +3,7 @@ use super::linked::Under;
 use super::slots::Slot;
 use sled_nodes::{IVec, Pid, Version};
 
-/// What stood there before an action.
+/// What was there before an action.
 #[derive(Drop)]
 pub enum Undo {
     /// The slot of a page.

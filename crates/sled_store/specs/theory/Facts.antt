@@ -62,7 +62,7 @@ put_name_elsewhere f name q a h = ap (λ b. cond b a (f q)) (other_name q name h
 pub page_changed : (pid version : ℕ) (page : Option Page) (old new : Store) → ActsAt (PageBecomes pid page) version old new → (now new).pages pid ≡ page
 page_changed pid version page old new h = ap (λ s. s.pages pid) (now_acts _ version old new h) ∙ put_here (now old).pages pid page
 
--- the states that a crash may leave after actions and one more: those before it, and the last one where no group is open in it
+-- the states that a crash may leave after actions and one more: those before it, and the last one if no group is open in it
 left_step : (s : State) (xs : List State) → (if s.in_group then xs else (s ∷ xs)) ≡ left_from s [] ++ xs
 left_step s xs = elim s.in_group as (λ b. cond b xs (s ∷ xs) ≡ cond b [] (s ∷ []) ++ xs) [ true ↦ refl | false ↦ refl ]
 
@@ -77,7 +77,7 @@ left_last (b ∷ actions) a s =
 left_out : (s : State) → s.in_group ≡ false → left_from s [] ≡ s ∷ []
 left_out s e = ap (λ b. cond b [] (s ∷ [])) e
 
--- where no group is open, the state now is the last that may be left
+-- if no group is open, the state now is the last that may be left
 pub left_end : (actions : List Action) (s : State) → (after_all actions s).in_group ≡ false → (before : List State) × (left_from s actions ≡ before ++ after_all actions s ∷ [])
 left_end [] s e = ([], left_out s e)
 left_end (a ∷ actions) s e =

@@ -23,19 +23,19 @@ use Rattle.sled_tree.specs.declared.flight.Went.{Went}
 use Rattle.tree_laws.specs.declared.flight.Reached.{Reached}
 use Rattle.tree_laws.specs.declared.flight.Reached.TheVariants as reached
 
--- how a stage comes to the page that it reads
+-- how a stage reaches the page that it reads
 abbrev pub way_of : Stage → Reached
 way_of (stage.Walk a) = a.reached
 way_of other = reached.Root
 
--- the parent of a page that a walk came to so is to change: the page has no pointer there, or it has few entries and merges
+-- the parent of a page that a walk reached so is to change: the page has no pointer there, or it has few entries and merges
 abbrev pub RepairsParent : Reached → ℕ → Type 0
 RepairsParent reached.Root n = ⊥
 RepairsParent (reached.FirstPointer parent) n = ⊥
 RepairsParent (reached.LaterPointer parent) n = MayMerge parent × (n ≤ 3)
 RepairsParent (reached.Next parent) n = Unit {0}
 
--- the page lies under the aim, and nothing is to be repaired there
+-- the page is under the aim, and nothing is to be repaired there
 pub record IsClean (j : Course) (by : Reached) (view : View) : Type 0 where
   pub not_merging : view.node.merging ≡ false
   pub free : view.node.merging_child ≡ None
@@ -43,7 +43,7 @@ pub record IsClean (j : Course) (by : Reached) (view : View) : Type 0 where
   pub settled : RepairsParent by (count view.node.content) → ⊥
   pub under : LiesUnder j.aim view.node
 
--- something is to be repaired at the page, or it does not lie under the aim: where nothing else is, the parent is to change
+-- something is to be repaired at the page, or it is not under the aim: if nothing else is to be repaired, the parent is to change
 pub record NeedsRepair (j : Course) (by : Reached) (view : View) : Type 0 where
   pub is : view.node.merging ≡ false → view.node.merging_child ≡ None → count view.node.content ≤ 16 → LiesUnder j.aim view.node
       → RepairsParent by (count view.node.content)
@@ -74,8 +74,8 @@ descends_as s j a (descent.Unclean view) b = (b ≡ a) × NeedsRepair j (way_of 
 descends_as s j a descent.Lost b = Leads s j a (Go stage.Root)
 descends_as s j a (descent.Refused e) b = Leads s j a (Refused e)
 
--- a step that reads a page, up to what comes next; or the stage stays, and its leaf may have been read, or a page where something is to be
--- repaired or which does not lie under the aim
+-- a step that reads a page, up to what comes next; or the stage stays, and its leaf may have been read, or a page at which something is to
+-- be repaired or which is not under the aim
 pub record Descends (s : Store) (j : Course) (a : Stage) (d : Descent) (b : Stage) : Type 0 where
   pub is : descends_as s j a d b
 

@@ -48,13 +48,13 @@ touches_as (Ok linked) old new = ActsAtMostOnce old new
 touches_as (Err e) old new = is_action_refused_as e old new
 
 -- Such a step comes of a link, by each operator by which it is the call's, with the reply that the call has then. Whatever is linked, it
--- is one action at most, and where the link comes too late the call begins again
+-- is one action at most, and if the link comes too late the call begins again
 pub record LinksAtLeaf (link : Link) (old : Store) (f : InFlight) (done : Result Bool Error) (new : Store) (g : InFlight) : Type 0 where
   pub is : (operator : Option Operator) (reply : Reply) → PreparesChange operator f (Some (record { link = link; reply = reply })) → StepsBy operator old f (went_with reply done) new g
   pub touches : touches_as done old new
   pub again : done ≡ Ok false → g ≡ begun_again f
 
--- where the call is decided, this is its reply
+-- if the call is decided, this is its reply
 abbrev pub replies_with : Reply → Went → Type 0
 replies_with reply went.Moved = Unit {0}
 replies_with reply (went.Yielded key value) = Unit {0}

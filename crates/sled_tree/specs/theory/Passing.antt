@@ -1,4 +1,4 @@
--- Of Passing, for proofs. Calls in flight on clean paths: where no other call is in the way, a call goes on by a page a step.
+-- Of Passing, for proofs. Calls in flight on clean paths: if no other call is in the way, a call goes on by a page a step.
 use Rattle.std.specs.Prelude.{ℕ, List}
 use Rattle.sled_store.specs.State.{State, nodes_of}
 use Rattle.sled_store.specs.declared.page.View.{View}
@@ -9,7 +9,7 @@ use Rattle.tree_laws.specs.declared.flight.Stage.{Stage}
 use Rattle.tree_laws.specs.declared.flight.Reached.{Reached}
 use Rattle.sled_tree.specs.Passing.{IsUnchanged, IsAheadOf, IsOnPath, IsOneCloser}
 
--- where the call goes on, it is one page further
+-- if the call goes on, it is one page further
 abbrev pub is_one_closer_as : State → Course → Sequel → List ℕ → Type 0
 is_one_closer_as s j (Go stage) path = IsOneCloser s j stage path
 is_one_closer_as s j (Decided reply) path = Unit {0}

@@ -67,7 +67,7 @@ abbrev pub Only : Option Operator → Option Operator → Type 0
 Only this operator = operator ≡ this
 
 -- One page action of a call whose tree is current, from a stage to what comes next.
--- At every forest that shows the pages well formed, where the stage's facts hold, there is a forest after
+-- At every forest that shows the pages well formed, if the stage's facts hold, there is a forest after
 pub record StageActionBy (by : Option Operator → Type 0) (j : Course) (old : Store) (stage : Stage) (next : Sequel) (new : Store) : Type 0 where
   pub touches : effect_of_action next old new
   pub is : (numbers : Tree → Option ℕ) (given : ℕ → Bool) (w : Forest)
@@ -84,14 +84,14 @@ flight_step_as by old f (went.Yielded key value) new g = ⊥
 flight_step_as by old f (went.Decided reply) new g = StageActionBy by (course_of f) old f.stage (Decided reply) new
 flight_step_as by old f (went.Refused e) new g = StageActionBy by (course_of f) old f.stage (Refused e) new
 
--- one step of a call in flight: its stage's page action. Where the call goes on it has one turn more
+-- one step of a call in flight: its stage's page action. If the call goes on it has one turn more
 pub record FlightStepBy (by : Option Operator → Type 0) (old : Store) (f : InFlight) (went : Went) (new : Store) (g : InFlight) : Type 0 where
   pub is : flight_step_as by old f went new g
 
 abbrev pub FlightStep : Store → InFlight → Went → Store → InFlight → Type 0
 FlightStep = FlightStepBy Whichever
 
--- a page that was just read, how the walk came to it, and that a call on a key aims at it
+-- a page that was just read, how the walk reached it, and that a call on a key aims at it
 abbrev pub IsReadPage : Snapshot → Forest → Course → View → Reached → Type 0
 IsReadPage m w j v by = IsHere m w j.tree.name j.tree.number j.aim v by × IsAimed j
 
@@ -99,7 +99,7 @@ IsReadPage m w j v by = IsHere m w j.tree.name j.tree.number j.aim v by × IsAim
 abbrev pub ReadOutcome : Course → Store → Snapshot → Forest → Sequel → Type 0
 ReadOutcome j s m w next = (owned_next next ≡ []) × StageOutcome Whichever j s s m w next m w
 
--- What comes after a page was read, of every store where it was read
+-- What comes after a page was read, for every store from which it was read
 pub record AfterPage (j : Course) (view : View) (by : Reached) (next : Sequel) : Type 0 where
   pub touches : (s : Store) → effect_of_action next s s
   pub is : (s : Store) (numbers : Tree → Option ℕ) (given : ℕ → Bool) (w : Forest)

@@ -19,7 +19,7 @@ pub data WalksTo (s : Store) : InFlight → InFlight → Type 0 where
   Stays : {f : InFlight} → WalksTo s f f
   GoesOn : {f g h : InFlight} → WalksTo s f g → WalkStep s g Moved h → WalksTo s f h
 
--- and with one more, where there is one
+-- and with one more, if there is one
 abbrev pub walks_down_as : Store → InFlight → Option Went → InFlight → Type 0
 walks_down_as s f None g = WalksTo s f g
 walks_down_as s f (Some went) g = (h : InFlight) × WalksTo s f h × WalkStep s h went g

@@ -1,4 +1,4 @@
--- A tree from a height up: its chains and the pages that they have, as a walk from the root down comes to know them.
+-- A tree from a height up: its chains and the pages that they have, as a walk from the root down finds them.
 use Rattle.std.specs.Prelude.{◌≡◌, ℕ, suc, ◌≤◌, ◌⊎◌, true, List, [], Option, Some, None}
 use Rattle.sled_nodes.specs.Order.{Key}
 use Rattle.sled_nodes.specs.Node.{pointers, count}

@@ -52,7 +52,7 @@ pids vs = map (λ v. v.pid) vs
 abbrev pub HasMergingChild : List View → ℕ → Type 0
 HasMergingChild above c = (v : View) × In v above × (v.node.merging_child ≡ Some c)
 
--- the key that a chain of these pages has come to
+-- the key that a chain of these pages has reached
 abbrev pub end_at : Option View → Key
 end_at None = []
 end_at (Some v) = v.node.hi
@@ -67,7 +67,7 @@ pub record IsChained (s : State) (children : ℕ → Bool) (level : Level) (leve
   pub found : level_of levels v.pid ≡ Some level
   pub parent : v.node.merging ≡ true → children v.pid ≡ true
 
--- the page v is the next one of a chain that has come to the page pid at the key lo, and was not found before
+-- the page v is the next one of a chain that has reached the page pid at the key lo, and was not found before
 pub record AddsPage (s : State) (children : ℕ → Bool) (level : Level) (pid : ℕ) (lo : Key) (v : View) (old new : Levels) : Type 0 where
   pub read : IsRead s pid v
   pub begins : lo ≡ v.node.lo
@@ -77,7 +77,7 @@ pub record AddsPage (s : State) (children : ℕ → Bool) (level : Level) (pid :
   pub parent : v.node.merging ≡ true → children pid ≡ true
   pub sets : SetsLevel pid level old new
 
--- one page more stands behind these, and leads on to this one
+-- one page more follows these, and leads on to this one
 pub record Extends (s : State) (children : ℕ → Bool) (level : Level) (pid : ℕ) (to : Option ℕ) (vs ws : List View) (old new : Levels) : Type 0 where
   pub view : View
   pub is : AddsPage s children level pid (end_of vs) view old new

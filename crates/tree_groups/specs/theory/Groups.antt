@@ -32,7 +32,7 @@ links_as link pid version old (Err e) new = IsRefused e old new
 pub record LinksWrite (w : KeyWrite) (pid version : ℕ) (old : Store) (done : Result Bool Error) (new : Store) : Type 0 where
   pub is : links_as (link_with w.key.now w.value.now) pid version old done new
 
--- a write may change a leaf where it is
+-- a write may change a leaf in place
 pub record MayChange (w : KeyWrite) (v : View) : Type 0 where
   pub settled : IsSettled v.node
   pub under : LiesUnder (Included w.key.now) v.node
@@ -49,7 +49,7 @@ pub record IsReadAgain (s : State) (w : KeyWrite) (pid version : ℕ) : Type 0 w
 abbrev pub KnowsLeaf : Snapshot → Job → ℕ → Type 0
 KnowsLeaf m j pid = (v : View) × (v.pid ≡ pid) × IsKnown m (at_leaf j v)
 
--- A write is made whose call had read a leaf of this number, at every forest where what it knew then is true
+-- A write is made whose call had read a leaf of this number, at every forest in which what it knew then is true
 pub record MakesAgain (j : Job) (pid : ℕ) (old new : Store) : Type 0 where
   pub acts : ActsOften old new
   pub told : (numbers : Tree → Option ℕ) (given : ℕ → Bool) (w : Forest) → HasForest (snapshot_of old numbers given) w → numbers j.tree.name ≡ Some j.tree.number → KnowsLeaf (snapshot_of old numbers given) j pid
@@ -63,7 +63,7 @@ pub record StopsAgain (j : Job) (pid : ℕ) (old new : Store) (e : Error) : Type
   pub told : (numbers : Tree → Option ℕ) (given : ℕ → Bool) (w : Forest) → HasForest (snapshot_of old numbers given) w → numbers j.tree.name ≡ Some j.tree.number → KnowsLeaf (snapshot_of old numbers given) j pid
       → KeepsMapsAt (snapshot_of old numbers given) w (snapshot_of new numbers given)
 
--- One write is made, at every forest where its tree has its number and its leaf is that of its call
+-- One write is made, at every forest in which its tree has its number and its leaf is that of its call
 pub record MakesKnown (k : KeyWrite) (old new : Store) : Type 0 where
   pub acts : ActsOften old new
   pub told : (numbers : Tree → Option ℕ) (given : ℕ → Bool) (w : Forest) → HasForest (snapshot_of old numbers given) w → numbers k.tree.now.name ≡ Some k.tree.now.number → IsLeafOf (snapshot_of old numbers given) (job_of k) k.leaf

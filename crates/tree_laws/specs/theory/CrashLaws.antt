@@ -6,11 +6,11 @@ use Rattle.tree_laws.specs.Contents.{trees_of}
 use Rattle.tree_laws.specs.Crashes.{IsValid, IsCrashConsistent, Trees, StutterEquivalent, AddsCrashStates, Flushes}
 use Rattle.tree_laws.specs.theory.Crashes.{AddsAction}
 
--- growths follow one another, and their trees stand one behind the other
+-- growths follow one another, and their trees are one behind the other
 abbrev pub ExtendsLaw : Type 0
 ExtendsLaw = (k l : List Trees) (a b c : Store) → AddsCrashStates k a b → AddsCrashStates l b c → AddsCrashStates (k ++ l) a c
 
--- where no action was added, nothing grew: faults, the mark and what can be read do not matter
+-- if no action was added, nothing grew: faults, the mark and what can be read do not matter
 abbrev pub RestsLaw : Type 0
 RestsLaw = (a b : Store) → b.base ≡ a.base → b.recent ≡ a.recent → b.actions ≡ a.actions → AddsCrashStates [] a b
 
@@ -18,7 +18,7 @@ RestsLaw = (a b : Store) → b.base ≡ a.base → b.recent ≡ a.recent → b.a
 abbrev pub DecidesLaw : Type 0
 DecidesLaw = (act : Action) (a b : Store) → AddsAction act a b → (now b).in_group ≡ false → IsValid (now b) → AddsCrashStates (trees_of (now b) ∷ []) a b
 
--- .. and adds no trees where they are as they were
+-- .. and adds no trees if they are as they were
 abbrev pub UnseenLaw : Type 0
 UnseenLaw = (act : Action) (a b : Store) → AddsAction act a b → (now a).in_group ≡ false → (now b).in_group ≡ false → IsValid (now b) → trees_of (now b) ≡ trees_of (now a) → AddsCrashStates [] a b
 

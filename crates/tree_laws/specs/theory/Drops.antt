@@ -6,7 +6,7 @@ use Rattle.sled_nodes.specs.declared.node.Node.{Node}
 use Rattle.tree_laws.specs.Forest.{Tree, Forest, place}
 use Rattle.tree_laws.specs.Snapshot.{Snapshot, nodes_at, IsOrphan}
 
--- these live pages stand one behind the other along `next`, and no more behind them
+-- these live pages are one behind the other along `next`, and no more behind them
 abbrev pub Leads : Nodes → Option ℕ → List ℕ → Type 0
 Leads nodes from [] = from ≡ None
 Leads nodes from (p ∷ ps) = (from ≡ Some p) × (n : Node) × (nodes p ≡ Some n) × Leads nodes n.next ps

@@ -44,9 +44,9 @@ ReplaceOfStray = (mine : List ℕ) (m : Snapshot) (w v : Forest) (p : ℕ) (g ne
 pub record FalseLaws : Type 0 where
   -- a merging child would hold 18 entries
   pub set_of_many : SetOfMany → ⊥
-  -- a page would have a pointer, stand in no chain, and not be merging
+  -- a page would have a pointer, be in no chain, and not be merging
   pub receive_of_any : ReceiveOfAny → ⊥
-  -- a page would stand in two trees
+  -- a page would be in two trees
   pub split_to_any : SplitToAny → ⊥
   -- another call's page would have another version, though its node is the same
   pub replace_of_stray : ReplaceOfStray → ⊥

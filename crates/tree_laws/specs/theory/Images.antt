@@ -1,6 +1,6 @@
 -- Images of pages and roots: what the layer's own half-done work leaves, which is well formed, and what it never leaves, which
--- is not. In most of them the leaf 1 holds the keys [0] to [7], the leaf 2 holds [8] to [10], the index 3 stands over both, and
--- the two leaves are chained: 1 ends at [8] and leads to 2.
+-- is not. In most of them the leaf 1 holds the keys [0] to [7], the leaf 2 holds [8] to [10], the index 3 is over both, and the
+-- two leaves are chained: 1 ends at [8] and leads to 2.
 use Rattle.std.specs.Prelude.{◌≡◌, ℕ, false, true, List, [], ◌∷◌, ◌++◌, Option, Some, None, option_map}
 use Rattle.std.specs.declared.ops.Bound.TheVariants.{Included}
 use Rattle.sled_nodes.specs.Order.{Key}
@@ -17,7 +17,7 @@ use Rattle.tree_laws.specs.Paths.{IsClean, tree_pages}
 abbrev pub Pages : Type 0
 Pages = List (ℕ × Node)
 
--- the state of these pages and roots; of one number or name the last entry stands
+-- the state of these pages and roots; of one number or name the last entry counts
 abbrev pub image : Pages → List (Key × ℕ) → State
 image pages roots = record { pages = λ p. option_map (λ n. record { version = p; node = n }) (node_in pages p); roots = root_in roots; in_group = false }
 
@@ -46,7 +46,7 @@ capped n = record n { merging = true }
 abbrev pub merging : ℕ → Node → Node
 merging c n = record n { merging_child = Some c }
 
--- the names of two trees, and the roots where there is the first alone
+-- the names of two trees, and the roots with the first alone
 abbrev pub one_tree : Tree
 one_tree = key 97
 
@@ -109,7 +109,7 @@ child_received = all_in_one ∷ (2, capped right) ∷ (3, merging 2 (over both))
 abbrev pub confirmed : Pages
 confirmed = all_in_one ∷ (2, capped right) ∷ (3, over first_only) ∷ []
 
--- there is a page that nobody names, whatever it holds
+-- there is a page that nothing names, whatever it holds
 abbrev pub unnamed : Pages
 unnamed = left ∷ (2, right) ∷ (3, over both) ∷ (9, leaf [] [] None (selves 40 0)) ∷ []
 
@@ -226,7 +226,7 @@ two_pointers = image (all_in_one ∷ (2, capped right) ∷ (3, merging 2 (over (
 abbrev pub received_by_two_trees : State
 received_by_two_trees = image (all_in_one ∷ (2, capped right) ∷ (3, merging 2 (over both)) ∷ (4, leaf [] [] None []) ∷ (5, merging 2 (over (([], 4) ∷ (key 8, 2) ∷ []))) ∷ []) ((one_tree, 3) ∷ (other_tree, 5) ∷ [])
 
--- and stands neither in the chain of another tree
+-- and is not in the chain of another tree either
 abbrev pub in_another_tree : State
 in_another_tree = image (all_in_one ∷ (2, capped right) ∷ (3, merging 2 (over both)) ∷ (4, leaf [] (key 8) (Some 2) []) ∷ (5, merging 2 (over (([], 4) ∷ (key 8, 2) ∷ []))) ∷ []) ((one_tree, 3) ∷ (other_tree, 5) ∷ [])
 

@@ -29,8 +29,8 @@ pub record IsAt (nodes : Nodes) (w : Forest) (x : Place) (p : ℕ) (n : Node) : 
   pub live : nodes p ≡ Some n
   pub not_merging : n.merging ≡ false
 
--- After a change of one page of the tree t: the shape is kept, the tree's contents are changed so and no other tree's are.
--- Where it is small enough, the size is kept too
+-- After a change of one page of the tree t: the shape is kept, the tree's contents are changed so and no other tree's are. If
+-- it is small enough, the size is kept too
 pub record Changed (nodes new : Nodes) (roots : Tree → Option ℕ) (w : Forest) (t : Tree) (change : List (Key × Key) → List (Key × Key)) (fits : Type 0) : Type 0 where
   pub kept : WellFormed new roots w
   pub here : contents new w t ≡ change (contents nodes w t)
@@ -131,8 +131,8 @@ pub record StepsForest (mine : List ℕ) (lost : Option Tree) (old : Snapshot) (
   pub is : HasForest new v
   pub goes : Guarantee mine lost old w new v
 
--- what a law says of the nodes holds of the pages with versions, where the version was never given, and the page is not
--- merging and has a home or is the call's own
+-- what a law says of the nodes holds of the pages with versions, if the version was never given, and the page is not merging
+-- and has a home or is the call's own
 abbrev pub ReplaceLaw : Type 0
 ReplaceLaw = (mine : List ℕ) (m : Snapshot) (w v : Forest) (p : ℕ) (g new : Page) → HasForest m w → m.state.pages p ≡ Some g → g.node.merging ≡ false → m.versions new.version ≡ false
     → ((x : Place) × (w.home p ≡ Some x)) ⊎ In p mine
@@ -174,11 +174,11 @@ DroppedLaw = (m : Snapshot) (w : Forest) (t : Tree) → HasForest m w → (u : R
 abbrev pub ViewLaw : Type 0
 ViewLaw = (mine : List ℕ) (lost : Option Tree) (old new : Snapshot) (w v : Forest) → Guarantee mine lost old w new v → (p version : ℕ) (n : Node) → IsReadAs old p version n → IsReadAs new p version n
 
--- .. and that a page stood in a chain
+-- .. and that a page was in a chain
 abbrev pub StoodLaw : Type 0
 StoodLaw = (mine : List ℕ) (lost : Option Tree) (old new : Snapshot) (w v : Forest) → Guarantee mine lost old w new v → (x : Place) (number : ℕ) (lo : Key) (p : ℕ) → StoodInChain old w x number lo p → StoodInChain new v x number lo p
 
--- a page that stood in a chain, is live and not merging, and whose tree has its number still, stands there now
+-- a page that was in a chain, is live and not merging, and whose tree has its number still, is there now
 abbrev pub NowLaw : Type 0
 NowLaw = (m : Snapshot) (w : Forest) (x : Place) (number : ℕ) (lo : Key) (p : ℕ) → StoodInChain m w x number lo p → m.numbers x.tree ≡ Some number → (n : Node) → nodes_at m p ≡ Some n → n.merging ≡ false → In p (w.chain x) × (n.lo ≡ lo)
 
@@ -192,8 +192,8 @@ pub record IsNodeNow (m : Snapshot) (t : Tree) (number : ℕ) (look : View) (nod
   pub named : m.numbers t ≡ Some number
   pub page : m.state.pages look.pid ≡ Some (record { version = look.version; node = node })
 
--- a step that changes the contents of the tree t so and no other tree's, and the forest not at all. Where the page is small
--- enough, the size is kept too
+-- a step that changes the contents of the tree t so and no other tree's, and the forest not at all. If the page is small enough,
+-- the size is kept too
 pub record Written (old : Snapshot) (w : Forest) (new : Snapshot) (t : Tree) (change : List (Key × Key) → List (Key × Key)) (fits : Type 0) : Type 0 where
   pub steps : StepsForest [] None old w new w
   pub here : contents (nodes_at new) w t ≡ change (contents (nodes_at old) w t)
@@ -237,7 +237,7 @@ abbrev pub FreesLeftLaw : Type 0
 FreesLeftLaw = (m : Snapshot) (w was : Forest) (t : Tree) (h p : ℕ) (left : List ℕ) (n : Node) → HasForest m w → nodes_at m p ≡ Some n → IsLeft m w was t h (Some p) left
     → (rest : List ℕ) × (left ≡ p ∷ rest) × StepsForest (p ∷ []) None m w (after_free m p) w × IsLeft (after_free m p) w was t h n.next rest
 
--- a leaf's pairs are the part of the tree's contents that lies within its bounds
+-- a leaf's pairs are the part of the tree's contents that are within its bounds
 abbrev pub RangeLaw : Type 0
 RangeLaw = (nodes : Nodes) (roots : Tree → Option ℕ) (w : Forest) → WellFormed nodes roots w → (t : Tree) (p : ℕ) (n : Node) → In p (w.chain (place t 0)) → nodes p ≡ Some n
     → (before : List (Key × Key)) × (behind : List (Key × Key)) × (contents nodes w t ≡ before ++ (pairs n.content ++ behind))

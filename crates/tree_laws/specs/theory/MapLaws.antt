@@ -14,22 +14,22 @@ use Rattle.tree_laws.specs.Stages.{IsOwn}
 use Rattle.tree_laws.specs.theory.Drops.{IsLeft}
 use Rattle.tree_laws.specs.theory.Laws.{StepsForest, no_forest, after_creation, after_drop}
 
--- the map of a tree is its contents, where the name has a root
+-- the map of a tree is its contents, if the name has a root
 abbrev pub MapLaw : Type 0
 MapLaw = (m : Snapshot) (w : Forest) → HasForest m w → (t : Tree) → trees_of m.state t ≡ option_map (λ _. contents (nodes_at m) w t) (m.state.roots t)
 
--- where no tree's contents and no number change, the maps are the same
+-- if no tree's contents and no number change, the maps are the same
 abbrev pub QuietLaw : Type 0
 QuietLaw = (m : Snapshot) (w : Forest) (n : Snapshot) (v : Forest) → HasForest m w → HasForest n v → ((t : Tree) → n.numbers t ≡ m.numbers t)
     → ((t : Tree) → contents (nodes_at n) v t ≡ contents (nodes_at m) w t) → trees_of n.state ≡ trees_of m.state
 
--- where one tree's contents change so, and no other's and no number do, its map changes so and no other does
+-- if one tree's contents change so, and no other's and no number do, its map changes so and no other does
 abbrev pub ChangedLaw : Type 0
 ChangedLaw = (m : Snapshot) (w : Forest) (n : Snapshot) (v : Forest) (t : Tree) (change : List (Key × Key) → List (Key × Key)) → HasForest m w → HasForest n v → ((u : Tree) → n.numbers u ≡ m.numbers u)
     → contents (nodes_at n) v t ≡ change (contents (nodes_at m) w t) → ((u : Tree) → u ≢ t → contents (nodes_at n) v u ≡ contents (nodes_at m) w u)
     → (trees_of n.state t ≡ option_map change (trees_of m.state t)) × ((u : Tree) → u ≢ t → trees_of n.state u ≡ trees_of m.state u)
 
--- the state at a moment has the shape of a forest, and its size where the forest has it
+-- the state at a moment has the shape of a forest, and its size if the forest has it
 abbrev pub WellLaw : Type 0
 WellLaw = (m : Snapshot) (w : Forest) → HasForest m w → IsSized (nodes_at m) w → IsValid m.state
 

@@ -20,7 +20,7 @@ pub record IsOpenAt (nodes : Nodes) (w : Forest) (x : Place) (p : ℕ) (n : Node
   pub live : nodes p ≡ Some n
   pub is_open : IsOpen n
 
--- A change that no tree's contents show: there is a forest after it. Where the pages are small enough, the size is kept too
+-- A change that no tree's contents show: there is a forest after it. If the pages are small enough, the size is kept too
 pub record Unseen (mine : List ℕ) (nodes new : Nodes) (roots : Tree → Option ℕ) (w : Forest) (fits : Type 0) : Type 0 where
   pub after : Forest
   pub kept : WellFormed new roots after
@@ -30,7 +30,7 @@ pub record Unseen (mine : List ℕ) (nodes new : Nodes) (roots : Tree → Option
   pub grows : fits → GrowsByReceiving nodes new w
 
 -- An open page of a chain is replaced by its left half, whose next is the page q with the right half. The page q had no
--- home, and then stands in the chain. The halves are no larger than the page was, so the size is kept
+-- home, and then is in the chain. The halves are no larger than the page was, so the size is kept
 abbrev pub SplitLaw : Type 0
 SplitLaw = (nodes : Nodes) (roots : Tree → Option ℕ) (w : Forest) → WellFormed nodes roots w → (x : Place) (p q : ℕ) (n left right : Node)
     → IsOpenAt nodes w x p n → nodes q ≡ Some right → IsOrphan w q → IsSplit x.height n left right q
@@ -43,13 +43,13 @@ PostLaw = (nodes : Nodes) (roots : Tree → Option ℕ) (w : Forest) → WellFor
     → w.home q ≡ Some (place t h) → nodes q ≡ Some d → d.merging ≡ false → Below n.lo d.lo → Covers n d.lo
     → Unseen [] nodes (put_node nodes p (record n { content = Index (put key_cmp d.lo q es) })) roots w (length (put key_cmp d.lo q es) ≤ 17)
 
--- An open index takes a later child for its merging child. The size is kept where the child has at most 17 entries
+-- An open index takes a later child for its merging child. The size is kept if the child has at most 17 entries
 abbrev pub IntentionLaw : Type 0
 IntentionLaw = (nodes : Nodes) (roots : Tree → Option ℕ) (w : Forest) → WellFormed nodes roots w → (t : Tree) (h p c : ℕ) (n : Node) (k : Key)
     → IsOpenAt nodes w (place t (suc h)) p n → In (k, c) (later (pointers n.content))
     → Unseen [] nodes (put_node nodes p (after_link (ParentMergeIntention c) n)) roots w ((d : Node) → nodes c ≡ Some d → count d.content ≤ 17)
 
--- An open page becomes merging, where it is the merging child of a page above it
+-- An open page becomes merging, if it is the merging child of a page above it
 abbrev pub CapLaw : Type 0
 CapLaw = (nodes : Nodes) (roots : Tree → Option ℕ) (w : Forest) → WellFormed nodes roots w → (x : Place) (p : ℕ) (n : Node)
     → IsOpenAt nodes w x p n
@@ -57,7 +57,7 @@ CapLaw = (nodes : Nodes) (roots : Tree → Option ℕ) (w : Forest) → WellForm
     → Unseen [] nodes (put_node nodes p (after_link ChildMergeCap n)) roots w (Unit {0})
 
 -- An open page receives the capped page c behind it. The page c leaves the chain for good, and keeps its pointer. The size is
--- kept where the page has at most 16 entries
+-- kept if the page has at most 16 entries
 abbrev pub ReceiveLaw : Type 0
 ReceiveLaw = (nodes : Nodes) (roots : Tree → Option ℕ) (w : Forest) → WellFormed nodes roots w → (x : Place) (p c : ℕ) (n d both : Node)
     → IsOpenAt nodes w x p n → n.next ≡ Some c

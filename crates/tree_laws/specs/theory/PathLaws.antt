@@ -11,17 +11,17 @@ use Rattle.sled_nodes.specs.declared.node.Data.TheVariants.{Leaf, Index}
 use Rattle.tree_laws.specs.Forest.{Tree, Forest, Place, place, WellFormed, later}
 use Rattle.tree_laws.specs.Paths.{NeedsNoRepair, CleanFrom, pages_below, IsAhead}
 
--- where a pointer of a chain page leads, unless it is to the merging child, stands in the chain below, and begins at the pointer's key
+-- the page that a pointer of a chain page names, unless it is the merging child, is in the chain below, and begins at the pointer's key
 abbrev pub PointerInLaw : Type 0
 PointerInLaw = (nodes : Nodes) (roots : Tree → Option ℕ) (w : Forest) → WellFormed nodes roots w → (t : Tree) (h p : ℕ) (n : Node) (k : Key) (c : ℕ) → In p (w.chain (place t (suc h))) → nodes p ≡ Some n → In (k, c) (pointers n.content) → n.merging_child ≢ Some c
     → (d : Node) × In c (w.chain (place t h)) × (nodes c ≡ Some d) × (d.lo ≡ k)
 
--- the next page stands in the chain too, and begins where this one ends; a page with an upper bound has a next page
+-- the next page is in the chain too, and begins where this one ends; a page with an upper bound has a next page
 abbrev pub NextInLaw : Type 0
 NextInLaw = (nodes : Nodes) (roots : Tree → Option ℕ) (w : Forest) → WellFormed nodes roots w → (x : Place) (p : ℕ) (n : Node) → In p (w.chain x) → nodes p ≡ Some n
     → ((q : ℕ) → n.next ≡ Some q → (d : Node) × In q (w.chain x) × (nodes q ≡ Some d) × (d.lo ≡ n.hi)) × (n.hi ≢ [] → (q : ℕ) × (n.next ≡ Some q))
 
--- how many pages lie ahead of a reading walk: no more than those of its level and below, and fewer with each step
+-- how many pages are ahead of a reading walk: no more than those of its level and below, and fewer with each step
 pub record Aheads (nodes : Nodes) (w : Forest) (t : Tree) : Type 0 where
   pub begins : (h p : ℕ) → In p (w.chain (place t h)) → (n : ℕ) × IsAhead w t h p n
   pub fits : (h p n : ℕ) → IsAhead w t h p n → n ≤ pages_below w t (suc h)
@@ -31,7 +31,7 @@ pub record Aheads (nodes : Nodes) (w : Forest) (t : Tree) : Type 0 where
 abbrev pub AheadLaw : Type 0
 AheadLaw = (nodes : Nodes) (roots : Tree → Option ℕ) (w : Forest) → WellFormed nodes roots w → (t : Tree) → Aheads nodes w t
 
--- a walk that stands at the first page of a clean path passes it, goes one down the path from an index, and ends at a leaf
+-- a walk that is at the first page of a clean path passes it, goes one down the path from an index, and ends at a leaf
 pub record CleanStep (nodes : Nodes) (aim : Bound Key) (path : List ℕ) (p : ℕ) (first : Bool) (n : Node) : Type 0 where
   pub passed : NeedsNoRepair nodes aim p first n
   pub down : (es : List (Key × ℕ)) (c : ℕ) (b : Bool) → n.content ≡ Index es → IsPointer aim es c b → (rest : List ℕ) × (path ≡ p ∷ rest) × CleanFrom nodes aim c b rest

@@ -11,7 +11,7 @@ use Rattle.tree_laws.specs.Snapshot.{Snapshot, nodes_at, HasForest, IsOrphan, Is
 -- What an action keeps of the nodes and of the forest. `mine` are the acting call's own pages, which have no home and which
 -- it may bring into a tree or free; `lost` is the tree that it drops, if it drops one
 pub record KeepsNodes (mine : List ℕ) (lost : Option Tree) (old new : Nodes) (w v : Forest) : Type 0 where
-  -- a page of a chain stays live, and stands there or is merging
+  -- a page of a chain stays live, and is there or is merging
   pub stood : (x : Place) (p : ℕ) (n : Node) → lost ≢ Some x.tree → In p (w.chain x) → old p ≡ Some n → IsInChain new v x n.lo p
   -- a merging page does not change any more; it is only freed
   pub capped : (p : ℕ) (n : Node) → old p ≡ Some n → n.merging ≡ true → (new p ≡ Some n) ⊎ (new p ≡ None)
@@ -22,7 +22,7 @@ pub record KeepsNodes (mine : List ℕ) (lost : Option Tree) (old new : Nodes) (
   -- a page begins to merge only as the merging child of a page above it
   pub wakes : (x : Place) (p : ℕ) (n m : Node) → In p (w.chain x) → old p ≡ Some n → n.merging ≡ false → new p ≡ Some m → m.merging ≡ true
       → (q : ℕ) × (d : Node) × In q (w.chain (place x.tree (suc x.height))) × (old q ≡ Some d) × (d.merging_child ≡ Some p)
-  -- who has a merging child keeps it until it was received
+  -- a page that has a merging child keeps it until the child was received
   pub child : (x : Place) (p c : ℕ) (n : Node) → lost ≢ Some x.tree → In p (w.chain x) → old p ≡ Some n → n.merging_child ≡ Some c
       → (In p (v.chain x) × ((m : Node) × (new p ≡ Some m) × (m.merging_child ≡ Some c))) ⊎ ((d : Node) × (old c ≡ Some d) × (d.merging ≡ true) × ((y : Place) → ¬ (In c (w.chain y))))
 
@@ -56,7 +56,7 @@ pub record GrowsByReceiving (old new : Nodes) (w : Forest) : Type 0 where
 pub record KeepsForest (mine own : List ℕ) (old : Snapshot) (w : Forest) (new : Snapshot) (v : Forest) : Type 0 where
   pub is : HasForest new v
   pub goes : Guarantee (mine ++ own) None old w new v
-  -- what it came to own was its own, or is new, or had a home until then
+  -- what it owns now was its own, or is new, or had a home until then
   pub fresh : (q : ℕ) → In q own → In q mine ⊎ ((old.pids q ≡ false) ⊎ ((x : Place) × (w.home q ≡ Some x)))
   -- no page gets too many entries
   pub sized : IsSized (nodes_at old) w → IsSized (nodes_at new) v

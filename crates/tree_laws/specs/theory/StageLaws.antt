@@ -52,18 +52,18 @@ abbrev pub StageStays : Type 0
 StageStays = (mine : List ℕ) (lost : Option Tree) (old : Snapshot) (w : Forest) (new : Snapshot) (v : Forest) → Rely mine lost old w new v → (t : Tree) (number : ℕ) (aim : Bound Key) (a : Stage)
     → ((q : ℕ) → In q (owned a) → ¬ (In q mine)) → IsStage old w t number aim a → IsStage new v t number aim a
 
--- Where each page that a call came to own was its own, or is new, or had a home until then, a page that is another call's own
--- and was not this call's own is not so now
+-- If each page that a call owns now was its own, or is new, or had a home until then, a page that is another call's own and was
+-- not this call's own is not so now
 abbrev pub ApartLaw : Type 0
 ApartLaw = (mine own : List ℕ) (old : Snapshot) (w : Forest) → HasForest old w → ((q : ℕ) → In q own → In q mine ⊎ ((old.pids q ≡ false) ⊎ ((x : Place) × (w.home q ≡ Some x))))
     → (t : Tree) (number : ℕ) (aim : Bound Key) (a : Stage) → IsStage old w t number aim a → (q : ℕ) → In q (owned a) → ¬ (In q mine) → ¬ (In q own)
 
--- What follows where the walk has read an open page, by what it finds there
+-- What follows once the walk has read an open page, by what it finds there
 pub record FollowsOpenPage (m : Snapshot) (w : Forest) (t : Tree) (number : ℕ) (aim : Bound Key) (look : View) (by : Reached) : Type 0 where
   -- it is too long: it is split, and the right half is posted at the parent or the root
   pub splits_below : (p : View) → parent_of by ≡ Some p → IsSplitting m w t number (record { page = look; posting = posting.Parent p })
   pub splits_root : parent_of by ≡ None → IsSplitting m w t number (record { page = look; posting = posting.Root })
-  -- the aim lies further on: a root is hoisted, below a parent the walk goes to the next page
+  -- the aim is further on: a root is hoisted, below a parent the walk goes to the next page
   pub hoists : (q : ℕ) → parent_of by ≡ None → look.node.hi ≢ [] → look.node.next ≡ Some q → IsHoisting m w t number (record { left = look.pid; at = look.node.hi; right = q })
   pub goes_on : (p : View) (q : ℕ) → parent_of by ≡ Some p → look.node.hi ≢ [] → is_up_to aim look.node.hi ≡ true → look.node.next ≡ Some q → IsWalking m w t number aim (record { cursor = q; reached = reached.Next p })
   -- it was reached by `next`: its pointer is posted
@@ -71,10 +71,10 @@ pub record FollowsOpenPage (m : Snapshot) (w : Forest) (t : Tree) (number : ℕ)
   -- it was reached by a later pointer, and should merge: it becomes the parent's merging child
   pub intends : (p : View) (before : ℕ) → by ≡ reached.LaterPointer p → count look.node.content ≤ 17 → IsBefore look.pid (pointers p.node.content) before
       → IsIntending m w t number (record { parent = p; child = look.pid; before = before })
-  -- it is an index that lies under the aim: the walk goes down
+  -- it is an index that is under the aim: the walk goes down
   pub descends : (es : List (Key × ℕ)) (low : Key) (c : ℕ) (is_first : Bool) → look.node.content ≡ Index es → LiesUnder aim look.node → HasRoomForOne look → In (low, c) es → (is_first ≡ false → In (low, c) (later es))
       → IsWalking m w t number aim (record { cursor = c; reached = by_pointer look is_first })
-  -- it is a leaf that lies under the aim: the call acts, or answers by a key that the leaf covers
+  -- it is a leaf that is under the aim: the call acts, or answers by a key that the leaf covers
   pub acts : (es : List (Key × Key)) → look.node.content ≡ Leaf es → LiesUnder aim look.node → IsActing m w t number aim look
   pub answers : (es : List (Key × Key)) (key : Key) → look.node.content ≡ Leaf es → Covers look.node key → find key_cmp key (contents (nodes_at m) w t) ≡ value_at look.node.content key
 
@@ -90,8 +90,8 @@ abbrev pub CursorHereLaw : Type 0
 CursorHereLaw = (m : Snapshot) (w : Forest) → HasForest m w → (t : Tree) (number : ℕ) (aim : Bound Key) (a : Walk) (look : View) → m.numbers t ≡ Some number → IsWalking m w t number aim a → look.pid ≡ a.cursor → m.state.pages look.pid ≡ Some (record { version = look.version; node = look.node })
     → IsHere m w t number aim look a.reached
 
--- A page that stood on a level was read with a merging child of its own: that merge begins. So it does where the walk, the search
--- for the page before a child, or the reading of a child finds one
+-- A page that was on a level was read with a merging child of its own: that merge begins. So it does if the walk, the search for the
+-- page before a child, or the reading of a child finds one
 abbrev pub StoodMergesLaw : Type 0
 StoodMergesLaw = (m : Snapshot) (w : Forest) (t : Tree) (number h : ℕ) (look : View) (lo : Key) → HasForest m w → m.numbers t ≡ Some number → StoodInChain m w (place t h) number lo look.pid → m.state.pages look.pid ≡ Some (record { version = look.version; node = look.node })
     → look.node.merging ≡ false → (c before : ℕ) → look.node.merging_child ≡ Some c → IsBefore c (pointers look.node.content) before → IsReadingChild m w t number (record { parent = look; child = c; before = before })
@@ -110,8 +110,8 @@ SplitAction = (m : Snapshot) (w : Forest) (t : Tree) (number : ℕ) (aim : Bound
     → StageActionLaw m w (after_allocation m q (record { version = version; node = right_half a.page.node })) w t number aim (stage.Split a)
     (stage.InstallLeft (record { page = a.page; posting = a.posting; left = record (left_half a.page.node) { next = Some q }; at = (right_half a.page.node).lo; right = q; version = version }))
 
--- the page becomes the left half, where it has its version and the tree its number, and the right half then stands in the tree, and is
--- posted or hoisted over,
+-- the page becomes the left half, if it has its version and the tree its number, and the right half then is in the tree, and is posted or
+-- hoisted over,
 abbrev pub posts_half : InstallLeft → Posting → Stage
 posts_half a (posting.Parent parent) = stage.Post (record { parent = parent; at = a.at; pid = a.right })
 posts_half a posting.Root = stage.Hoist (record { left = a.page.pid; at = a.at; right = a.right })
@@ -138,7 +138,7 @@ HoistAction = (m : Snapshot) (w : Forest) (t : Tree) (number : ℕ) (aim : Bound
     → IsStage m w t number aim (stage.Hoist a)
     → StageActionLaw m w (after_allocation m q (record { version = version; node = n })) w t number aim (stage.Hoist a) (stage.SwapRoot (record { old = a.left; new = q; version = version }))
 
--- and set, where the old one is still the root,
+-- and set, if the old one is still the root,
 abbrev pub SwapRootAction : Type 0
 SwapRootAction = (m : Snapshot) (w : Forest) (t : Tree) (number : ℕ) (aim : Bound Key) (a : SwapRoot) → HasForest m w → m.numbers t ≡ Some number → m.state.roots t ≡ Some a.old → IsStage m w t number aim (stage.SwapRoot a)
     → (v : Forest) × StageActionLaw m w (after_hoist m t a.new) v t number aim (stage.SwapRoot a) stage.Root
@@ -167,7 +167,7 @@ abbrev pub ChildCaps : Type 0
 ChildCaps = (m : Snapshot) (w : Forest) (t : Tree) (number : ℕ) (aim : Bound Key) (a : Merge) (version : ℕ) (d : Node) → HasForest m w → m.numbers t ≡ Some number → m.state.pages a.child ≡ Some (record { version = version; node = d }) → IsOpen d → IsStage m w t number aim (stage.Child a)
     → IsStage m w t number aim (stage.Cap (record { merge = a; version = version; node = d }))
 
--- it is capped, or, where that came too late, is read again,
+-- it is capped, or, if that came too late, is read again,
 abbrev pub CapAction : Type 0
 CapAction = (m : Snapshot) (w : Forest) (t : Tree) (number : ℕ) (aim : Bound Key) (a : Cap) (version : ℕ) (node : Node) → HasForest m w → IsNodeNow m t number (record { pid = a.merge.child; version = a.version; node = a.node }) node → m.versions version ≡ false → IsStage m w t number aim (stage.Cap a)
     → let new : Snapshot = after_replacement m a.merge.child (record { version = version; node = after_link ChildMergeCap a.node }) in
@@ -176,11 +176,11 @@ CapAction = (m : Snapshot) (w : Forest) (t : Tree) (number : ℕ) (aim : Bound K
 abbrev pub CapLate : Type 0
 CapLate = (m : Snapshot) (w : Forest) (t : Tree) (number : ℕ) (aim : Bound Key) (a : Cap) → IsStage m w t number aim (stage.Cap a) → IsStage m w t number aim (stage.Child a.merge)
 
--- the page before it is looked for: what follows where the search has read an open page
+-- the page before it is looked for: what follows once the search has read an open page
 pub record Finds (m : Snapshot) (w : Forest) (t : Tree) (number : ℕ) (aim : Bound Key) (a : Seek) (left : View) : Type 0 where
   -- it ends before where the child begins: the search goes on
   pub further : (q : ℕ) → left.node.hi ≢ [] → Below left.node.hi a.node.lo → left.node.next ≡ Some q → IsStage m w t number aim (stage.Seek (record { merge = a.merge; version = a.version; node = a.node; cursor = q }))
-  -- it reaches where the child begins and does not lead to it: the child was received
+  -- it reaches the place where the child begins and does not lead to it: the child was received
   pub done : (left.node.hi ≡ []) ⊎ UpTo a.node.lo left.node.hi → left.node.next ≢ Some a.merge.child → IsStage m w t number aim (stage.Confirm (record { parent = a.merge.parent; child = a.merge.child; version = a.version }))
   -- it leads to the child: it receives it, or is split first
   pub receives : left.node.next ≡ Some a.merge.child → HasRoomForOne left → IsStage m w t number aim (stage.Receive (record { merge = a.merge; version = a.version; node = a.node; left = left }))
@@ -190,7 +190,7 @@ abbrev pub SeekLaw : Type 0
 SeekLaw = (m : Snapshot) (w : Forest) (t : Tree) (number : ℕ) (aim : Bound Key) (a : Seek) (left : View) → HasForest m w → m.numbers t ≡ Some number → left.pid ≡ a.cursor → m.state.pages left.pid ≡ Some (record { version = left.version; node = left.node }) → IsOpen left.node
     → IsStage m w t number aim (stage.Seek a) → Finds m w t number aim a left
 
--- that page receives the child, or, where that came too late, is looked for again,
+-- that page receives the child, or, if that came too late, is looked for again,
 abbrev pub ReceiveAction : Type 0
 ReceiveAction = (m : Snapshot) (w : Forest) (t : Tree) (number : ℕ) (aim : Bound Key) (a : Receive) (version : ℕ) (node : Node) → HasForest m w → IsNodeNow m t number a.left node → m.versions version ≡ false → IsStage m w t number aim (stage.Receive a)
     → let new : Snapshot = after_replacement m a.left.pid (record { version = version; node = after_receiving a.left.node a.node }) in
@@ -205,7 +205,7 @@ ConfirmAction = (m : Snapshot) (w : Forest) (t : Tree) (number : ℕ) (aim : Bou
     → let new : Snapshot = after_replacement m a.parent.pid (record { version = version; node = after_link ParentMergeConfirm a.parent.node }) in
     (v : Forest) × StageActionLaw m w new v t number aim (stage.Confirm a) (stage.Free (record { pid = a.child; version = a.version }))
 
--- the halves of a page make a split, whatever its height, where the right half is the page q
+-- the halves of a page make a split, whatever its height, if the right half is the page q
 pub record IsHalved (n left right : Node) (q : ℕ) : Type 0 where
   pub split : (h : ℕ) → IsNodeAt h n → IsOpen n → IsSplit h n left right q
 
@@ -213,8 +213,7 @@ pub record IsHalved (n left right : Node) (q : ℕ) : Type 0 where
 pub record IsJoined (n d both : Node) : Type 0 where
   pub joined : (h : ℕ) → IsNodeAt h n → IsNodeAt h d → n.hi ≡ d.lo → Below n.lo d.lo → (d.hi ≡ []) ⊎ Below d.lo d.hi → IsReceived h n d both
 
--- The halves of a node of two entries or more are halves, the joined node is joined, and the pointer before one to a page stands
--- below it
+-- The halves of a node of two entries or more are halves, the joined node is joined, and the pointer before one to a page is below it
 abbrev pub HalvedLaw : Type 0
 HalvedLaw = (n : Node) (q : ℕ) → 2 ≤ count n.content → IsHalved n (record (left_half n) { next = Some q }) (right_half n) q
 
@@ -224,7 +223,7 @@ JoinedLaw = (n d : Node) → IsJoined n d (after_receiving n d)
 abbrev pub BeforeLaw : Type 0
 BeforeLaw = (h : ℕ) (n : Node) (c b : ℕ) → IsNodeAt h n → (k : IsBefore c (pointers n.content) b) → In (k.key, c) (pointers n.content) × In (k.low, b) (pointers n.content) × Below k.low k.key
 
--- A merging child has a pointer before its own. Where that leads stands in the chain, and begins at the pointer's key, which is
+-- A merging child has a pointer before its own. The page that it names is in the chain, and begins at the pointer's key, which is
 -- lower
 abbrev pub BeforeChildLaw : Type 0
 BeforeChildLaw = (nodes : Nodes) (roots : Tree → Option ℕ) (w : Forest) → WellFormed nodes roots w → (t : Tree) (h p : ℕ) (n : Node) (c : ℕ) → In p (w.chain (place t (suc h))) → nodes p ≡ Some n → n.merging_child ≡ Some c

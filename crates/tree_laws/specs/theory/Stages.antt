@@ -8,7 +8,7 @@ use Rattle.tree_laws.specs.Snapshot.{Snapshot, StoodInChain}
 use Rattle.tree_laws.specs.declared.flight.Reached.{Reached}
 use Rattle.tree_laws.specs.Stages.{IsReached}
 
--- a page as it was just read: it is live at the version that was read, and stood on its level
+-- a page as it was just read: it is live at the version that was read, and was on its level
 pub record IsHere (m : Snapshot) (w : Forest) (t : Tree) (number : ℕ) (aim : Bound Key) (look : View) (by : Reached) : Type 0 where
   pub height : ℕ
   pub live : m.state.pages look.pid ≡ Some (record { version = look.version; node = look.node })

@@ -20,7 +20,7 @@ first_pages_down (ℕ.suc n) nodes (Some p) = p ∷ first_pages_down n nodes (fi
 pub record CountsFaults (old new : Store) : Type 0 where
   pub is : (new ≡ old) ⊎ (new ≡ record old { faults = old.faults + 1 })
 
--- the page is there and goes, and this is its next page; or it stays, at a refusal or where it is not there
+-- the page is there and goes, and this is its next page; or it stays, at a refusal or if it is not there
 abbrev pub frees_page_as : ℕ → Store → Option ℕ → Store → Type 0
 frees_page_as pid old next new =
     ((page : Page) × ((now old).pages pid ≡ Some page) × (next ≡ page.node.next) × (new ≡ after_action (PageBecomes pid None) old))
@@ -29,7 +29,7 @@ frees_page_as pid old next new =
 pub record FreesPage (pid : ℕ) (old : Store) (next : Option ℕ) (new : Store) : Type 0 where
   pub is : frees_page_as pid old next new
 
--- these pages, which stood in the tree's chains, go, one after the other, and faults are counted
+-- these pages, which were in the tree's chains, go, one after the other, and faults are counted
 pub data FreesPages (was : Forest) (t : Tree) : List ℕ → Store → Store → Type 0 where
   FreesNone : {a : Store} → FreesPages was t [] a a
   FreesOne : {ps : List ℕ} {a b : Store} (p h : ℕ) (page : Page) → In p (was.chain (place t h)) → (now a).pages p ≡ Some page → FreesPages was t ps (after_action (PageBecomes p None) a) b → FreesPages was t (p ∷ ps) a b

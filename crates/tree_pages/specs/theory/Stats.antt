@@ -15,13 +15,13 @@ pub record IsHeight (nodes : Nodes) (root : ℕ) (height : Height) : Type 0 wher
   pub levels : height.levels ≡ levels_under page_numbers nodes (Some root)
   pub pages : height.pages ≡ pages_under page_numbers nodes (Some root)
 
--- pairs come to a weight besides what there was
+-- the weight of pairs, added to an earlier one
 pub record Weighs (before : Weight) (pairs : Map) (weight : Weight) : Type 0 where
   pub pairs_are : weight.pairs ≡ before.pairs + length pairs
   pub keys : weight.key_bytes ≡ before.key_bytes + key_bytes_of pairs
   pub values : weight.value_bytes ≡ before.value_bytes + value_bytes_of pairs
 
--- what one tree comes to
+-- the statistics of one tree
 pub record IsTree (s : State) (t : Key) (height : Height) (weight : Weight) : Type 0 where
   pub pages : height.pages ≡ tree_pages s t
   pub levels : height.levels ≡ tree_levels s t

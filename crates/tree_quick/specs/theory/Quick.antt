@@ -1,4 +1,4 @@
--- A whole call on a key over a clean path, told as the steps of a call in flight: those of its walk, and one more that ends it.
+-- A whole call on a key over a clean path, as the steps of a call in flight: those of its walk, and one more that ends it.
 use Rattle.std.specs.Prelude.{◌≡◌, ℕ, ◌+◌, ◌<◌, ◌≤◌, Bool, true, false, Option, Some, None, Result, Ok, Err}
 use Rattle.std.specs.declared.ops.Bound.TheVariants.{Included}
 use Rattle.sled_nodes.specs.Order.{Key}
@@ -44,8 +44,8 @@ pub record RunsStraight (operator : Option Merge) (old : Store) (f : InFlight) (
   pub has_turns : last.turns < MAX_LOOPS
   pub ends : StepsBy operator old last (went_of made) new last
 
--- The key lies under the node, and nothing is to be repaired there. At a page that is not the root, and to which the walk did not come by
--- the first pointer of an index, nothing is to be merged either
+-- The key is under the node, and nothing is to be repaired there. At a page that is not the root, and which the walk did not reach by the
+-- first pointer of an index, nothing is to be merged either
 pub record IsCleanFor (key : Key) (first : Bool) (n : Node) : Type 0 where
   pub is_open : IsOpen n
   pub fits : count n.content ≤ 16
@@ -61,7 +61,7 @@ pub record IsRead (s : Store) (pid : ℕ) (view : View) : Type 0 where
   pub is : Some view ≡ view_of pid ((now s).pages pid)
   pub readable : s.is_readable pid ≡ true
 
--- the call in flight walks to the step that reads this leaf, where nothing is to be repaired, and may go on twice from there
+-- the call in flight walks to the step that reads this leaf, if nothing is to be repaired, and may go on twice from there
 pub record FindsLeaf (s : Store) (f : InFlight) (view : View) : Type 0 where
   pub last : InFlight
   pub walks : WalksTo s f last
@@ -76,12 +76,12 @@ pub record FindsLeaf (s : Store) (f : InFlight) (view : View) : Type 0 where
 pub record LeadsToLeaf (s : Store) (root : ℕ) (key : Key) (view : View) : Type 0 where
   pub is : (tree : Tree) (call : Call) → (now s).roots tree.name ≡ Some root → IsOnKey call → key_of call ≡ key → FindsLeaf s (as_begun tree call) view
 
--- what the call comes to at a leaf: its reply where it changes nothing, or its change, by the operator of its tree
+-- the outcome of the call at a leaf: its reply if it changes nothing, or its change, by the operator of its tree
 abbrev pub comes_to : Option Merge → Call → Data → AtLeaf → Type 0
 comes_to operator call content (Replies reply) = reply_at call content ≡ Some reply
 comes_to operator call content (Links change) = (reply_at call content ≡ None) × IsChangeOf operator call content (Some change)
 
--- the change was linked to the leaf as it was read, and its reply is told; or the store refused it
+-- the change was linked to the leaf as it was read, and its reply is returned; or the store refused it
 abbrev pub links_now : Change → View → Store → Result Reply Error → Store → Type 0
 links_now change leaf old (Ok reply) new = (reply ≡ change.reply) × (given : ℕ) × Changes (after_link change.link) leaf.pid leaf.version old new (Ok given)
 links_now change leaf old (Err e) new = IsRefused e old new

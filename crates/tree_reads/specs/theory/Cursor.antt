@@ -9,7 +9,7 @@ use Rattle.sled_store.specs.declared.page.View.{View}
 use Rattle.tree_reads.specs.declared.cursor.Cursor.{Cursor}
 use Rattle.tree_reads.specs.Leaves.{entry_at}
 
--- one place on in the leaf, where the pair is that is given
+-- one place further in the leaf, at which the given pair is
 pub record GoesOn (old new : Cursor) (pair : Key × Key) : Type 0 where
   pub end : ℕ
   pub known : old.end ≡ Some end

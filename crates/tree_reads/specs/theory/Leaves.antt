@@ -1,4 +1,4 @@
--- Of Leaves, for proofs. Searches along the leaves of a tree, and the leaves at which they stand.
+-- Of Leaves, for proofs. Searches along the leaves of a tree, and the leaves at which they are.
 use Rattle.std.specs.Prelude.{◌≡◌, ℕ, ◌+◌, ◌≤◌, true, false, List, [], ◌∷◌, ◌++◌, length, flat_map, Some}
 use Rattle.std.specs.declared.ops.Bound.{Bound}
 use Rattle.sled_nodes.specs.Order.{Key, Below}
@@ -14,7 +14,7 @@ pub record StartsAt (lo target : Bound Key) : Type 0 where
   pub all : is_up_to target [] ≡ true
   pub below : (k m : Key) → is_up_to target m ≡ true → Below k m → is_from lo k ≡ false
 
--- A count stands at a leaf: so many pairs stand before it
+-- A count is at a leaf: so many pairs are before it
 pub record Counts (s : State) (root : ℕ) (v : View) (looked total : ℕ) : Type 0 where
   pub read : IsRead s v
   pub is : (w : Forest) → WellFormed (nodes_of s) s.roots w → (t : Tree) → s.roots t ≡ Some root

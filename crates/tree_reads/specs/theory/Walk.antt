@@ -18,11 +18,11 @@ abbrev pub IsIndex : Data → Type 0
 IsIndex (Leaf es) = ⊥
 IsIndex (Index es) = Unit {0}
 
--- the bound lies behind the page
+-- the bound is behind the page
 abbrev pub LiesBehind : Bound Key → Node → Type 0
 LiesBehind target n = (n.hi ≢ []) × (is_up_to target n.hi ≡ true)
 
--- A walk to the target stands at a page of the tree that begins within it, with so many pages ahead
+-- A walk to the target is at a page of the tree that begins within it, with so many pages ahead
 pub record Stands (nodes : Nodes) (w : Forest) (t : Tree) (target : Bound Key) (p ahead : ℕ) : Type 0 where
   pub height : ℕ
   pub node : Node

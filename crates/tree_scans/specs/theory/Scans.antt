@@ -1,4 +1,4 @@
--- What a scan reads between, and what it comes to at its leaf.
+-- The range that a scan reads, and its outcome at a leaf.
 use Rattle.std.specs.Prelude.{◌≡◌, ◌+◌, Bool, true, false, List, [], ◌∷◌, Some}
 use Rattle.std.specs.declared.ops.Bound.{Bound}
 use Rattle.sled_nodes.specs.Order.{Key}
@@ -23,7 +23,7 @@ pub record IsRangeOf (call : Call) (aim : Aim) (from : Range) : Type 0 where
   pub has : range_of call ≡ Some range
   pub is : range_from aim range ≡ from
 
--- what lies behind the leaf says whether the scan ends there or goes on
+-- what is behind the leaf says whether the scan ends there or goes on
 abbrev pub comes_behind : Node → Range → AtLeaf → Type 0
 comes_behind n r (Pair key value) = ⊥
 comes_behind n r End = is_read (range_behind n r) ≡ true

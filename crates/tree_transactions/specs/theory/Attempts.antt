@@ -1,4 +1,4 @@
--- One attempt of a transaction, as its functions tell it.
+-- One attempt of a transaction, as its functions state it.
 use Rattle.std.specs.Prelude.{◌≡◌, ℕ, Bool, List, Option, Some, None, Result, Ok, Err}
 use denote.Ref.{MutBor}
 use Rattle.sled_batch.specs.Batch.{Writes}
@@ -27,7 +27,7 @@ abbrev pub made_as : {A E W : Type 0} → Answer A E → W → Bool → Result (
 made_as (Ok answer) writes flushes = Ok (record { answer = answer; writes = writes; flushes = flushes })
 made_as (Err e) writes flushes = Err e
 
--- what a transaction answers after an attempt that ended so; none where another is to follow
+-- what a transaction answers after an attempt that ended so; none if another is to follow
 abbrev pub ended_as : {A E W : Type 0} → Result (Commit A W) (ConflictableTransactionError E) → Option (Result (Commit A W) (TransactionError E))
 ended_as (Ok commit) = Some (Ok commit)
 ended_as (Err (closure.Abort e)) = Some (Err (Abort e))
