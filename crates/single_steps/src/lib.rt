@@ -1,4 +1,4 @@
-//! One step of a call in flight, what a call comes to at its key, and a search and a change of a leaf, each under the contract that it
+//! One step of a call in flight, the outcome of a call at its key, and a search and a change of a leaf, each under the contract that it
 //! has. The edits in `must-fail` show what these contracts rule out: each does something to the store, the call or the leaf before that,
 //! or in its place, or gives another answer in some case.
 #![tactic(auto)]
