@@ -61,8 +61,7 @@ const RANGE: usize = 100;
 // How many inserts a batch has.
 const BATCH: u64 = 100;
 
-// The keys whose beginnings are watched stand from this place on, behind those of all pairs. A prefix has so many of their bytes at
-// least.
+// The keys whose beginnings are watched begin at this place, after those of all pairs. A prefix has so many of their bytes at least.
 const WATCHED: u64 = 1 << 62;
 
 const BEGINNING: u64 = 4;
@@ -77,7 +76,7 @@ pub fn named(name: &str) -> Result<Workload> {
     Err(Stopped)
 }
 
-/// Who makes the calls.
+/// What makes the calls.
 #[derive(Drop)]
 enum Client<M> {
     /// A machine, step by step.
@@ -94,7 +93,7 @@ impl<M: MergeOperator> Client<M> {
         }
     }
 
-    // A call on a key from its begin to its end: what stands for its answer in a checksum.
+    // A call on a key from its begin to its end: its answer as a number of a checksum.
     fn call(&mut self, tree: &Tree, call: Call) -> Result<u64>
         requires { IsOnKey call }
     {
@@ -164,7 +163,7 @@ impl<M: MergeOperator> Client<M> {
         }
     }
 
-    // Ends a call: what stands for its answer in a checksum.
+    // Ends a call: its answer as a number of a checksum.
     fn end(&mut self, slot: Slot) -> Result<u64> {
         match self {
             Client::Stepped(machine) => {
@@ -402,7 +401,7 @@ impl<M: MergeOperator> Bench<M> {
         Ok((count, sum))
     }
 
-    // Counts a change, and flushes where it is time.
+    // Counts a change, and flushes if it is time.
     fn changed(&mut self) -> Result<()> {
         self.changes = self.changes.saturating_add(1);
         if self.changes != self.flush {
@@ -442,7 +441,7 @@ impl<M: MergeOperator> Bench<M> {
     }
 }
 
-// Makes a call on a database: what stands for its answer in a checksum.
+// Makes a call on a database: its answer as a number of a checksum.
 fn made<M: MergeOperator>(db: &mut Db<MemPages, M>, tree: &Tree, call: &Call) -> Result<u64> {
     let answer = match call {
         Call::Get(key) => db.get(tree, key.as_ref()),
@@ -513,7 +512,7 @@ fn group_step<M: MergeOperator>(
     made.map(|_| ())
 }
 
-// What stands for a pair in a checksum.
+// A pair as a number of a checksum.
 fn digest_of_pair(pair: (IVec, IVec)) -> u64 {
     let (key, value) = pair;
     let key = Some(key);
@@ -541,7 +540,7 @@ fn take_from(pairs: &mut Iter<'_, MemPages>, most: usize) -> Result<(u64, u64)> 
     Ok((count, sum))
 }
 
-// The same, and lets the iterator go.
+// The same, and drops the iterator.
 fn taken(pairs: Iter<'_, MemPages>, most: usize) -> Result<(u64, u64)> {
     let mut pairs = pairs;
     let told = take_from(&mut pairs, most);
@@ -549,7 +548,7 @@ fn taken(pairs: Iter<'_, MemPages>, most: usize) -> Result<(u64, u64)> {
     told
 }
 
-// What stands for an answer in a checksum.
+// An answer as a number of a checksum.
 fn digest_of(outcome: &Outcome) -> Result<u64> {
     match outcome {
         Outcome::Decided(Reply::Value(value)) => Ok(digest(value)),

@@ -3,15 +3,15 @@
 //!     bench PAIRS CALLS SEED SHORTEST LONGEST FLUSH WORKLOAD..
 //!     bench PAIRS CALLS SEED SHORTEST LONGEST FLUSH WORKLOAD.. direct WORKLOAD..
 //!
-//! Of the workloads, `load` inserts so many pairs. `gets`, `inserts`, `mix`, `removals` and `slots` make so many calls each. `batches` inserts so many of the
-//! keys of `inserts`, a hundred in a batch. `ranges` reads so many ranges of a hundred pairs at most, `scan` reads all pairs, and `steps`
-//! reads them by a scan in a slot. `watches` adds so many subscribers, each to a prefix of 4 to 7 bytes that begins no key of another
-//! workload, and `follows` adds one subscriber to all keys. A machine makes the calls, and after the word `direct` the database itself,
-//! which has no `slots` and no `steps`. Keys are 8 bytes that look random; where the first word is `ascending` they are the numbers from 0
-//! on, and where it is `rows` they have 30 bytes, as `tenant/0042/user/00001234/name`. Values have SHORTEST to LONGEST bytes. After each
-//! FLUSH changes there is a flush, and none where that is 0. Each workload prints its name, how many calls it made and a checksum of their
-//! answers; and on standard error its name and the processor time that it took, in microseconds. The status is 1 for other words, and where
-//! anything failed.
+//! Of the workloads, `load` inserts so many pairs. `gets`, `inserts`, `mix`, `removals` and `slots` make so many calls each. `batches`
+//! inserts so many of the keys of `inserts`, a hundred in a batch. `ranges` reads so many ranges of a hundred pairs at most, `scan` reads
+//! all pairs, and `steps` reads them by a scan in a slot. `watches` adds so many subscribers, each to a prefix of 4 to 7 bytes that begins
+//! no key of another workload, and `follows` adds one subscriber to all keys. A machine makes the calls, and after the word `direct` the
+//! database itself, which has no `slots` and no `steps`. Keys are 8 bytes that look random; if the first word is `ascending` they are the
+//! numbers from 0 on, and if it is `rows` they have 30 bytes, as `tenant/0042/user/00001234/name`. Values have SHORTEST to LONGEST bytes.
+//! After each FLUSH changes there is a flush, and none if that is 0. Each workload prints its name, how many calls it made and a checksum
+//! of their answers; and on standard error its name and the processor time that it took, in microseconds. The status is 1 for other words,
+//! and if anything failed.
 #![tactic(auto)]
 
 mod bench;
@@ -25,7 +25,7 @@ use std::env;
 use std::process::ExitCode;
 use std::time::{CpuClock, Duration};
 
-// Runs a workload, and prints what it came to and how long it took.
+// Runs a workload, and prints its checksum and how long it took.
 fn measure(rt: &HostRuntime, bench: &mut Bench, name: &str) -> Result<(), Stopped> {
     let workload = named(name)?;
     let start = rt.process_cpu_time()?;
@@ -97,7 +97,7 @@ fn run_words(rt: &HostRuntime, words: &[String]) -> Result<(), Stopped> {
     if measured.is_ok() {
         measured = measure_all(rt, &mut bench, direct);
     }
-    // The process ends now. To let the pairs go would count as instructions of the calls.
+    // The process ends now. To drop the pairs would count as instructions of the calls.
     std::mem::forget(bench);
     measured
 }

@@ -110,7 +110,7 @@ impl Pairs {
         }
     }
 
-    // The same of keys of another kind. It stands by itself, so that those that look random cost the program as little as they may.
+    // The same of keys of another kind. It is by itself, so that those that look random cost the program as little as they may.
     #[inline(never)]
     fn other_key(&self, place: u64) -> Result<IVec> {
         match self.keys {
@@ -145,7 +145,7 @@ impl Pairs {
     }
 }
 
-/// What stands for an answer in a checksum: how long the value is, and its first bytes.
+/// An answer as a number of a checksum: how long the value is, and its first bytes.
 pub fn digest(value: &Option<IVec>) -> u64 {
     let Some(value) = value else {
         return 1 << 63;

@@ -56,7 +56,7 @@ fn are_written(changes: &[Change], bytes: &mut Vec<u8>) -> bool {
     true
 }
 
-/// How many changes bytes are, where all of these have the bytes again.
+/// How many changes bytes are, if all of these have the bytes again.
 pub fn many_again(alloc: Global, bytes: &[u8]) -> Option<usize> {
     let changes = decode_changes(alloc, bytes).ok()?;
     let mut again = Vec::new(alloc);

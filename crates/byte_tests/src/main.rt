@@ -1,5 +1,5 @@
-//! Encodes a change of each kind, reads it again, and reads bytes that stand for nothing. It prints the bytes of each, two digits for
-//! one, and what came of it; `stdout` has what should have come.
+//! Encodes a change of each kind, reads it again, and reads bytes that encode nothing. It prints the bytes of each, two digits for one,
+//! and the outcome; `stdout` has the expected one.
 #![tactic(auto)]
 
 mod again;
@@ -32,7 +32,7 @@ fn tell(report: &Report, name: &str, bytes: &[u8], is_again: bool) {
     report.tell(format_args!("{name}:{bytes}; read again: {is_again}"));
 }
 
-// Tells of a change, and adds its bytes to those of all.
+// Prints a change, and adds its bytes to those of all.
 fn tell_change(report: &Report, all: &mut Vec<u8>, name: &str, change: Change) {
     let mut bytes = Vec::new(report.alloc());
     report.keep(encode_change(&change, &mut bytes));
@@ -55,7 +55,7 @@ fn tell_given(report: &Report, all: &mut Vec<u8>, name: &str, node: Option<Node>
     }
 }
 
-// Tells of a node by itself, behind which two bytes stand.
+// Prints a node by itself, behind which there are two bytes.
 fn tell_node(report: &Report, name: &str, node: Option<Node>) {
     let mut bytes = Vec::new(report.alloc());
     if let Some(node) = node {
@@ -95,7 +95,7 @@ fn tell_numbers(report: &Report, all: &mut Vec<u8>) {
     tell_change(report, all, "limited", Change::Limited(16, 32));
 }
 
-// Tells of all changes, and how many their bytes are together.
+// Prints all changes, and how many their bytes are together.
 fn tell_changes(report: &Report) {
     let mut all = Vec::new(report.alloc());
     tell_given(report, &mut all, "leaf", leaf(report));
@@ -141,7 +141,7 @@ const FLAWED: [&[u8]; 7] = [
     &[2, 0, 0, 0, 0, 0, 0, 0, 0, 0, 0, 0, 0, 0, 0, 0, 0, 6],
 ];
 
-// Tells why bytes are no changes.
+// Prints why bytes are no changes.
 fn tell_refusal(report: &Report, bytes: &[u8]) {
     let why = refusal(report.alloc(), bytes);
     report.tell(format_args!("{bytes:?}: {why}"));

@@ -31,7 +31,7 @@ fn is_copied_alike(alloc: Global, call: &Call) -> Result<bool> {
     Ok(is_key && is_same(call, call.clone())?)
 }
 
-// What a read of a value, or of none, tells a call.
+// What a read of a value, or of none, decides for a call.
 fn read(report: &Report, call: &Call, value: Option<IVec>) -> Option<Reply> {
     report.keep(call.at_read(value)).flatten()
 }
@@ -54,7 +54,7 @@ fn tell_call(report: &Report, call: &Call) {
     drop(none);
 }
 
-// What a call replies where it is to link its change, and whether it changes something there.
+// What a call replies if it is to link its change, and whether it changes something there.
 fn link_of(alloc: Global, call: &Call, value: Option<IVec>) -> Result<(Reply, bool)> {
     let Decision { effect, reply } = call.at_link(alloc, value, None::<&NoOperator>)?;
     let changes = effect != Effect::Nothing;
@@ -62,7 +62,7 @@ fn link_of(alloc: Global, call: &Call, value: Option<IVec>) -> Result<(Reply, bo
     Ok((reply, changes))
 }
 
-/// Prints this of each call, and what it comes to at a link where `21` stands, and where no value does.
+/// Prints this of each call, and its outcome at a link if the value is `21`, and if there is none.
 pub fn tell(report: &Report) {
     let calls = calls(report);
     for call in &calls {
@@ -113,7 +113,7 @@ fn root_of(alloc: Global, db: &Db<MemPages>, tree: &Tree) -> Result<Option<usize
     }
 }
 
-/// A subscriber, of which nothing is said, so that nobody who asks for it has more to prove than that.
+/// A subscriber, of which nothing is said, so that no caller has more to prove than that.
 pub fn watched(db: &mut Db<MemPages>, tree: &Tree, prefix: &[u8]) -> Result<Subscriber> {
     db.watch_prefix(tree, prefix)
 }

@@ -1,5 +1,5 @@
 //! What only code can test: readers and writers that fail, a reader that waits for each answer, batches, the errors of transactions,
-//! and calls that no line makes. It prints what came of each case; `stdout` has what should have come.
+//! and calls that no line makes. It prints the outcome of each case; `stdout` has the expected ones.
 #![tactic(auto)]
 
 mod batches;
@@ -15,7 +15,7 @@ use sled::{Db, MemPages, empty_pages};
 use std::process::ExitCode;
 use test_report::Report;
 
-// What is told of a new database.
+// What is printed of a new database.
 #[derive(Clone, Copy)]
 enum Case {
     Transactions,
@@ -24,7 +24,7 @@ enum Case {
     Wholes,
 }
 
-// Tells of an open database and its default tree, and lets go of both.
+// Prints an open database and its default tree, and drops both.
 fn tell_on(report: &Report, case: Case, db: Db<MemPages>) {
     let Some(tree) = report.keep(db.default_tree()) else {
         drop(db.into_pages());
@@ -48,7 +48,7 @@ fn refused_of(case: Case) -> u64 {
     }
 }
 
-// Tells of a new database over pages in memory.
+// Prints a new database over pages in memory.
 fn tell_case(report: &Report, case: Case) {
     let mut pages = empty_pages(report.alloc());
     report.keep(pages.refuse_at(&[refused_of(case)]));

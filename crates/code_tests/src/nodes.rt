@@ -1,4 +1,4 @@
-//! Copies of what lies in a page, the greatest page number that it names, and changes of a node that several hold.
+//! Copies of what is in a page, the greatest page number that it names, and changes of a node that several hold.
 use sled::{Data, Error, IVec, Index, Leaf, Link, Node, Pid, Shared};
 use std::fmt::Debug;
 use std::slice::from_ref;
@@ -78,12 +78,12 @@ fn change(report: &Report, shared: &mut Shared, link: &Link) {
     report.keep(shared.apply(report.alloc(), link));
 }
 
-// Adds what stands at `b`.
+// Adds the value at `b`.
 fn look(report: &Report, shared: &Shared, values: &mut Vec<Option<IVec>>) {
     report.add(values, shared.get(b"b"));
 }
 
-// What stands at `b` after it is set, where one of two holders removes it, for the other of them, and where it is set again.
+// The value at `b` after it is set, if one of two holders removes it, for the other of them, and if it is set again.
 fn changes(report: &Report, shared: &mut Shared, set: &Link, removal: &Link) -> Vec<Option<IVec>> {
     let mut values = Vec::new(report.alloc());
     change(report, shared, set);
@@ -125,7 +125,7 @@ fn show<T: Debug + Drop>(report: &Report, words: &str, made: Option<T>) {
     report.show(words, made.ok_or(Error::NoMemory));
 }
 
-/// Prints what they come to.
+/// Prints their outcome.
 pub fn tell(report: &Report) {
     show(report, "entries of copies", all_counts(report));
     show(report, "greatest pages", greatest(report));

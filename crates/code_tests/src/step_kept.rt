@@ -8,7 +8,7 @@ use test_report::Report;
 // More steps than any of the calls takes.
 const STEPS: usize = 20;
 
-// A call that begins, and a step of it. Nothing is said of them, so that nobody who prints them has more to prove than that.
+// A call that begins, and a step of it. Nothing is said of them, so that no function that prints them has more to prove than that.
 fn begin(machine: &mut Machine<MemPages>, tree: &Tree, call: Call) -> Result<Slot> {
     machine.begin(tree, call)
 }
@@ -17,7 +17,7 @@ fn step(machine: &mut Machine<MemPages>, slot: Slot) -> (Outcome, Option<(Reply,
     machine.step_kept(slot)
 }
 
-// Prints how a step came out, and the copies that are kept of its reply. Tells whether the call goes on.
+// Prints the outcome of a step, and the copies that are kept of its reply. Answers whether the call goes on.
 fn tell_step(report: &Report, machine: &mut Machine<MemPages>, slot: Slot) -> bool {
     let told = step(machine, slot);
     let goes_on = matches!(&told.0, Outcome::Moved | Outcome::Yielded(..));
@@ -71,7 +71,7 @@ fn tell_others(report: &Report, machine: &mut Machine<MemPages>, tree: &Tree) {
     tell_call(report, machine, tree, scan);
 }
 
-// Prints what a subscriber is told, until nothing waits.
+// Prints what a subscriber gets, until nothing waits.
 fn tell_events(report: &Report, db: &mut Db<MemPages>, subscriber: &Subscriber) {
     for _ in 0..STEPS {
         let Some(next) = db.next(subscriber) else {
@@ -81,8 +81,7 @@ fn tell_events(report: &Report, db: &mut Db<MemPages>, subscriber: &Subscriber) 
     }
 }
 
-/// Prints how calls came out step by step, what was kept of their replies, and which events a subscriber was told. The database comes
-/// back.
+/// Prints the outcomes of calls step by step, what was kept of their replies, and which events a subscriber got. The database is returned.
 pub fn tell_on(report: &Report, mut db: Db<MemPages>, tree: &Tree) -> Db<MemPages> {
     let subscriber = report.keep(watched(&mut db, tree, b""));
     let mut machine = Machine::new(db);

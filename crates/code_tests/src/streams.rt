@@ -5,7 +5,7 @@ use std::cell::Cell;
 use std::io::{self, BufRead, ErrorKind, Read, Write};
 use test_report::Report;
 
-// A reader that gives one line at a time. It fails where a line is not answered yet, and at its end if it is cut.
+// A reader that gives one line at a time. It fails if a line is not answered yet, and at its end if it is cut.
 #[derive(Drop)]
 struct Lines<'a> {
     rest: &'a [u8],
@@ -97,7 +97,7 @@ impl<'a> Write for Page<'a> {
 // flushed.
 type Case = (&'static str, &'static [u8], bool, usize, bool);
 
-// Output is flushed before the first line is waited for, so where that fails no line is answered.
+// Output is flushed before the first line is waited for, so if that fails no line is answered.
 const CASES: [Case; 7] = [
     (
         "a read fails within a line",

@@ -42,7 +42,7 @@ fn copy(report: &Report, tree: &Tree) -> Option<Tree> {
     report.keep(tree.clone())
 }
 
-// What a call comes to. Nothing is said of it, so that nobody who prints it has more to prove than that.
+// The outcome of a call. Nothing is said of it, so that no function that prints it has more to prove than that.
 fn come_to(machine: &mut Machine<MemPages>, call: Whole) -> (Outcome, Option<(Reply, Reply)>, u64) {
     machine.whole_kept(call)
 }
@@ -78,7 +78,7 @@ fn tell_pops(report: &Report, machine: &mut Machine<MemPages>, tree: &Tree) {
     tell_call(report, machine, copy(report, tree).map(Whole::Clear));
 }
 
-// Those on names, and one that tells a number.
+// Those on names, and one that answers a number.
 fn tell_names(report: &Report, machine: &mut Machine<MemPages>) {
     tell_call(report, machine, report.bytes(b"other").map(Whole::OpenTree));
     tell_call(report, machine, report.bytes(b"spare").map(Whole::OpenTree));
@@ -123,7 +123,7 @@ fn tell_open(report: &Report, db: &mut Db<MemPages>) {
     tell_kept(report, db.open_tree_kept(b"t"));
 }
 
-/// Prints what whole calls come to, and what is kept of them. The database comes back.
+/// Prints the outcomes of whole calls, and what is kept of them. The database is returned.
 pub fn tell_on(report: &Report, db: Db<MemPages>, tree: &Tree) -> Db<MemPages> {
     let mut machine = Machine::new(db);
     tell_pairs(report, &mut machine, tree);

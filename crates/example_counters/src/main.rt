@@ -22,7 +22,7 @@ fn number_in(value: &Option<IVec>) -> u64 {
     }
 }
 
-// Swaps the number for the next one, again where another thread came between.
+// Swaps the number for the next one, again if another thread came between.
 fn raise<L: Ledger, R: Wait>(rt: &R, alloc: Global, tree: &Tree, handle: &mut Handle<MemPages, L>) {
     for _ in 0..100 {
         let Outcome::Decided(Reply::Value(value)) = handle.get(rt, alloc, tree, b"hits") else {
@@ -37,7 +37,7 @@ fn raise<L: Ledger, R: Wait>(rt: &R, alloc: Global, tree: &Tree, handle: &mut Ha
     }
 }
 
-// Three handles go to threads, each of which raises the counter ten times, and come back.
+// Three handles go to threads, each of which raises the counter ten times, and are returned.
 fn work<L: Ledger + Send + Sync, R: Threads + Wait + Sync>(
     rt: &R,
     alloc: Global,

@@ -4,7 +4,7 @@
 
 use sled::{Db, MemPages, TransactionError, TransactionResult, Tree, abort, empty_pages};
 
-// Gives a user an address, and returns whether it was free. Where it is not, nothing changes.
+// Gives a user an address, and returns whether it was free. If it is not, nothing changes.
 fn set_email(
     db: &mut Db<MemPages>,
     users: &Tree,

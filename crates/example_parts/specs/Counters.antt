@@ -14,14 +14,14 @@ number_in (Some bytes) = if nat_eq (length bytes) 8 then (from_be_bytes w64 byte
 abbrev pub sum_of : ℕ → ℕ → ℕ
 sum_of m n = (m + n) % 2 ^ 64
 
--- the bytes of the sum of the number that stands and another
+-- the bytes of the sum of the number that is there and another
 abbrev pub bytes_of_sum : Option Key → ℕ → Key
 bytes_of_sum stood n = to_be_bytes w64 (sum_of (number_in stood) n)
 
--- a merge writes the sum of the number that stands and the one in its bytes
+-- a merge writes the sum of the number that is there and the one in its bytes
 abbrev pub adding : Key → Option Key → Key → Option Key
 adding key old new = Some (bytes_of_sum old (number_in (Some new)))
 
--- the number at which a counter of a tree stands
+-- the number of a counter of a tree
 abbrev pub counter_in : Maps → Key → Key → ℕ
 counter_in maps tree name = number_in (found_in (maps tree) name)

@@ -37,7 +37,7 @@ pub fn number_at(value: &Option<IVec>) -> u64
     }
 }
 
-/// The bytes of the sum of the number that stands and another.
+/// The bytes of the sum of the number that is there and another.
 pub fn add_to(
     alloc: Global,
     stood: Option<&[u8]>,

@@ -20,7 +20,7 @@ fn start(db: &mut Db<MemPages>, ready: &Tree, running: &Tree) -> sled::Result<()
     }
 }
 
-// Two jobs come, which a flush makes durable. Both are started after it.
+// Two jobs are put in, which a flush makes durable. Both are started after it.
 fn work(db: &mut Db<MemPages>) -> sled::Result<()> {
     let ready = db.open_tree(b"ready")?;
     let running = db.open_tree(b"running")?;

@@ -8,7 +8,7 @@ use Rattle.sled_model.specs.State.{maps_of}
 use Rattle.sled_model.specs.declared.tree.Tree.{Tree}
 use Rattle.sled.specs.Values.{DbValue, db_state}
 
--- the pairs of a tree, of which there are none where there is no tree
+-- the pairs of a tree, of which there are none if there is no tree
 abbrev pub pairs_of : Option Map → Map
 pairs_of None = []
 pairs_of (Some map) = map

@@ -6,7 +6,7 @@ ghost use Rattle.example_seats.specs.Seats.{plan, Reserves};
 
 use sled::{Db, MemPages, MergeOperator, Pages, Tree, empty_pages};
 
-/// Gives a seat to a guest unless somebody has it, and returns whether it was free.
+/// Gives a seat to a guest unless another guest has it, and returns whether it was free.
 fn reserve<P: Pages, M: MergeOperator>(
     db: &mut Db<P, M>,
     seats: &Tree,

@@ -22,7 +22,7 @@ fn show(rt: &HostRuntime, db: &Db<LogPages>) -> sled::Result<()> {
     Ok(())
 }
 
-// Nobody knows whether pages from elsewhere are well formed, so they are looked at before they are opened.
+// Pages from elsewhere may not be well formed, so they are looked at before they are opened.
 fn main(rt: HostRuntime) -> sled::Result<()> {
     let alloc = rt.alloc();
     let pages = LogPages::new(alloc);

@@ -11,7 +11,7 @@ use Rattle.example_parts.specs.Counters.{adding, counter_in}
 abbrev pub counters_now : {P M : Type 0} → (P → Store) → DbValue P M → Maps
 counters_now store d = maps_now store (λ o. adding) d
 
--- the counter stands at this number, and all others, of this tree and of every other, stand as before
+-- the counter is at this number, and all others, of this tree and of every other, are as before
 pub record SetsCounter (old new : Maps) (tree name : Key) (n : ℕ) : Type 0 where
   pub here : counter_in new tree name ≡ n
   pub names : (other : Key) → other ≢ name → found_in (new tree) other ≡ found_in (old tree) other

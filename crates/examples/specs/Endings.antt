@@ -1,4 +1,4 @@
--- An index of the entries of a tree by how their keys end, which follows the tree by its events, and begins anew where it missed some.
+-- An index of the entries of a tree by how their keys end, which follows the tree by its events, and begins anew if it missed some.
 use Rattle.std.specs.Prelude.{◌≡◌, ◌≢◌, ◌≤◌, ◌+◌, ◌&&◌, ◌||◌, ℕ, not, nat_eq, Bool, true, false, reverse, map, filter, length, List, [], ◌∷◌, ◌++◌, Option, Some, None, if◌then◌else◌}
 use Rattle.std.specs.FinMap.Entries.{find, is_sorted}
 use Rattle.std.specs.List.{starts_with, ends_with}
@@ -36,7 +36,7 @@ pub record HasSame (a b : Map) : Type 0 where
   pub has : (key : Key) → find key_cmp key a ≡ find key_cmp key b
 
 -- What is seen of an index: its tree and its prefix, its subscriber, an event that was taken and has not changed the entries yet, if
--- there is one, whether it was told that it missed some, and the entries
+-- there is one, whether it learned that it missed some, and the entries
 pub record EndingsValue : Type 0 where
   pub tree : Tree
   pub prefix : Key
@@ -49,7 +49,7 @@ pub record EndingsValue : Type 0 where
 abbrev pub to_come : EndingsValue → State → List Event
 to_come i s = option_to_list i.late ++ waiting_in (s.queues i.subscriber)
 
--- it missed some, and was told so, or will be
+-- it missed some, and learned that, or will learn it
 abbrev pub has_missed : EndingsValue → State → Bool
 has_missed i s = i.is_lost || not (nat_eq (backlog_in (s.queues i.subscriber)).missed 0)
 
@@ -84,7 +84,7 @@ pub record BeginsIndex (s : State) (tree : Tree) (prefix : Key) (i : EndingsValu
   pub has : IsUpToDate s i
 
 -- Some of the events to come, the oldest, were taken. Nothing else changes: the index is of the same tree, its subscriber watches the same
--- as before, and it missed some where it had before
+-- as before, and it missed some if it had before
 pub record TakesEvents (old : State) (i : EndingsValue) (events : List Event) (new : State) (j : EndingsValue) : Type 0 where
   pub in_order : to_come i old ≡ events ++ to_come j new
   pub missed : has_missed j new ≡ has_missed i old
@@ -94,7 +94,7 @@ pub record TakesEvents (old : State) (i : EndingsValue) (events : List Event) (n
   pub same : new ≡ record old { queues = new.queues }
 
 -- What was next was taken: the oldest event to come, which has not changed the entries yet, or that some were missed, which has not changed
--- the index yet. Where there was nothing, no event is to come, and it missed none that it was not told of
+-- the index yet. If there was nothing, no event is to come, and it missed none of which it did not learn
 abbrev pub takes_as : State → EndingsValue → Option Next → State → EndingsValue → Type 0
 takes_as old i None new j = TakesEvents old i [] new j × (to_come j new ≡ []) × (has_missed j new ≡ j.is_lost)
 takes_as old i (Some (next.Event e)) new j = TakesEvents old i (e ∷ []) new j
@@ -112,20 +112,20 @@ pub record CatchesUp (old : State) (i : EndingsValue) (new : State) (j : Endings
   pub changes : HasSame j.entries (after_events events i.entries)
   pub follows : IsIndex old i → IsIndex new j
 
--- none is left, and none was missed; or so many were taken; or it was told that it missed some
+-- none is left, and none was missed; or so many were taken; or it learned that it missed some
 abbrev pub caught_as : ℕ → List Event → State → EndingsValue → Progress → Type 0
 caught_as at_most events new j UpToDate = (to_come j new ≡ []) × (has_missed j new ≡ false)
 caught_as at_most events new j Partly = length events ≡ at_most
 caught_as at_most events new j Lost = j.is_lost ≡ true
 
--- All of them were taken, or as many as might be, or those in front of the ones that it missed. Where none is left, the index is up to date
+-- All of them were taken, or as many as might be, or those in front of the ones that it missed. If none is left, the index is up to date
 pub record CatchesUpBy (at_most : ℕ) (old : State) (i : EndingsValue) (progress : Progress) (new : State) (j : EndingsValue) : Type 0 where
   pub catches : CatchesUp old i new j
   pub within : length catches.events ≤ at_most
   pub done : caught_as at_most catches.events new j progress
   pub has : progress ≡ UpToDate → IsIndex old i → IsUpToDate new j
 
--- An index begins anew, with another subscriber in place of its own, which is given up
+-- An index begins anew, with another subscriber in place of its own, which ends
 pub record BeginsAnew (old : State) (i : EndingsValue) (new : State) (j : EndingsValue) : Type 0 where
   pub same : j ≡ record i { subscriber = j.subscriber; late = None; is_lost = false; entries = j.entries }
   pub begins : IsIndex old i → BeginsIndex new i.tree i.prefix j
@@ -133,7 +133,7 @@ pub record BeginsAnew (old : State) (i : EndingsValue) (new : State) (j : Ending
   pub others : (n : ℕ) → n ≢ i.subscriber → n ≢ j.subscriber → new.queues n ≡ old.queues n
   pub trees : new.trees ≡ old.trees
 
--- An index stays one of its tree, whether it caught up or began anew, which it does only where it missed some
+-- An index stays one of its tree, whether it caught up or began anew, which it does only if it missed some
 pub record StaysIndex (old : State) (i : EndingsValue) (new : State) (j : EndingsValue) : Type 0 where
   pub tree : j.tree ≡ i.tree
   pub prefix : j.prefix ≡ i.prefix
@@ -146,20 +146,20 @@ pub record FindsEnding (prefix ending : Key) (m found : Map) : Type 0 where
   pub are : (key : Key) → find key_cmp key found ≡ if starts_with nat_eq key prefix && ends_with nat_eq key ending then find key_cmp key m else None
   pub rise : is_sorted key_cmp (turned found) ≡ true
 
--- An index of a tree still is one after these turns; and where there was room for all the events that came for it, it missed none of them
+-- An index of a tree still is one after these turns; and if there was room for all the events that came for it, it missed none of them
 pub record StillIsIndex (old : State) (i : EndingsValue) (turns : List Turn) (new : State) : Type 0 where
   pub index : IsIndex new i
   pub all : (q : Queue) → old.queues i.subscriber ≡ Some q → length q.backlog.events + length (brought q turns) ≤ queue_limit → has_missed i new ≡ has_missed i old
 
--- It is so after any turns that do not end its subscriber or take its events elsewhere, where the events that come to the tree tell what
+-- It is so after any turns that do not end its subscriber or take its events elsewhere, if the events that come to the tree describe what
 -- becomes of its map
 abbrev pub StillFollowsLaw : Type 0
 StillFollowsLaw = (old new : State) (i : EndingsValue) (turns : List Turn) → IsIndex old i
     → new.queues ≡ after_turns turns old.queues → ((t : NamedTree) → old.trees i.tree.name ≡ Some t → IsTreeAfter i.tree.name t turns new)
     → Stays i.subscriber turns → taken_by i.subscriber turns old.queues ≡ [] → StillIsIndex old i turns new
 
--- After a change of the tree an index of it still is one, with so many events more to come at most; and where so many more may wait, it
--- missed none of them
+-- After a change of the tree an index of it still is one, with so many events more to come at most; and if so many more may wait, it missed
+-- none of them
 pub record KeepsFollowing (old : State) (tree : Tree) (n : ℕ) (new : State) : Type 0 where
   pub follows : (i : EndingsValue) → i.tree ≡ tree → IsIndex old i → IsIndex new i
   pub within : (i : EndingsValue) → length (to_come i new) ≤ length (to_come i old) + n

@@ -34,7 +34,7 @@ pub record Agrees (s : Store) (table index : Key) : Type 0 where
   pub left : (state : State) → IsCrashState s state → AgreeIn (trees_of state) table index
 
 module _ {P M : Type 0} (store : P → Store) (meant : M → Merge) (old : DbValue P M) (table index : Key) where
-  -- An item went from one place to another, or from none or to none. All others lie where they lay, and the two trees agree still
+  -- An item went from one place to another, or from none or to none. All others are where they were, and the two trees agree still
   pub record Moves (item : Key) (from to : Option Key) (new : DbValue P M) : Type 0 where
     pub agrees : Agrees (store new.pages) table index
     pub was : found_in (maps_now store meant old table) item ≡ from
@@ -54,7 +54,7 @@ pub record Recovers (keep : ℕ) (old new : Store) : Type 0 where
   pub crashes : Crashes keep old left
   pub maps : trees_of (now new) ≡ with_default (trees_of (now left))
 
--- What is written in the table and in the index where the item lay at this place, if at one
+-- What is written in the table and in the index if the item was at this place, or at none
 abbrev pub item_taken : Key → Option Key → Writes → Writes
 item_taken item None writes = writes
 item_taken item (Some place) writes = put key_cmp item None writes
@@ -63,7 +63,7 @@ abbrev pub entry_taken : Key → Option Key → Writes → Writes
 entry_taken item None writes = writes
 entry_taken item (Some place) writes = put key_cmp (entry_key place item) None writes
 
--- .. and where it is to lie at this one, if at one
+-- .. and if it is to be at this one, or at none
 abbrev pub item_put : Key → Option Key → Writes → Writes
 item_put item None writes = writes
 item_put item (Some place) writes = put key_cmp item (Some place) writes

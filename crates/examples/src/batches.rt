@@ -12,8 +12,8 @@ use std::alloc::Global;
 // How many pairs a batch has at most.
 const BATCH_SIZE: usize = 100;
 
-/// Puts these pairs into a tree, one after the other, a hundred in a batch. A crash leaves the pairs of a beginning of the batches, also
-/// where one is refused.
+/// Puts these pairs into a tree, one after the other, a hundred in a batch. A crash leaves the pairs of a beginning of the batches, also if
+/// one is refused.
 pub fn load<P: Pages, M: MergeOperator>(
     db: &mut Db<P, M>,
     tree: &Tree,

@@ -8,8 +8,8 @@ use sled_model::MergeOperator;
 use sled_nodes::Result;
 use sled_store::Pages;
 
-/// Imports what an export of the first database gives into the second. Where the trees of the second held nothing, each tree of the
-/// first is there then, with the same map. The second loses nothing, also where this is refused midway: what was copied so far stays.
+/// Imports what an export of the first database gives into the second. If the trees of the second held nothing, each tree of the first
+/// is there then, with the same map. The second loses nothing, even if this is refused midway: what was copied so far stays.
 pub fn copy_all<P: Pages, M: MergeOperator, Q: Pages, N: MergeOperator>(
     first: &Db<P, M>,
     second: &mut Db<Q, N>,

@@ -1,5 +1,5 @@
 //! Counters in a tree of a database: numbers that are added to by merges, and tickets that rise by one. A number is eight bytes,
-//! the highest first; what stands at a name and is of another length counts as 0, and so does a name where nothing stands.
+//! the highest first; what is at a name and is of another length counts as 0, and so does a name without a value.
 ghost use Rattle.std.specs.Prelude.{◌≡◌, Some, IfOk, OnOk, OnErr};
 ghost use Rattle.std.specs.Option.{option_map, option_copied};
 ghost use Rattle.example_parts.specs.Counters.{bytes_of_sum, counter_in, sum_of};
@@ -13,7 +13,7 @@ use sled_nodes::Result;
 use sled_store::Pages;
 use std::alloc::{AllocError, Global};
 
-/// Adds a number to a counter of the tree, which has the operator that adds. Refused, all counters stand as before.
+/// Adds a number to a counter of the tree, which has the operator that adds. Refused, all counters are as before.
 pub fn add_to_counter<P: Pages>(
     db: &mut Db<P, Adds>,
     tree: &Tree,
@@ -31,7 +31,7 @@ pub fn add_to_counter<P: Pages>(
     Ok(())
 }
 
-/// The number at which a counter of the tree stands.
+/// The number of a counter of the tree.
 pub fn count<P: Pages, M: MergeOperator>(db: &Db<P, M>, tree: &Tree, name: &[u8]) -> Result<u64>
     ensures { IfOk result (λ n. n ≡ counter_in (maps_now P.store M.meant db.now) tree.now.name name.now) }
 {
@@ -44,14 +44,14 @@ pub fn count<P: Pages, M: MergeOperator>(db: &Db<P, M>, tree: &Tree, name: &[u8]
     Ok(n)
 }
 
-// What is one above the number that stands.
+// The number one above the one that is there.
 fn one_more(alloc: Global, stood: Option<&[u8]>) -> std::result::Result<Option<Vec<u8>>, AllocError>
     ensures { IfOk result (λ made. option_map (λ v. v.items) made ≡ Some (bytes_of_sum (option_copied stood.entry) 1)) }
 {
     Ok(Some(add_to(alloc, stood, 1)?))
 }
 
-/// Raises the number at a name by one, and answers it: the next ticket. Refused, all numbers stand as before.
+/// Raises the number at a name by one, and answers it: the next ticket. Refused, all numbers are as before.
 pub fn next_ticket<P: Pages, M: MergeOperator>(
     db: &mut Db<P, M>,
     tree: &Tree,

@@ -1,5 +1,5 @@
-//! An index in memory of the entries of a tree by how their keys end, which follows the tree by its events, and begins anew where it
-//! missed some. A tree finds keys by how they begin; this finds files by their extension, or hosts by their domain.
+//! An index in memory of the entries of a tree by how their keys end, which follows the tree by its events, and begins anew if it missed
+//! some. A tree finds keys by how they begin; this finds files by their extension, or hosts by their domain.
 ghost use Rattle.std.specs.Prelude.{◌≡◌, ◌++◌, ◌∷◌, [], false, reverse, IfOk, IfErr, OnOk, OnErr};
 ghost use Rattle.sled_nodes.specs.Order.{Key};
 ghost use Rattle.sled_nodes.specs.declared.error.Error.TheVariants.{NoMemory};
@@ -197,7 +197,7 @@ pub struct Endings {
     entries: BTreeMap<IVec, IVec>,
     // An event that was taken, and that there was no memory for yet.
     late: Option<Event>,
-    // Whether it was told that it missed events.
+    // Whether it learned that it missed events.
     is_lost: bool,
 }
 
@@ -259,7 +259,7 @@ impl Endings {
         }
     }
 
-    /// Whether it was told that it missed events: its entries are not those of the tree until it begins anew.
+    /// Whether it learned that it missed events: its entries are not those of the tree until it begins anew.
     pub fn is_lost(&self) -> bool
         ensures { result ≡ self.now.is_lost }
     {
@@ -277,7 +277,7 @@ impl Endings {
         db.next(&self.subscriber)
     }
 
-    // Changes the entries by an event, which stays late where there is no memory for it.
+    // Changes the entries by an event, which stays late if there is no memory for it.
     fn take_in(&mut self, alloc: Global, event: Event) -> Result<()>
         ensures ok { OnOk result (HasSame self.new.entries (after_event event self.old.entries) × (self.new ≡ record self.old { entries = self.new.entries })) }
         ensures err { IfErr result (λ e. (e ≡ NoMemory) × (self.new ≡ record self.old { late = Some event })) }
@@ -318,8 +318,8 @@ impl Endings {
     }
 
     /// Takes the events that wait, so many at most, and changes the index by each, in order. It answers how far the index came: up
-    /// to date with its tree where none waits any more, or lost where it missed some. Refused with `NoMemory` alone; then it has
-    /// changed by the first of them, and the next call goes on from there.
+    /// to date with its tree if none waits any more, or lost if it missed some. Refused with `NoMemory` alone; then it has changed
+    /// by the first of them, and the next call goes on from there.
     pub fn catch_up<P: Pages, M: MergeOperator>(
         &mut self,
         db: &mut Db<P, M>,
@@ -357,7 +357,7 @@ impl Endings {
         }
     }
 
-    // Takes all events that wait, or begins anew where some were missed.
+    // Takes all events that wait, or begins anew if some were missed.
     fn follow<P: Pages, M: MergeOperator>(&mut self, db: &mut Db<P, M>) -> Result<()>
         ensures ok { OnOk result (IsIndex (db_state P.store M.meant db.old) self.old → IsUpToDate (db_state P.store M.meant db.new) self.new) }
         ensures stays { StaysIndex (db_state P.store M.meant db.old) self.old (db_state P.store M.meant db.new) self.new }
@@ -380,7 +380,7 @@ impl Endings {
     }
 
     /// The entries of the tree now whose keys end so, in the order of their keys read from the end. The index takes all events that wait,
-    /// and begins anew first where it missed some. Refused with `NoMemory` alone where it missed none; then it is an index of its
+    /// and begins anew first if it missed some. Refused with `NoMemory` alone if it missed none; then it is an index of its
     /// tree still, and the next call goes on from there.
     pub fn find<P: Pages, M: MergeOperator>(
         &mut self,
@@ -436,8 +436,8 @@ impl Endings {
     }
 }
 
-/// Does nothing. An index stays one of its tree whatever happens elsewhere, as long as its subscriber is not ended and nobody else
-/// takes its events, and as long as there is room for those that come it misses none. What happens is told by turns: `law_turns` and
+/// Does nothing. An index stays one of its tree whatever happens elsewhere, as long as its subscriber is not ended and no other program
+/// takes its events, and as long as there is room for those that come it misses none. What happens is stated by turns: `law_turns` and
 /// `law_trees` of `sled_queues` have those of each step of a machine.
 pub fn law_still_follows()
     ensures { StillFollowsLaw }

@@ -1,4 +1,4 @@
-//! A queue of work in a tree of a database. Each job stands at a ticket; tickets rise, so the oldest job has the least.
+//! A queue of work in a tree of a database. Each job is at a ticket; tickets rise, so the oldest job has the least.
 ghost use Rattle.std.specs.Prelude.{◌≡◌, IfOk, OnOk, OnErr};
 ghost use Rattle.examples.specs.Queue.{Adds, Takes, waiting};
 
@@ -25,7 +25,7 @@ pub fn add<P: Pages, M: MergeOperator>(
     Ok(())
 }
 
-/// Takes the oldest job out, and answers its ticket and the job; or `None`, where none waits. Refused, the queue is as before.
+/// Takes the oldest job out, and answers its ticket and the job; or `None`, if none waits. Refused, the queue is as before.
 pub fn take<P: Pages, M: MergeOperator>(
     db: &mut Db<P, M>,
     queue: &Tree,

@@ -1,5 +1,5 @@
 //! A stock in two trees: a table that has the place of each item, and an index that has the items of each place. Each change is a group
-//! over both, so that they agree after every call and after every crash, also where a change is refused midway.
+//! over both, so that they agree after every call and after every crash, even if a change is refused midway.
 ghost use Rattle.std.specs.Prelude.{◌≡◌, ◌≢◌, false, [], ◌∷◌, IfOk, OnOk, OnErr};
 ghost use Rattle.std.specs.Option.{option_copied};
 ghost use Rattle.sled_nodes.specs.Order.{Key};
@@ -45,7 +45,7 @@ pub fn new_stock<M: MergeOperator>(alloc: Global, name: &[u8]) -> Result<Db<MemP
     open_stock(alloc, empty_pages(alloc), name)
 }
 
-/// Opens the tree of a name, which is empty where the name is new. Two trees that agree do so still, whether this is refused or not.
+/// Opens the tree of a name, which is empty if the name is new. Two trees that agree do so still, whether this is refused or not.
 pub fn open_part<P: Pages, M: MergeOperator>(db: &mut Db<P, M>, name: &[u8]) -> Result<Tree>
     ensures { (table index : Key) → Agrees (P.store db.old.pages) table index → Agrees (P.store db.new.pages) table index }
 {
@@ -56,8 +56,8 @@ pub fn open_part<P: Pages, M: MergeOperator>(db: &mut Db<P, M>, name: &[u8]) -> 
     }
 }
 
-/// Puts an item at a place, and answers where it lay. Refused, it lies where it lay, or the database is closed: then it lies there again
-/// in what `recover_stock` makes of it, where all actions are kept.
+/// Puts an item at a place, and answers where it was. Refused, it is where it was, or the database is closed: then it is there again in
+/// what `recover_stock` makes of it, if all actions are kept.
 pub fn put_item<P: Pages, M: MergeOperator>(
     db: &mut Db<P, M>,
     table: &Tree,
@@ -71,7 +71,7 @@ pub fn put_item<P: Pages, M: MergeOperator>(
     change(db, table, index, item, Some(place))
 }
 
-/// Takes an item out of the stock, and answers where it lay. Refused as `put_item`.
+/// Takes an item out of the stock, and answers where it was. Refused as `put_item`.
 pub fn take_item<P: Pages, M: MergeOperator>(
     db: &mut Db<P, M>,
     table: &Tree,
@@ -99,7 +99,7 @@ pub fn recover_stock<M: MergeOperator>(
     open_stock(alloc, left, name)
 }
 
-// Moves an item from where it lies to a place, or to none.
+// Moves an item from its place to a place, or to none.
 fn change<P: Pages, M: MergeOperator>(
     db: &mut Db<P, M>,
     table: &Tree,
@@ -171,7 +171,7 @@ fn group_of(
     }
 }
 
-// Takes the item from where it lies, and then puts it where it is to lie.
+// Takes the item from its place, and then puts it where it is to be.
 fn write_change(
     alloc: Global,
     items: &mut Batch,

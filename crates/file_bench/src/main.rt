@@ -2,11 +2,11 @@
 //!
 //!     file_bench FOLDER PAIRS SEED SHORTEST LONGEST FLUSH WORKLOAD..
 //!
-//! Each workload opens the database in the folder, and lets go of it. They are `load`, which inserts so many pairs and flushes after each
-//! FLUSH of them, and at the end; and `scan`, which reads all pairs. Keys are 8 bytes that look random, and values have SHORTEST to LONGEST
+//! Each workload opens the database in the folder, and drops it. They are `load`, which inserts so many pairs and flushes after each FLUSH
+//! of them, and at the end; and `scan`, which reads all pairs. Keys are 8 bytes that look random, and values have SHORTEST to LONGEST
 //! bytes. Each workload prints its name, how many calls it made and a checksum of their answers. On standard error it prints `open` and the
 //! time that the opening took, and then its name and the time that it took, both in microseconds of the clock. The status is 1 for other
-//! words, and where anything failed.
+//! words, and if anything failed.
 #![tactic(auto)]
 
 mod pairs;
@@ -34,7 +34,7 @@ struct Work<'a> {
     flush: u64,
 }
 
-// Inserts a pair: what stands for the value that its key had.
+// Inserts a pair: the value that its key had, as a number of a checksum.
 fn insert(db: &mut Files, tree: &Tree, pairs: &Pairs, place: u64) -> Result<u64> {
     let old = db.insert(tree, &pairs.key(place), pairs.value(place))?;
     let sum = digest(old.as_ref().map(|old| old.as_ref()));
@@ -86,7 +86,7 @@ fn tell_time(rt: &HostRuntime, name: &str, start: Instant) -> io::Result<()> {
     eprintln!(rt; "{name} {time}")
 }
 
-// Prints what a workload came to and how long it took.
+// Prints the checksum of a workload and how long it took.
 fn tell(rt: &HostRuntime, db: &mut Files, work: &Work<'_>, name: &str) -> io::Result<()> {
     let start = Instant::now(rt)?;
     match run(db, work, name) {

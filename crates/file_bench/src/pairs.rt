@@ -53,7 +53,7 @@ impl Pairs {
     }
 }
 
-/// What stands for a value in a checksum: how long it is, and its first bytes.
+/// A value as a number of a checksum: how long it is, and its first bytes.
 pub fn digest(value: Option<&[u8]>) -> u64 {
     let Some(bytes) = value else {
         return 1 << 63;

@@ -13,7 +13,7 @@ fn new_store(alloc: Global) -> Option<FilePages<MemoryDisk>> {
     FilePages::open(alloc, first, second).ok()
 }
 
-// Tells the figures of a store after a call.
+// Prints the figures of a store after a call.
 fn tell_stats(report: &Report, words: &str, store: &FilePages<MemoryDisk>) {
     let stats = store.stats();
     report.tell(format_args!(

@@ -39,7 +39,7 @@ fn files(
     Ok(TwoFiles::new(alloc, first, second, false, gate, 0, generation))
 }
 
-// Tells how long the log is after each of some calls, and whether a disk refused one.
+// Prints how long the log is after each of some calls, and whether a disk refused one.
 fn tell_calls(report: &Report, words: &str, files: Result<TwoFiles<MemoryDisk>>) {
     match files {
         Ok(mut files) => {
@@ -64,7 +64,7 @@ fn tell_calls(report: &Report, words: &str, files: Result<TwoFiles<MemoryDisk>>)
     }
 }
 
-// Tells the generation of two files, and how long each is.
+// Prints the generation of two files, and how long each is.
 fn tell_disks(report: &Report, words: &str, files: Result<TwoFiles<MemoryDisk>>) {
     match files {
         Ok(files) => {

@@ -4,7 +4,7 @@ use sled_log::{append, block_of, digest_of, read_all, read_log};
 use std::alloc::Global;
 use test_report::Report;
 
-// A log of nothing, to which a block is added, where the call of the disk with this number is refused.
+// A log of nothing, to which a block is added, while the call of the disk with this number is refused.
 fn appended(alloc: Global, refused: u64) -> Result<MemoryDisk> {
     let mut disk = MemoryDisk::new(alloc, [0].to_vec(alloc)?)?;
     disk.refuse_at(&[refused])?;
@@ -26,7 +26,7 @@ fn two_blocks(alloc: Global) -> Result<Vec<u8>> {
     Ok(bytes)
 }
 
-// Tells what a log is read as.
+// Prints what a log is read as.
 fn tell_log(report: &Report, words: &str, bytes: &[u8]) {
     match read_log(report.alloc(), bytes) {
         Ok(log) => {
@@ -40,7 +40,7 @@ fn tell_log(report: &Report, words: &str, bytes: &[u8]) {
     }
 }
 
-// Tells what a disk is read as.
+// Prints what a disk is read as.
 fn tell_disk(report: &Report, words: &str, disk: Result<MemoryDisk>) {
     match disk {
         Ok(mut disk) => {
@@ -54,14 +54,14 @@ fn tell_disk(report: &Report, words: &str, disk: Result<MemoryDisk>) {
     }
 }
 
-// Tells what a beginning of a log is read as.
+// Prints what a beginning of a log is read as.
 fn tell_front(report: &Report, words: &str, bytes: &[u8], count: usize) {
     if let Some(front) = bytes.get(..count) {
         tell_log(report, words, front);
     }
 }
 
-// Tells what a log is read as that has another byte at a place.
+// Prints what a log is read as that has another byte at a place.
 fn tell_decayed(report: &Report, words: &str, bytes: &mut [u8], at: usize, byte: u8) {
     if let Some(place) = bytes.get_mut(at) {
         *place = byte;
@@ -69,7 +69,7 @@ fn tell_decayed(report: &Report, words: &str, bytes: &mut [u8], at: usize, byte:
     tell_log(report, words, bytes);
 }
 
-// Tells of two blocks.
+// Prints two blocks.
 fn tell_blocks(report: &Report, bytes: &mut [u8]) {
     tell_log(report, "two blocks", bytes);
     tell_front(report, "no gate at the end", bytes, 36);

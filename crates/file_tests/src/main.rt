@@ -1,5 +1,5 @@
 //! What is tested of files: crashes of a disk in memory whose outcome numbers choose, calls of it that are refused, and blocks that
-//! are added to a log. It prints what came of each case; `stdout` has what should have come.
+//! are added to a log. It prints the outcome of each case; `stdout` has the expected ones.
 #![tactic(auto)]
 
 mod compactions;

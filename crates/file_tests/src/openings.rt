@@ -1,4 +1,4 @@
-//! Two files are opened as a store, or told why not.
+//! Two files are opened as a store, or the program prints why not.
 use sled_disk::{MemoryDisk, Result};
 use sled_files::{FilePages, NotOpened, begin_file};
 use sled_log::{append, block_of};
@@ -76,7 +76,7 @@ fn unlimited(alloc: Global) -> Result<Vec<u8>> {
     Ok(out)
 }
 
-// Tells what two files are opened to.
+// Prints what two files are opened as.
 fn tell_opening(
     report: &Report,
     words: &str,
@@ -141,7 +141,7 @@ fn tell_twice(report: &Report, first: MemoryDisk, second: MemoryDisk) {
     }
 }
 
-// Tells of files with these changes.
+// Prints files with these changes.
 fn tell_files(report: &Report, changes: &[u8]) {
     let alloc = report.alloc();
     tell_changes(report, "one file", changes);

@@ -1,5 +1,5 @@
 //! The two files of a store, as the operating system keeps them. What was written is read at the next opening, and a file is read until it
-//! is changed. A store is opened once, and what is no store is refused. It prints what came of each; `stdout` has what should have come.
+//! is changed. A store is opened once, and what is no store is refused. It prints the outcome of each; `stdout` has the expected ones.
 #![tactic(auto)]
 
 mod act;
@@ -33,14 +33,14 @@ fn word_of(opened: &Result<Pair, HostError>) -> &'static str {
     }
 }
 
-// Prints how an opening comes out. The files are let go.
+// Prints the outcome of an opening. The files are dropped.
 fn tell_opening(rt: &HostRuntime, path: &str, opening: Opening) {
     let opened = open_pair(rt, path, opening);
     let _ = println!(rt; "{path}: {}", word_of(&opened));
     drop(opened);
 }
 
-// Opens a store, does this with its first file one after the other, prints how many bytes the second has, and lets both files go.
+// Opens a store, does this with its first file one after the other, prints how many bytes the second has, and drops both files.
 fn act_on(rt: &HostRuntime, path: &str, opening: Opening, acts: &[Act<'_>]) {
     let mut opened = open_pair(rt, path, opening);
     let _ = println!(rt; "{path}: {}", word_of(&opened));

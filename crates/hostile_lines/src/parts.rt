@@ -10,7 +10,7 @@ use sled_nodes::Result;
 pub struct Part<'a> {
     // The word that its line begins with.
     word: &'a [u8],
-    // What names the tree of an import; empty where a pair is taken out.
+    // What names the tree of an import; empty if a pair is taken out.
     tree: &'a [u8],
     // The pair that is put in; else empty.
     pair: &'a [u8],
@@ -30,7 +30,7 @@ impl<'a> Part<'a> {
         }
     }
 
-    /// The first part of a line; `None` where it is made as a whole.
+    /// The first part of a line; `None` if it is made as a whole.
     pub fn first(line: &'a [u8]) -> Option<Part<'a>> {
         if line == b"clear".as_slice() {
             return Some(Part::opening(b"pop-min", b""));
@@ -47,7 +47,7 @@ impl<'a> Part<'a> {
         }
     }
 
-    /// The part behind this one, if there is one. Behind a pair that was taken out another one may stand.
+    /// The part behind this one, if there is one. Behind a pair that was taken out there may be another one.
     pub fn next(&self) -> Option<Part<'a>> {
         if self.tree.is_empty() {
             return Some(*self);
@@ -85,7 +85,7 @@ impl<'a> Part<'a> {
     }
 }
 
-// How many words name the tree of an import; none where the word is no import.
+// How many words name the tree of an import; none if the word is no import.
 fn names_of(word: &[u8]) -> usize {
     if word == b"import".as_slice() {
         1
@@ -101,7 +101,7 @@ fn is_of_parts(word: &[u8]) -> bool {
     word == b"import-all".as_slice()
 }
 
-// So many words that a text begins with, and what stands behind them, if there is something.
+// So many words that a text begins with, and what is behind them, if there is something.
 fn first_words(text: &[u8], count: usize) -> (&[u8], Option<&[u8]>) {
     let mut left = count;
     for (at, byte) in text.iter().enumerate() {
@@ -116,7 +116,7 @@ fn first_words(text: &[u8], count: usize) -> (&[u8], Option<&[u8]>) {
     (text, None)
 }
 
-// Whether each part is of the type `tree`, written so. An import tests that first, and does nothing else where one is not.
+// Whether each part is of the type `tree`, written so. An import tests that first, and does nothing else if one is not.
 fn are_trees(words: &[u8]) -> bool {
     let mut begins = true;
     for word in words.split(|byte| *byte == b' ') {

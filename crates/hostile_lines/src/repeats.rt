@@ -37,7 +37,7 @@ enum Asked {
     End,
 }
 
-// What a line came to.
+// The outcome of a line.
 #[derive(Clone, Copy)]
 enum Answer {
     Made,
@@ -54,7 +54,7 @@ pub fn is_end(byte: &u8) -> bool {
     *byte == b'\n'
 }
 
-// What a line came to that printed this.
+// The outcome of a line that printed this.
 fn answer_of(printed: &[u8]) -> Answer {
     for line in printed.split(is_end) {
         if line == b"refused E4".as_slice() {
@@ -75,7 +75,7 @@ fn answer_of(printed: &[u8]) -> Answer {
 pub struct Seen {
     /// Whether each line could be read.
     pub is_good: bool,
-    /// Whether a line was told of the call that the store refused.
+    /// Whether a line learned of the call that the store refused.
     pub is_told: bool,
     /// Whether the call to be refused is the one behind all that were made.
     pub is_beyond: bool,
@@ -92,7 +92,7 @@ pub struct Repeats<'a> {
     // The line that is being made, and the last one that made a tree current.
     line: &'a [u8],
     tree: Option<&'a [u8]>,
-    // The part of the line that is made; none where it is made as a whole.
+    // The part of the line that is made; none if it is made as a whole.
     part: Option<Part<'a>>,
     asked: Asked,
     // Whether the line is made again, and whether the store was recovered for it.
@@ -136,7 +136,7 @@ impl<'a> Repeats<'a> {
         Asked::Line
     }
 
-    // Goes on to the next line of the text; where there is none, to what comes behind them.
+    // Goes on to the next line of the text; if there is none, to what comes behind them.
     fn ask_next(&mut self) -> Asked {
         self.is_again = false;
         self.is_recovered = false;
@@ -153,8 +153,7 @@ impl<'a> Repeats<'a> {
         self.ask_line()
     }
 
-    // What is asked for behind what came to this. A line that is refused is made again once, and once more where the store had to be
-    // recovered.
+    // What is asked for after this outcome. A line that is refused is made again once, and once more if the store had to be recovered.
     fn ask(&mut self, answer: Answer) -> Asked {
         match (self.asked, answer) {
             (Asked::Nothing, _) => Asked::New,
@@ -245,7 +244,7 @@ impl<'a> Repeats<'a> {
     }
 }
 
-// A text up to its first line end, and what stands behind it, if there is something.
+// A text up to its first line end, and what is behind it, if there is something.
 fn cut(text: &[u8]) -> (&[u8], Option<&[u8]>) {
     for (at, byte) in text.iter().enumerate() {
         if is_end(byte) {

@@ -66,7 +66,7 @@ fn flushed(printed: &[u8]) -> u64 {
     }
 }
 
-// A text of dumps up to the end of its first one, and what stands behind it. The last line of a dump begins with `end`.
+// A text of dumps up to the end of its first one, and what is behind it. The last line of a dump begins with `end`.
 fn first_dump(text: &[u8]) -> (&[u8], &[u8]) {
     let mut is_last = text.starts_with(b"end ");
     for (at, byte) in text.iter().enumerate() {
@@ -82,7 +82,7 @@ fn first_dump(text: &[u8]) -> (&[u8], &[u8]) {
     (text, b"")
 }
 
-// The dumps from the one on that a crash left which printed this; none where it left none of them.
+// The dumps from the one on that a crash left which printed this; none if it left none of them.
 fn dumps_from<'a>(dumps: &'a [u8], printed: &[u8]) -> Option<&'a [u8]> {
     let dump = printed.strip_prefix(WELL)?;
     let mut rest = dumps;
@@ -107,7 +107,7 @@ fn tell_lost(out: &mut Told, keep: u64, printed: &[u8]) -> Result<()> {
     tell_difference(out, b"crash ", keep, printed, WELL)
 }
 
-// Adds what so many crashes came to, where a crash that kept all actions left the first of these dumps.
+// Adds the outcome of so many crashes, if a crash that kept all actions left the first of these dumps.
 fn tell_last(out: &mut Told, dumps: &[u8], actions: u64) -> Result<()> {
     let (dump, others) = first_dump(dumps);
     if others.is_empty() || others.ends_with(dump) {
@@ -145,7 +145,7 @@ impl<P: Sessions> Runs<'_, P> {
         })
     }
 
-    // Refuses each call in turn, up to the first that is not made, and adds what that came to.
+    // Refuses each call in turn, up to the first that is not made, and adds the outcome.
     fn tell_refusals(&mut self, wanted: &[u8], out: &mut Told) -> Result<()> {
         let mut refused: u64 = 0;
         for call in 1..u64::MAX {
@@ -161,7 +161,7 @@ impl<P: Sessions> Runs<'_, P> {
         Ok(())
     }
 
-    // Has a crash keep each number of actions in turn, and adds what that came to. The dumps are those after each line.
+    // Has a crash keep each number of actions in turn, and adds the outcome. The dumps are those after each line.
     fn tell_crashes(&mut self, dumps: &[u8], actions: u64, out: &mut Told) -> Result<()> {
         let mut rest = dumps;
         for keep in 0..actions.saturating_add(1) {
@@ -190,7 +190,7 @@ impl<P: Sessions> Runs<'_, P> {
         })
     }
 
-    // Takes down what the lines should come to, and runs them again and again.
+    // Notes the outcome that the lines should have, and runs them again and again.
     fn sweep(&mut self, sweep: Sweep, wanted: &mut Vec<u8>, out: &mut Told) -> Result<()> {
         let actions = flushed(self.printed.as_slice());
         if let Sweep::Crashes = sweep {
@@ -203,7 +203,7 @@ impl<P: Sessions> Runs<'_, P> {
         }
     }
 
-    // Runs the lines again and again, and adds what that came to; or why it cannot be done.
+    // Runs the lines again and again, and adds the outcome; or why it cannot be done.
     fn tell_all(&mut self, sweep: Sweep, out: &mut Told, why: &mut Vec<u8>) -> Result<()> {
         if let Some(said) = self.begin(sweep)? {
             return answered(push_text(why, said.as_bytes()));
@@ -215,7 +215,7 @@ impl<P: Sessions> Runs<'_, P> {
     }
 }
 
-/// Runs lines again and again, and adds what that came to; or why it cannot be done.
+/// Runs lines again and again, and adds the outcome; or why it cannot be done.
 pub fn tell_sweep<P: Sessions>(
     alloc: Global,
     sessions: &P,

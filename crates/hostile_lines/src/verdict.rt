@@ -1,4 +1,4 @@
-//! What is told of pages that were checked.
+//! What is printed of pages that were checked.
 
 use line_words::input::Stopped;
 use shell_words::tell::{Result, Told, tell_numbered, tell_refused};

@@ -1,5 +1,5 @@
-//! Files of lines, and what they are expected to print. The programs that tests are made of stand on this: each reads lines,
-//! and says by a `Program` how it runs them.
+//! Files of lines, and what they are expected to print. The test programs are built on this: each reads lines, and says by a
+//! `Program` how it runs them.
 #![tactic(auto)]
 
 use sled_nodes::{Error, Result};
@@ -9,11 +9,11 @@ use std::io::{self, ErrorKind, Write};
 
 /// A program whose files of lines are checked.
 pub trait Program {
-    /// Runs lines from a fresh start, and adds what they print. Refused with `NoMemory`, or where the bytes are no lines.
+    /// Runs lines from a fresh start, and adds what they print. Refused with `NoMemory`, or if the bytes are no lines.
     fn run(&self, alloc: Global, lines: &[u8], printed: &mut Vec<u8>) -> Result<()>;
 }
 
-// The bytes of the file of this name and ending, or `None` where it is missing.
+// The bytes of the file of this name and ending, or `None` if it is missing.
 fn bytes_of(rt: &HostRuntime, name: &str, ending: &str) -> io::Result<Option<Vec<u8>>> {
     let path = format!(in rt.alloc(); "{name}{ending}")?;
     match fs::read(rt, path.as_str()) {
@@ -92,7 +92,7 @@ fn compare<W: Write>(
     }
 }
 
-// What is told where lines could not be run.
+// What is printed if lines could not be run.
 fn refused(error: Error) -> io::Error {
     let kind = match &error {
         Error::NoMemory => ErrorKind::OutOfMemory,
@@ -102,7 +102,7 @@ fn refused(error: Error) -> io::Error {
     io::Error::from(kind)
 }
 
-// Runs the file of lines of a name: whether it prints what is expected, which is told.
+// Runs the file of lines of a name: whether it prints what is expected, which is printed too.
 fn check_name<P: Program, W: Write>(
     rt: &HostRuntime,
     program: &P,
@@ -120,7 +120,7 @@ fn check_name<P: Program, W: Write>(
 }
 
 /// Runs the file NAME.lines of each name from a fresh start, and compares what it prints with the file NAME.expected: whether
-/// all print what is expected. It writes a line for each name, with the first line that differs where one does.
+/// all print what is expected. It writes a line for each name, with the first line that differs if one does.
 pub fn check<P: Program, W: Write>(
     rt: &HostRuntime,
     program: &P,

@@ -5,7 +5,7 @@ use Rattle.sled_nodes.specs.Order.{Key, key_cmp}
 use Rattle.sled_batch.specs.Batch.{Writes}
 use Rattle.line_words.specs.Words.{read_word, read_value}
 
--- these writes, and one more of a key, if there is one: it is to have a value, or none. Of a key the last write stands
+-- these writes, and one more of a key, if there is one: it is to have a value, or none. Of a key the last write counts
 abbrev pub write_after : Writes → Option Key → Option (Option Key) → Option Writes
 write_after before (Some key) (Some value) = Some (put key_cmp key value before)
 write_after before key value = None

@@ -35,8 +35,8 @@ piece_text (piece.Text text) = text.now
 piece_text (piece.Number n) = decimal n
 piece_text (piece.Word bytes) = printed bytes.now
 
--- a get shows the value that stands and a merge the new one, an insert and a removal the one that stood; a swap and a scan reply no such
--- value
+-- a get shows the value that is there and a merge the new one, an insert and a removal the one that was there; a swap and a scan reply no
+-- such value
 abbrev pub shown_of : Call → Shown
 shown_of (Get key) = shown.Value
 shown_of (Insert key value) = shown.Old
@@ -68,7 +68,7 @@ abbrev pub number_name_of : Shown → List ℕ
 number_name_of shown.Number = codes "number "
 number_name_of show = codes "flushed "
 
--- a value that was not swapped: the one that stands, and the one that was to be set
+-- a value that was not swapped: the one that is there, and the one that was to be set
 abbrev pub conflict_line : CompareAndSwapError → List ℕ
 conflict_line conflict = codes "conflict " ++ word_of conflict.current ++ codes " " ++ word_of conflict.proposed ++ end
 
@@ -86,7 +86,7 @@ abbrev pub event_line : Event → List ℕ
 event_line (event.Insert key value) = codes "event insert " ++ printed key ++ codes " " ++ printed value ++ end
 event_line (event.Remove key) = codes "event remove " ++ printed key ++ end
 
--- what a subscriber was told: nothing, an event, or how many it missed
+-- what a subscriber got: nothing, an event, or how many it missed
 abbrev pub next_line : Option Next → List ℕ
 next_line None = codes "event -" ++ end
 next_line (Some (told.Event taken)) = event_line taken
@@ -153,6 +153,6 @@ recovered_line = codes "recovered" ++ end
 abbrev pub bad_line : ℕ → List ℕ
 bad_line n = codes "bad line " ++ decimal n ++ end
 
--- These bytes came behind those that a writer holds and those gathered for it, where the former are known
+-- These bytes came behind those that a writer holds and those gathered for it, if the former are known
 pub record Prints (held : Option (List ℕ)) (gathered : List ℕ) (held_then : Option (List ℕ)) (gathered_then : List ℕ) (bytes : List ℕ) : Type 0 where
   pub is : Appends (append_known held gathered) (append_known held_then gathered_then) bytes

@@ -1,4 +1,4 @@
--- Words: how the byte strings, the numbers and the words themselves stand in a line.
+-- Words: how the byte strings, the numbers and the words themselves are written in a line.
 use Rattle.std.specs.Prelude.{◌≡◌, ◌≤◌, ℕ, ◌+◌, ◌-◌, ◌*◌, ◌/◌, ◌%◌, ◌^◌, ◌<◌, ◌==◌, ◌&&◌, ◌||◌, not, nat_lt, nat_le, Bool, List, [], ◌∷◌, length, decimal, Option, Some, None, IfSome, option_map, if◌then◌else◌}
 use Rattle.std.specs.Borrow.{Bor}
 use Rattle.std.specs.List.{flat_map, slice_split, AllByRecursion}
@@ -82,7 +82,7 @@ AreBytes bytes = AllByRecursion (λ b. b < 256) bytes
 abbrev pub number_of : List ℕ → Option ℕ
 number_of digits = if all_ascii_digits digits && nat_lt (digits_value 10 digits) (2 ^ 64) then Some (digits_value 10 digits) else None
 
--- the number of a word, if it is one: no word is empty, and no zero stands before another digit
+-- the number of a word, if it is one: no word is empty, and no zero is before another digit
 abbrev pub read_number : List ℕ → Option ℕ
 read_number [] = None
 read_number (digit ∷ []) = number_of (digit ∷ [])
@@ -92,7 +92,7 @@ read_number (digit ∷ next ∷ others) = if digit == 48 then None else number_o
 abbrev pub words_of : List ℕ → List (List ℕ)
 words_of line = slice_split (λ b. b == 32) line
 
--- the words of what stands after a space, if there is one
+-- the words of what is after a space, if there is one
 abbrev pub words_after : Option (Bor (List ℕ)) → List (List ℕ)
 words_after None = []
 words_after (Some rest) = words_of rest.now

@@ -63,8 +63,8 @@ fn add_writes(alloc: Global, batch: &mut Batch, words: Option<&[u8]>) -> Result<
     Ok(true)
 }
 
-/// The batch of words that are a key and its value in turn, where `-` removes the key; `None` where they are not. Of a key the last
-/// write stands. Refused with `NoMemory` alone.
+/// The batch of words that are a key and its value in turn, in which `-` removes the key; `None` if they are not. Of a key the last
+/// write counts. Refused with `NoMemory` alone.
 pub fn read_batch(alloc: Global, words: Option<&[u8]>) -> Result<Option<Batch>>
     ensures ok { IfOk result (λ batch. batch ≡ batch_of (words_after words.entry)) }
     ensures err { IfErr result (λ e. e ≡ NoMemory) }

@@ -35,7 +35,7 @@ pub enum Command {
     Crash(u64),
     /// All pairs.
     Dump,
-    /// The tree of a name becomes the current one. It is made where there is none.
+    /// The tree of a name becomes the current one. It is made if there is none.
     OpenTree(IVec),
 }
 
@@ -283,7 +283,7 @@ fn number_of(arguments: Option<&[u8]>) -> Option<u64>
     }
 }
 
-// A command, where it has no arguments.
+// A command, if it has no arguments.
 fn alone(command: Command, arguments: Option<&[u8]>) -> Option<Command>
     ensures { result ≡ alone command (words_after arguments.entry) }
 {

@@ -59,7 +59,7 @@ fn whole_lines(bytes: &[u8]) -> usize
     end
 }
 
-// Looks at what the reader holds; where that is nothing it reads.
+// Looks at what the reader holds; if that is nothing it reads.
 fn look<R: BufRead>(input: &mut R) -> io::Result<Held>
     ensures same { Keeps (R.remaining input.old) (R.remaining input.new) }
     ensures end { IfOk result (λ held. held.at_end ≡ true → IsAtEnd (R.remaining input.old)) }
@@ -77,7 +77,7 @@ fn look<R: BufRead>(input: &mut R) -> io::Result<Held>
     }
 }
 
-// Whether the input ends here. Where no whole line is held a read may wait, so the output is flushed first.
+// Whether the input ends here. If no whole line is held a read may wait, so the output is flushed first.
 fn is_at_end<R: BufRead, W: Write>(
     input: &mut R,
     output: &mut W,
@@ -96,7 +96,7 @@ fn is_at_end<R: BufRead, W: Write>(
     Ok(held.at_end)
 }
 
-// How many bytes there are up to the first line end, or in all, and whether the line ends behind them: so it does where there are none.
+// How many bytes there are up to the first line end, or in all, and whether the line ends behind them: so it does if there are none.
 fn up_to_end(bytes: &[u8]) -> (usize, bool)
     ensures within { result.0 ≤ length bytes.now }
     ensures part { is_part (take result.0 bytes.now) result.1 }
@@ -123,7 +123,7 @@ fn copy_part<R: BufRead>(input: &mut R, line: &mut Vec<u8>) -> Result<bool, Stop
     Ok(ends)
 }
 
-// Copies the next line with the byte that ends it, and goes past it. Out of line, since most lines are read where they lie.
+// Copies the next line with the byte that ends it, and goes past it. Out of line, since most lines are read in place.
 #[inline(never)]
 fn copy_line<R: BufRead>(input: &mut R, line: &mut Vec<u8>) -> Result<(), Stopped>
     requires { line.old.items ≡ [] }
@@ -139,7 +139,7 @@ fn copy_line<R: BufRead>(input: &mut R, line: &mut Vec<u8>) -> Result<(), Stoppe
 }
 
 /// Reads the next line with the byte that ends it, and answers how long it is: 0 at the end of the input. `left` is how many
-/// bytes of whole lines the reader holds behind the line, so far as that is known. Where a read may wait the output is flushed
+/// bytes of whole lines the reader holds behind the line, so far as that is known. If a read may wait the output is flushed
 /// first.
 pub fn read_line<R: BufRead, W: Write>(
     input: &mut R,

@@ -1,5 +1,5 @@
 //! Lines: how outcomes are printed. Each function adds one line. It is refused with `NoMemory` alone, and a beginning of
-//! the line may stand there then.
+//! the line may be there then.
 ghost use Rattle.std.specs.Prelude.{◌≡◌, ◌++◌, Some, OnOk, IfErr, codes, decimal};
 ghost use Rattle.std.specs.Option.{option_copied};
 ghost use Rattle.std.specs.List.{flat_map};
@@ -15,9 +15,9 @@ use std::io::Write;
 /// What the value or the number in a call's reply is.
 #[derive(Clone, Copy)]
 pub enum Shown {
-    /// The value that stands; a number counts what became durable.
+    /// The value that is there; a number counts what became durable.
     Value,
-    /// The value that stood.
+    /// The value that was there.
     Old,
     /// The number that was given, as an id.
     Number,
@@ -179,7 +179,7 @@ fn push_event(out: &mut Vec<u8>, event: &Event) -> Result<()>
     }
 }
 
-// Adds the line of what a subscriber was told, or of nothing.
+// Adds the line of what a subscriber got, or of nothing.
 fn push_next(out: &mut Vec<u8>, next: &Option<Next>) -> Result<()>
     ensures ok { OnOk result (out.new.items ≡ out.old.items ++ next_line next.now) }
     ensures err { IfErr result (λ e. e ≡ NoMemory) }
@@ -316,7 +316,7 @@ pub fn push_recovered(out: &mut Vec<u8>) -> Result<()>
     push_text(out, b"recovered\n")
 }
 
-/// Adds the line that tells of the first line that could not be read, by its number from 1.
+/// Adds the line about the first line that could not be read, by its number from 1.
 pub fn push_bad_line(out: &mut Vec<u8>, number: u64) -> Result<()>
     ensures ok { OnOk result (out.new.items ≡ out.old.items ++ bad_line number) }
     ensures err { IfErr result (λ e. e ≡ NoMemory) }

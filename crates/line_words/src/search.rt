@@ -1,4 +1,4 @@
-//! Where a byte stands first: sixteen bytes are looked at at once.
+//! Where a byte is first: sixteen bytes are looked at at once.
 ghost use Rattle.std.specs.Prelude.{◌≡◌, ◌+◌, ◌≤◌, ◌==◌, not, length, take, drop, MatchOption};
 ghost use Rattle.std.specs.List.{prefix_len};
 ghost use Rattle.line_words.specs.Search.{Lacks, IsFirst};
@@ -8,7 +8,7 @@ use std::simd::prelude::*;
 // How many bytes are looked at at once. Contracts have the number itself.
 pub(crate) const LANES: usize = 16;
 
-// How many of the bytes from a place on stand in front of the first that is this one: all of them where none is.
+// How many of the bytes from a place on are in front of the first that is this one: all of them if none is.
 #[inline(always)]
 pub(crate) fn in_front(byte: u8, bytes: &[u8], at: usize) -> usize
     requires { at + 16 ≤ length bytes.now }
@@ -24,7 +24,7 @@ pub(crate) fn in_front(byte: u8, bytes: &[u8], at: usize) -> usize
     }
 }
 
-// The first place where the byte stands, if it stands anywhere: of few bytes, one by one.
+// The first place at which the byte is, if it is anywhere: of few bytes, one by one.
 fn find_among_few(byte: u8, bytes: &[u8]) -> Option<usize>
     ensures { MatchOption result (Lacks byte bytes.now (length bytes.now)) (IsFirst byte bytes.now) }
 {
@@ -36,12 +36,12 @@ fn find_among_few(byte: u8, bytes: &[u8]) -> Option<usize>
     None
 }
 
-/// The first place where the byte stands, if it stands anywhere.
+/// The first place at which the byte is, if it is anywhere.
 ///
 /// ```
 /// let blank = line_words::search::find(b' ', b"get ulm"); // 3.
 /// ```
-// The last sixteen bytes are looked at whole, also where some of them were looked at before.
+// The last sixteen bytes are looked at whole, even if some of them were looked at before.
 pub fn find(byte: u8, bytes: &[u8]) -> Option<usize>
     ensures { MatchOption result (Lacks byte bytes.now (length bytes.now)) (IsFirst byte bytes.now) }
 {

@@ -1,7 +1,7 @@
-//! Words: how byte strings and numbers stand in a line.
+//! Words: how byte strings and numbers are written in a line.
 //!
 //! In a word a byte from `!` to `~` other than `%` is itself, and `%` with two lower-case hexadecimal digits is the
-//! byte of that number. The word `%` alone is the empty string. The word `-` is no byte string: it means none where a
+//! byte of that number. The word `%` alone is the empty string. The word `-` is no byte string: it means none if a
 //! command allows that.
 ghost use Rattle.std.specs.Prelude.{◌≡◌, true, ◌+◌, ◌^◌, ◌<◌, ◌≤◌, ◌++◌, ◌∷◌, length, decimal, take, Some, None, IfOk, IfErr, OnOk, IfSome, option_map, ◌*◌, MatchOption};
 ghost use Rattle.std.specs.Char.{digit_value};
@@ -67,7 +67,7 @@ pub fn push_escape(out: &mut Vec<u8>, byte: u8) -> Result<()>
     Ok(())
 }
 
-// Adds a byte as it stands in a word.
+// Adds a byte as it is written in a word.
 fn push_byte(out: &mut Vec<u8>, byte: u8) -> Result<()>
     ensures ok { OnOk result (out.new.items ≡ out.old.items ++ spelled byte) }
     ensures err { IfErr result (λ e. e ≡ NoMemory) }
@@ -91,7 +91,7 @@ fn few_plain(bytes: &[u8]) -> bool
     plain
 }
 
-// The same of many bytes. The last sixteen are looked at whole, also where some of them were looked at before.
+// The same of many bytes. The last sixteen are looked at whole, even if some of them were looked at before.
 fn all_plain(bytes: &[u8]) -> bool
     ensures { result ≡ list_all is_plain bytes.now }
 {
@@ -125,7 +125,7 @@ fn count_plain(bytes: &[u8]) -> usize
     bytes.len()
 }
 
-// Adds bytes as they stand in a word: those in a row that stand for themselves all at once.
+// Adds bytes as they are written in a word: those in a row that stand for themselves all at once.
 fn push_bytes(out: &mut Vec<u8>, bytes: &[u8]) -> Result<()>
     ensures ok { OnOk result (out.new.items ≡ out.old.items ++ flat_map spelled bytes.now) }
     ensures err { IfErr result (λ e. e ≡ NoMemory) }
@@ -143,7 +143,7 @@ fn push_bytes(out: &mut Vec<u8>, bytes: &[u8]) -> Result<()>
 }
 
 /// Adds the word of a byte string, which is the shortest that spells it. Refused with `NoMemory` alone; a beginning of
-/// the word may stand there then.
+/// the word may be there then.
 pub fn push_word(out: &mut Vec<u8>, bytes: &[u8]) -> Result<()>
     ensures ok { OnOk result (out.new.items ≡ out.old.items ++ printed bytes.now) }
     ensures err { IfErr result (λ e. e ≡ NoMemory) }
@@ -158,7 +158,7 @@ pub fn push_word(out: &mut Vec<u8>, bytes: &[u8]) -> Result<()>
     }
 }
 
-// The byte that a word begins with, and the rest of the word; `None` where it begins with none.
+// The byte that a word begins with, and the rest of the word; `None` if it begins with none.
 fn first_byte(word: &[u8]) -> Option<(u8, &[u8])>
     ensures { BeginsWith word.now result }
 {
@@ -182,7 +182,7 @@ fn first_byte(word: &[u8]) -> Option<(u8, &[u8])>
     }
 }
 
-// The bytes that a word spells one by one, or `None` where it does not.
+// The bytes that a word spells one by one, or `None` if it does not.
 fn bytes_of(alloc: Global, word: &[u8]) -> Result<Option<Vec<u8>>>
     ensures ok { IfOk result (λ bytes. option_map (λ b. b.items) bytes ≡ bytes_of word.now) }
     ensures err { IfErr result (λ e. e ≡ NoMemory) }
@@ -199,7 +199,7 @@ fn bytes_of(alloc: Global, word: &[u8]) -> Result<Option<Vec<u8>>>
     Ok(Some(bytes))
 }
 
-// The byte string that a word spells, or `None` where it does not. Most words stand for themselves, and are taken at once.
+// The byte string that a word spells, or `None` if it does not. Most words stand for themselves, and are taken at once.
 fn spelled_by(alloc: Global, word: &[u8]) -> Result<Option<IVec>>
     ensures ok { IfOk result (λ bytes. bytes ≡ bytes_of word.now) }
     ensures err { IfErr result (λ e. e ≡ NoMemory) }
@@ -213,7 +213,7 @@ fn spelled_by(alloc: Global, word: &[u8]) -> Result<Option<IVec>>
     }
 }
 
-/// The byte string of a word, or `None` where it is no byte string. Refused with `NoMemory` alone.
+/// The byte string of a word, or `None` if it is no byte string. Refused with `NoMemory` alone.
 pub fn read_word(alloc: Global, word: &[u8]) -> Result<Option<IVec>>
     ensures ok { IfOk result (λ bytes. bytes ≡ read_word word.now) }
     ensures err { IfErr result (λ e. e ≡ NoMemory) }
@@ -225,7 +225,7 @@ pub fn read_word(alloc: Global, word: &[u8]) -> Result<Option<IVec>>
     }
 }
 
-/// The value of a word, where `-` is none; `None` where it is no value. Refused with `NoMemory` alone.
+/// The value of a word, if `-` is none; `None` if it is no value. Refused with `NoMemory` alone.
 pub fn read_value(alloc: Global, word: &[u8]) -> Result<Option<Option<IVec>>>
     ensures ok { IfOk result (λ value. value ≡ read_value word.now) }
     ensures err { IfErr result (λ e. e ≡ NoMemory) }
@@ -301,7 +301,7 @@ fn reads_decimals()
     ensures { ReadsDecimals }
 {}
 
-/// The first word of a line, and what stands after the space that ends it, if there is a space.
+/// The first word of a line, and what is after the space that ends it, if there is a space.
 pub fn first_word(line: &[u8]) -> (&[u8], Option<&[u8]>)
     ensures { words_of line.now ≡ result.0.now ∷ words_after result.1 }
 {

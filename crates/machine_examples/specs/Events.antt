@@ -16,7 +16,7 @@ use Rattle.example_parts.specs.Reads.{maps_now}
 abbrev pub Event : Type 0
 Event = ℕ × Key
 
--- the pairs of a tree that has these events: the bytes of each stand at the eight bytes of its id
+-- the pairs of a tree that has these events: the bytes of each are at the eight bytes of its id
 abbrev pub pairs_of : List Event → Map
 pairs_of events = map (λ e. (spelled (Number e.0 ∷ []), e.1)) events
 
@@ -38,7 +38,7 @@ module _ {P M : Type 0} (store : P → Store) (meant : M → Merge) where
     pub maps : maps_now store meant new ≡ with_tree name (maps_now store meant old)
     pub ids : new.greatest_id ≡ old.greatest_id
 
-  -- The event has the next id, and stands behind all that the stream had. Other streams are as they were
+  -- The event has the next id, and follows all that the stream had. Other streams are as they were
   pub record Appends (old : DbValue P M) (stream : Key) (id : ℕ) (bytes : Key) (new : DbValue P M) : Type 0 where
     pub next : id ≡ old.greatest_id + 1
     pub given : new.greatest_id ≡ id

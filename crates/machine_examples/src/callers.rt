@@ -30,8 +30,8 @@ fn insert_of(key: &IVec, value: &IVec) -> Result<Call>
     Ok(Call::Insert(key, value))
 }
 
-/// Inserts a pair into a tree, and gets its key then: how the get came out, or `None` where the insert was not decided, which
-/// changes no map.
+/// Inserts a pair into a tree, and gets its key then: how the get came out, or `None` if the insert was not decided, which changes
+/// no map.
 pub fn insert_then_get<P: Pages, M: MergeOperator>(
     machine: &mut Machine<P, M>,
     tree: &Tree,
@@ -131,7 +131,7 @@ pub fn race<P: Pages, M: MergeOperator>(
     Ok(last)
 }
 
-/// Gets a key of a tree: how the get came out. It has turns enough where the tree is one page.
+/// Gets a key of a tree: how the get came out. It has turns enough if the tree is one page.
 pub fn get<P: Pages, M: MergeOperator>(
     machine: &mut Machine<P, M>,
     tree: &Tree,
@@ -175,7 +175,7 @@ pub fn get_in_new(alloc: Global, name: &[u8], key: &IVec) -> Result<Outcome>
 }
 
 /// Ends a machine, opens its pages again under a name, and ends that database too: the pages. The calls in flight are given
-/// up. Whether it could be opened or not, every tree has its map of before. Where a group is open it is refused with `Closed`.
+/// up. Whether it could be opened or not, every tree has its map of before. If a group is open it is refused with `Closed`.
 pub fn reopen<P: Pages, M: MergeOperator>(
     alloc: Global,
     machine: Machine<P, M>,
@@ -195,7 +195,7 @@ pub fn reopen<P: Pages, M: MergeOperator>(
 }
 
 /// Ends a machine, opens its pages again under a name, and gets a key of the default tree there: how the get came out. It
-/// reads what the first database had. Where a group is open it is refused with `Closed`.
+/// reads what the first database had. If a group is open it is refused with `Closed`.
 pub fn reopen_then_get<P: Pages, M: MergeOperator>(
     alloc: Global,
     machine: Machine<P, M>,

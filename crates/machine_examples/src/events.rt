@@ -1,5 +1,5 @@
-//! An event store: a stream is a tree of a database, and an event stands in it at its id, which no other event has. Ids rise, and
-//! so does their spelling, so a stream has its events in the order in which they came.
+//! An event store: a stream is a tree of a database, in which an event is at its id, which no other event has. Ids rise, and so
+//! does their spelling, so a stream has its events in the order in which they came.
 ghost use Rattle.std.specs.Prelude.{◌≡◌, IfOk, IfErr, OnErr, List};
 ghost use Rattle.typed_map.specs.declared.typed.TypedError.TheVariants.{Foreign};
 ghost use Rattle.machine_examples.specs.Events.{Event, HasEvents, KeepsStreams, OpensStream, Appends, ReadsFrom};
@@ -12,7 +12,7 @@ use std::alloc::Global;
 use std::ops::Bound;
 use typed_map::{Spelled, TypedResult, walk};
 
-/// Opens the stream of a name, which has no events where the name is new. Refused, every stream is as before.
+/// Opens the stream of a name, which has no events if the name is new. Refused, every stream is as before.
 pub fn open_stream<P: Pages, M: MergeOperator>(db: &mut Db<P, M>, name: &[u8]) -> Result<Tree>
     ensures ok { IfOk result (λ stream. OpensStream P.store M.meant db.old name.now stream db.new) }
     ensures err { OnErr result (KeepsStreams P.store M.meant db.old db.new) }
@@ -23,8 +23,8 @@ pub fn open_stream<P: Pages, M: MergeOperator>(db: &mut Db<P, M>, name: &[u8]) -
     }
 }
 
-/// Appends an event to a stream, and answers its id, which is above all that were given: the event stands behind all that the
-/// stream has. Refused, every stream is as before; the id may be used up then.
+/// Appends an event to a stream, and answers its id, which is above all that were given: the event follows all that the stream has.
+/// Refused, every stream is as before; the id may be used up then.
 pub fn append<P: Pages, M: MergeOperator>(
     db: &mut Db<P, M>,
     stream: &Tree,
@@ -54,7 +54,7 @@ pub fn append<P: Pages, M: MergeOperator>(
     }
 }
 
-/// The events of a stream from an id on, each with its id, in order. The tree is told to be foreign only where it is no stream.
+/// The events of a stream from an id on, each with its id, in order. The answer is that the tree is foreign only if it is no stream.
 pub fn read_from<P: Pages, M: MergeOperator>(
     db: &Db<P, M>,
     stream: &Tree,

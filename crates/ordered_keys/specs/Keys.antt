@@ -40,7 +40,7 @@ part_cmp (Text s) (Text t) = key_cmp s t
 part_cmp (Number m) (Text t) = Less
 part_cmp (Text s) (Number n) = Greater
 
--- by the first part that differs, and a beginning stands before what goes on from it
+-- by the first part that differs, and a prefix is less than what it is a prefix of
 abbrev pub parts_cmp : List Part → List Part → Ordering
 parts_cmp = slice_cmp part_cmp
 
@@ -74,6 +74,6 @@ KeepsOrder = (shape : List Kind) (a b : List Part) → BeginsKey shape a → Beg
 abbrev pub IsOneToOne : Type 0
 IsOneToOne = (shape : List Kind) (a b : List Part) (x y : Key) → HasShape shape a → HasShape shape b → spelled a ++ x ≡ spelled b ++ y → (a ≡ b) × (x ≡ y)
 
--- the bytes begin with those of other parts exactly where the parts begin with these
+-- the bytes begin with those of other parts exactly if the parts begin with these
 abbrev pub KeepsPrefixes : Type 0
 KeepsPrefixes = (shape : List Kind) (key front : List Part) → BeginsKey shape key → BeginsKey shape front → (BeginsWith (spelled key) (spelled front) ↔ BeginsWith key front)

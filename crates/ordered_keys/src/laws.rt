@@ -2,7 +2,7 @@
 ghost use Rattle.ordered_keys.specs.Keys.{KeepsOrder, IsOneToOne, KeepsPrefixes};
 
 /// Does nothing. The spelled bytes of two keys of a shape, or of first parts of them, are in the order of the parts: the
-/// first part that differs decides, and a beginning stands before what goes on from it.
+/// first part that differs decides, and a prefix is less than what it is a prefix of.
 pub fn law_order()
     ensures { KeepsOrder }
 {}
@@ -12,8 +12,8 @@ pub fn law_one_to_one()
     ensures { IsOneToOne }
 {}
 
-/// Does nothing. A key's bytes begin with the spelled first parts of some key of its shape exactly where its first parts are
-/// those. So all keys with these first parts are those with one prefix.
+/// Does nothing. A key's bytes begin with the spelled first parts of some key of its shape exactly if its first parts are those.
+/// So all keys with these first parts are those with one prefix.
 pub fn law_prefixes()
     ensures { KeepsPrefixes }
 {}

@@ -17,9 +17,9 @@
 //! let parts = parts_of(alloc, &[Kind::Text, Kind::Number], key.as_slice())?;
 //! ```
 //!
-//! A number is eight bytes, the highest first. A text is its bytes, each 0 as 0, 255, and then 0, 0: so the end of a text
-//! stands before each byte of a longer one, and no text begins another (`specs/Keys`). The laws are `law_order`,
-//! `law_one_to_one` and `law_prefixes`.
+//! A number is eight bytes, the highest first. A text is its bytes, each 0 as 0, 255, and then 0, 0: so the end of a text is
+//! less than each byte of a longer one, and no text begins another (`specs/Keys`). The laws are `law_order`, `law_one_to_one`
+//! and `law_prefixes`.
 #![tactic(auto)]
 
 mod laws;

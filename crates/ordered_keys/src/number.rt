@@ -20,8 +20,8 @@ pub fn push_number(out: &mut Vec<u8>, number: u64) -> Result<()>
     Ok(())
 }
 
-/// Reads the number that the bytes begin with, and what follows it. `None` where there are fewer than eight bytes, so
-/// that they begin with no number.
+/// Reads the number that the bytes begin with, and what follows it. `None` if there are fewer than eight bytes, so that
+/// they begin with no number.
 ///
 /// ```
 /// if let Some((number, rest)) = read_number(key.as_ref()) {

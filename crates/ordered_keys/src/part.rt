@@ -61,8 +61,8 @@ pub fn key_of(alloc: Global, parts: &[Part]) -> Result<IVec>
     IVec::from_slice(alloc, bytes.as_slice())
 }
 
-/// Reads a part of this kind, which the bytes begin with, and what follows it. `Ok(None)` where they begin with none. Refused
-/// with `NoMemory` alone.
+/// Reads a part of this kind, which the bytes begin with, and what follows it. `Ok(None)` if they begin with none. Refused with
+/// `NoMemory` alone.
 ///
 /// ```
 /// let first = read_part(alloc, Kind::Number, key.as_ref())?; // `Some`, of a part and what follows it.
@@ -84,7 +84,7 @@ pub fn read_part(alloc: Global, kind: Kind, bytes: &[u8]) -> Result<Option<(Part
     }
 }
 
-/// The parts of a key of this shape. `Ok(None)` where the bytes are no key of the shape. Refused with `NoMemory` alone.
+/// The parts of a key of this shape. `Ok(None)` if the bytes are no key of the shape. Refused with `NoMemory` alone.
 ///
 /// ```
 /// let parts = parts_of(alloc, &[Kind::Number, Kind::Text], key.as_ref())?;

@@ -20,7 +20,7 @@ fn push_byte(out: &mut Vec<u8>, byte: u8) -> Result<()>
     Ok(())
 }
 
-// Adds a text. Refused with `NoMemory` alone, and a beginning of the text may stand there then, after what stood there.
+// Adds a text. Refused with `NoMemory` alone, and a beginning of the text may have been added then, behind the bytes before.
 fn push_pieces(out: &mut Vec<u8>, text: &[u8]) -> Result<()>
     ensures ok { OnOk result (out.new.items ≡ out.old.items ++ spelled_text text.now) }
     ensures err { IfErr result (λ e. (e ≡ NoMemory) × (take (length out.old.items) out.new.items ≡ out.old.items)) }
@@ -51,7 +51,7 @@ pub fn push_text(out: &mut Vec<u8>, text: &[u8]) -> Result<()>
     Ok(())
 }
 
-// The byte that a spelled text begins with, or none for its end, and what follows it. `None` where it begins with neither.
+// The byte that a spelled text begins with, or none for its end, and what follows it. `None` if it begins with neither.
 fn first_piece(bytes: &[u8]) -> Option<(Option<u8>, &[u8])>
     ensures some { IfSome result (λ found. bytes.now ≡ spelled_piece found.0 ++ found.1.now) }
     ensures none { IfNone result ((piece : Option ℕ) (rest : Key) → bytes.now ≢ spelled_piece piece ++ rest) }
@@ -64,8 +64,8 @@ fn first_piece(bytes: &[u8]) -> Option<(Option<u8>, &[u8])>
     }
 }
 
-/// Reads the text that the bytes begin with, and what follows it. `Ok(None)` where they begin with no text: where 0, 0 stands
-/// nowhere, or a 0 before it that has no 255 behind it. Refused with `NoMemory` alone.
+/// Reads the text that the bytes begin with, and what follows it. `Ok(None)` if they begin with no text: when 0, 0 is nowhere, or a 0
+/// before it that has no 255 behind it. Refused with `NoMemory` alone.
 ///
 /// ```
 /// if let Some((text, rest)) = read_text(alloc, key.as_ref())? {

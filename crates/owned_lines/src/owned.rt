@@ -26,7 +26,7 @@ fn shown_of(verb: Verb) -> Shown {
     }
 }
 
-// Makes a call on a key, and answers the value that stood there, or of a merge and of an update the new one.
+// Makes a call on a key, and answers the value that was there, or of a merge and of an update the new one.
 fn write<P: Pages>(
     alloc: Global,
     db: &mut Db<P, Operator>,
@@ -85,7 +85,7 @@ fn whole<P: Pages>(
     }
 }
 
-// Takes what a subscriber is told next, or ends it.
+// Takes what a subscriber gets next, or ends it.
 fn hear<P: Pages>(db: &mut Db<P, Operator>, verb: Verb, subscriber: &Subscriber) -> Reply {
     match verb {
         Verb::Next => Reply::Next(db.next(subscriber)),

@@ -1,4 +1,4 @@
-//! Callers in `machine_examples` where there is memory: no contract says that they do not give up.
+//! Callers in `machine_examples` if there is memory: no contract says that they do not fail.
 use crate::flights::finds;
 use crate::pairs::pair;
 use machine_examples::{insert_then_get_in_new, survive};

@@ -1,4 +1,4 @@
-//! A copy of all trees of a database in another, where there is memory.
+//! A copy of all trees of a database in another, if there is memory.
 use crate::fresh::{Fresh, opened};
 use crate::seen::Seen;
 use crate::trial::Trial;

@@ -4,7 +4,7 @@ use crate::trial::Trial;
 use examples::{Adds, add_to_counter, count, next_ticket};
 use sled_model::Tree;
 
-/// Lets the merges of the first tree add.
+/// Makes the merges of the first tree add.
 pub fn set_operator(trial: &mut Trial) {
     trial
         .seen
@@ -17,7 +17,7 @@ pub fn add(trial: &mut Trial, name: &str, n: u64) {
     trial.seen.made(added);
 }
 
-/// Sees whether a counter stands at a number.
+/// Tests whether a counter has this number.
 pub fn stands(trial: &mut Trial, name: &str, n: u64) {
     let count = count(&trial.db, &trial.first, name.as_bytes());
     trial.seen.told(count, n);
@@ -48,8 +48,8 @@ fn asks_once(trial: &mut Trial) {
     trial.seen.that(before == 1 && after == 0);
 }
 
-/// Whether two numbers are added to one counter, another stands at 0, and tickets rise from 1 on, also from what was added. Closures are
-/// asked once.
+/// Whether two numbers are added to one counter, another is 0, and tickets rise from 1 on, also from what was added. Closures are asked
+/// once.
 pub fn counts(trial: &mut Trial) {
     set_operator(trial);
     add(trial, "sold", 300);

@@ -35,7 +35,7 @@ pub const JOBS: Example = Example {
     look: Case::AreInOne,
 };
 
-/// Two counters come to the same after two transfers.
+/// The sum of two counters is the same after two transfers.
 pub const TRANSFERS: Example = Example {
     change: Case::PayTwice,
     look: Case::ComeToHundred,

@@ -1,4 +1,4 @@
-//! The index by endings in `examples`, which follows the first tree, and begins anew where it missed events.
+//! The index by endings in `examples`, which follows the first tree, and begins anew if it missed events.
 use crate::seen::Seen;
 use crate::trial::Trial;
 use examples::{Endings, Progress, index_follows};
@@ -40,7 +40,7 @@ fn has_both(trial: &mut Trial, index: &mut Endings, value: &str) {
     trial.seen.that(!index.is_lost());
 }
 
-// Whether an index is up to date at first, is told that it missed events, and finds what its tree has then: once after it was told, once
+// Whether an index is up to date at first, learns that it missed events, and finds what its tree has then: once after it learned so, once
 // before, and once more as it follows again.
 fn finds_again(trial: &mut Trial, index: &mut Endings) {
     catch_up(trial, index, Progress::UpToDate);
@@ -56,7 +56,7 @@ fn finds_again(trial: &mut Trial, index: &mut Endings) {
     has_both(trial, index, "8");
 }
 
-/// Whether it begins anew where it missed events.
+/// Whether it begins anew if it missed events.
 pub fn begins_anew(trial: &mut Trial) {
     fill(trial);
     match Endings::begin(&mut trial.db, &trial.first, b"src/") {

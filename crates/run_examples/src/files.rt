@@ -11,7 +11,7 @@ use sled_model::{Step, Whole};
 use sled_nodes::Result;
 use std::alloc::Global;
 
-// A database in two empty files, or none where it was refused.
+// A database in two empty files, or none if it was refused.
 fn in_files(alloc: Global) -> Option<Db<FilePages<MemoryDisk>, Adds>> {
     let (first, second) = empty_disks(alloc).ok()?;
     let pages = FilePages::open(alloc, first, second).ok()?;

@@ -40,7 +40,7 @@ fn gets(machine: &mut Machine<MemPages, Adds>, tree: &Tree) -> Result<bool> {
     Ok(finds(machine.complete(tree, get)))
 }
 
-// Whether a scan gives this key with its next pair, or has given all its pairs where this is none.
+// Whether a scan gives this key with its next pair, or has given all its pairs if this is none.
 fn gives(machine: &mut Machine<MemPages, Adds>, slot: Slot, key: Option<&[u8]>) -> bool {
     let outcome = machine.finish(slot);
     let is_given = match &outcome {

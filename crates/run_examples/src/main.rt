@@ -1,6 +1,5 @@
-//! Runs the callers in `examples`, `machine_examples`, `transaction_examples` and `file_examples` where there is memory, and a database
-//! over the store in `store_examples`: no contract says that they do not give up. It prints what came of each; `stdout` has what should
-//! have come.
+//! Runs the callers in `examples`, `machine_examples`, `transaction_examples` and `file_examples` if there is memory, and a database over
+//! the store in `store_examples`: no contract says that they do not fail. It prints the outcome of each; `stdout` has the expected ones.
 #![tactic(auto)]
 
 mod batches;

@@ -33,7 +33,7 @@ impl Seen {
         }
     }
 
-    /// What is seen of something that a call tells.
+    /// What is seen of something that a call returns.
     pub fn of(is: Result<bool>) -> Seen {
         let mut seen = Seen::Yes;
         seen.told(is, true);
@@ -53,7 +53,7 @@ impl Seen {
         }
     }
 
-    /// Sees whether a call tells this.
+    /// Tests whether a call returns this.
     pub fn told<T: PartialEq + Drop>(&mut self, told: Result<T>, wanted: T) {
         match told {
             Ok(told) => {
@@ -65,7 +65,7 @@ impl Seen {
         drop(wanted);
     }
 
-    /// Sees whether two calls tell the same.
+    /// Tests whether two calls return the same.
     pub fn alike<T: PartialEq + Drop>(&mut self, one: Result<T>, other: Result<T>) {
         match one {
             Ok(one) => self.told(other, one),
@@ -87,7 +87,7 @@ impl Seen {
         }
     }
 
-    /// Sees whether a transaction answers this, or is given up for this reason.
+    /// Tests whether a transaction answers this, or is aborted for this reason.
     pub fn ended<T: PartialEq + Copy, A: PartialEq + Copy>(
         &mut self,
         ended: TransactionResult<T, A>,

@@ -3,7 +3,7 @@ use crate::pairs::has;
 use crate::trial::Trial;
 use examples::{put_item, take_item};
 
-// Puts an item at a place, or takes it out where there is none, unless a call was refused before.
+// Puts an item at a place, or takes it out if there is none, unless a call was refused before.
 fn put(trial: &mut Trial, item: &str, place: Option<&str>) {
     if trial.seen.is_yes() {
         let (table, index) = (&trial.first, &trial.second);
@@ -21,7 +21,7 @@ fn put(trial: &mut Trial, item: &str, place: Option<&str>) {
     }
 }
 
-/// Puts two items at places, moves one of them, and takes the other out. Whether that one lies in the second shelf.
+/// Puts two items at places, moves one of them, and takes the other out. Whether that one is in the second shelf.
 pub fn moves(trial: &mut Trial) {
     put(trial, "bolt", Some("shelf 1"));
     put(trial, "nut", Some("shelf 1"));

@@ -10,13 +10,13 @@ use transaction_examples::{TransferError, transfer, transfer_and_crash};
 
 type Paid = std::result::Result<(), TransferError>;
 
-// Makes a transfer from the till. Whether it is made, or given up for a reason.
+// Makes a transfer from the till. Whether it is made, or aborted for a reason.
 fn pay(trial: &mut Trial, to: &str, amount: u64, wanted: Paid) {
     let paid = transfer(&mut trial.db, &trial.first, b"till", to.as_bytes(), amount);
     trial.seen.ended(paid, wanted);
 }
 
-// Sees whether the two counters stand so.
+// Tests whether the two counters have these numbers.
 fn stand(trial: &mut Trial, till: u64, bank: u64) {
     stands(trial, "till", till);
     stands(trial, "bank", bank);
@@ -52,13 +52,13 @@ pub fn pay_twice(trial: &mut Trial) {
     }
 }
 
-// What the two counters come to.
+// The sum of the two counters.
 fn sum(trial: &Trial) -> Result<u64> {
     let till = count(&trial.db, &trial.first, b"till")?;
     Ok(till.wrapping_add(count(&trial.db, &trial.first, b"bank")?))
 }
 
-/// Whether the two counters come to 100.
+/// Whether the sum of the two counters is 100.
 pub fn come_to_hundred(trial: &mut Trial) {
     let sum = sum(trial);
     trial.seen.told(sum, 100);

@@ -64,7 +64,7 @@ fn looks_up(trial: &Trial) -> TypedResult<bool> {
     Ok(found? == Some(17))
 }
 
-/// Sees whether a typed read told that something is so. It is not where the tree has something foreign.
+/// Tests whether a typed read answered that something is so. It did not if the tree has something foreign.
 pub fn tells(trial: &mut Trial, is: TypedResult<bool>) {
     match is {
         Ok(is) => trial.seen.that(is),

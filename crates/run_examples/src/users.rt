@@ -6,7 +6,7 @@ use sled::TransactionError;
 use sled_nodes::Result;
 use transaction_examples::put_indexed;
 
-// Gives a user an address, unless a call was refused before. Whether that is done, or given up since it is another's.
+// Gives a user an address, unless a call was refused before. Whether that is done, or aborted since it is another's.
 fn give(trial: &mut Trial, id: &str, email: &str, is_given: bool) {
     if trial.seen.is_yes() {
         let (table, index) = (&trial.first, &trial.second);

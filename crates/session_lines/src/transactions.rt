@@ -12,7 +12,7 @@ use sled_store::Pages;
 use std::alloc::Global;
 use transaction_lines::run::{Ended, Run};
 
-// Runs it on the current tree. Nothing is said of what that does, so that nobody who tells it has more to prove; nor below.
+// Runs it on the current tree. Nothing is said of what that does, so that no function that prints it has more to prove; nor below.
 fn run_on_current<P: Pages, M: MergeOperator>(session: &mut Session<P, M>, run: &Run) -> Ended {
     session.transaction(|tree| run.attempt_on_tree(tree))
 }

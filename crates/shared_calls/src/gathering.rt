@@ -9,8 +9,8 @@ use sled_store::Pages;
 use std::sync::Wait;
 use std::sync::ledger::Ledger;
 
-/// The state of one of two databases, where all its handles are there and agree with it, or all that was handed in. The other database
-/// comes back, and a state that was gathered before is let go.
+/// The state of one of two databases, if all its handles are there and agree with it, or all that was handed in. The other database is
+/// returned, and a state that was gathered before is dropped.
 pub fn gather_one<P: Pages, L: Ledger, M: MergeOperator>(
     shared: Db<P, L, M>,
     other: Db<P, L, M>,

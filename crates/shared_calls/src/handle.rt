@@ -29,7 +29,7 @@ pub fn call<P: Pages, L: Ledger, M: MergeOperator>(
     handle.call(rt, tree, call, gate)
 }
 
-/// A read under one lock. It is noted with what it told.
+/// A read under one lock. It is noted with its answer.
 pub fn read<P: Pages, L: Ledger, M: MergeOperator>(
     handle: &mut Handle<P, L, M>,
     rt: &impl Wait,

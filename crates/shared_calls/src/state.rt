@@ -1,4 +1,4 @@
-//! Calls of what lies under the lock.
+//! Calls of what is under the lock.
 ghost use Rattle.std.specs.Prelude.{◌≡◌, ◌++◌};
 ghost use Rattle.sled_calls.specs.Values.{slots_of};
 ghost use Rattle.sled_shared.specs.Notes.{entries_of, noted_in};

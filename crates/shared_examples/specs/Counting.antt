@@ -12,7 +12,7 @@ use Rattle.sled_shared.specs.Made.{MadeValue, PointMade, EntryValue}
 use Rattle.example_parts.specs.Counters.{number_in}
 use Rattle.shared_examples.specs.Places.{value_at, made_in, is_at, Leaves}
 
--- a merge of one came to a list, with a reply that tells this number
+-- a merge of one was added to a list, with a reply of this number
 pub record AddsOne (tree : Tree) (key : Key) (n : ℕ) (made more : List MadeValue) : Type 0 where
   pub value : Option Key
   pub told : n ≡ number_in value
@@ -38,13 +38,13 @@ abbrev pub last_of : Option Key → List (Option Key) → Option Key
 last_of before [] = before
 last_of before (value ∷ values) = last_of value values
 
--- What stands at the key at the end is what the last merge replied, and a read replied what the last merge before it did
+-- What is at the key at the end is what the last merge replied, and a read replied what the last merge before it did
 pub record ShowsMerges (old new : Maps) (tree key : Key) (made : List MadeValue) : Type 0 where
   pub ends : value_at new tree key ≡ last_of (value_at old tree key) (merged tree key made)
   pub reads : (before after : List MadeValue) (t : Tree) (value : Option Key) → made ≡ before ++ PointMade t (Get key) (Value value) ∷ after → t.name ≡ tree
       → value ≡ last_of (value_at old tree key) (merged tree key before)
 
--- Of a legal history in which each call is a merge at the key, or leaves what stands there
+-- Of a legal history in which each call is a merge at the key, or leaves what is there
 abbrev pub MergesLaw : Type 0
 MergesLaw = (old new : Maps) (tree key : Key) (history : List EntryValue) → IsLegal old history new
     → AllByRecursion (λ m. IsMergeAt tree key m ⊎ Leaves tree key m) (made_in history) → ShowsMerges old new tree key (made_in history)

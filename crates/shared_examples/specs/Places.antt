@@ -1,4 +1,4 @@
--- What stands at a key of a tree, and what leaves it there.
+-- What is at a key of a tree, and what leaves it there.
 use Rattle.std.specs.Prelude.{◌≡◌, ◌≢◌, ◌⊎◌, ◌&&◌, Bool, List, map, Option}
 use Rattle.std.specs.Str.{bytes_eq}
 use Rattle.sled_nodes.specs.Order.{Key}
@@ -24,7 +24,7 @@ made_in history = map (λ e. e.made) history
 abbrev pub is_at : Key → Key → Tree → Key → Bool
 is_at tree key t k = bytes_eq t.name tree && bytes_eq k key
 
--- made at whatever maps, it leaves what stands at the key
+-- made at whatever maps, it leaves what is at the key
 abbrev pub Leaves : Key → Key → MadeValue → Type 0
 Leaves tree key m = (old new : Maps) → makes_as old m new → value_at new tree key ≡ value_at old tree key
 
@@ -56,6 +56,6 @@ passes_by tree key (PartsMade whole number) = ⊥
 passes_by tree key (ReadMade read) = Unit {0}
 passes_by tree key (TransactionMade batches stood) = ⊥
 
--- what passes a key by leaves what stands there
+-- what passes a key by leaves what is there
 abbrev pub LeavesLaw : Type 0
 LeavesLaw = (tree key : Key) (m : MadeValue) → passes_by tree key m → Leaves tree key m

@@ -15,17 +15,17 @@ use Rattle.sled_shared.specs.Made.{MadeValue, PointMade, WholeMade, EntryValue}
 use Rattle.sled_shared.specs.Wholes.{WholeValue, PopMin, GenerateId}
 use Rattle.shared_examples.specs.Places.{value_at, made_in, Leaves}
 
--- what is noted of a whole call: the call with its reply where it is decided, and else nothing
+-- what is noted of a whole call: the call with its reply if it is decided, and else nothing
 abbrev pub noted_of_whole : Outcome → WholeValue → List MadeValue
 noted_of_whole (Decided reply) whole = WholeMade whole reply ∷ []
 noted_of_whole o whole = []
 
--- an id came to a list, and an insert of the job at its eight bytes, the highest first
+-- an id was added to a list, and an insert of the job at its eight bytes, the highest first
 pub record Pushes (queue : Tree) (job : Key) (id : ℕ) (made more : List MadeValue) : Type 0 where
   pub reply : Reply
   pub adds : more ≡ made ++ WholeMade GenerateId (Number id) ∷ PointMade queue (Insert (to_be_bytes w64 id) job) reply ∷ []
 
--- nothing came to a list but an id, if one was given
+-- nothing was added to a list but an id, if one was given
 abbrev pub PushesNone : List MadeValue → List MadeValue → Type 0
 PushesNone made more = (more ≡ made) ⊎ ((reply : Reply) × (more ≡ made ++ WholeMade GenerateId reply ∷ []))
 
@@ -54,14 +54,15 @@ abbrev pub Has : (MadeValue → Type 0) → List MadeValue → Type 0
 Has P [] = ⊥
 Has P (m ∷ made) = P m ⊎ Has P made
 
--- What was taken stood there from the beginning, or was inserted before; and between two takes of one key what the second took was inserted there
+-- What was taken was there from the beginning, or was inserted before; and between two takes of one key what the second took was inserted
+-- there
 pub record TakesOnce (old : Maps) (tree : Key) (made : List MadeValue) : Type 0 where
   pub put : (before after : List MadeValue) (key value : Key) (take : MadeValue) → made ≡ before ++ take ∷ after → IsTake tree key value take
       → (value_at old tree key ≡ Some value) ⊎ Has (IsInsert tree key value) before
   pub again : (before between after : List MadeValue) (key first second : Key) (take other : MadeValue) → made ≡ before ++ take ∷ between ++ other ∷ after → IsTake tree key first take → IsTake tree key second other
       → Has (IsInsert tree key second) between
 
--- What stood there from the beginning or was inserted stands at the end, unless it was taken or another was inserted at its key
+-- What was there from the beginning or was inserted is at the end, unless it was taken or another was inserted at its key
 pub record LosesNone (old new : Maps) (tree : Key) (made : List MadeValue) : Type 0 where
   pub stood : (key value : Key) → value_at old tree key ≡ Some value → (value_at new tree key ≡ Some value) ⊎ Has (λ m. IsTake tree key value m ⊎ IsInsertAt tree key m) made
   pub put : (before after : List MadeValue) (key value : Key) (insert : MadeValue) → made ≡ before ++ insert ∷ after → IsInsert tree key value insert

@@ -23,7 +23,7 @@ use Rattle.shared_examples.specs.Places.{value_at, made_in, is_at, Leaves}
 use Rattle.shared_examples.specs.declared.raising.Raised.{Raised}
 use Rattle.shared_examples.specs.declared.raising.Raised.TheVariants.{To, Overtaken}
 
--- A transaction that sets one key, and writes nothing else, is a swap that succeeded: its tree, the key, what stood there, and the value
+-- A transaction that sets one key, and writes nothing else, is a swap that succeeded: its tree, the key, what was there, and the value
 abbrev pub sole_swap : List (Tree × Writes) → List (Option Key) → Option (Tree × Key × Option Key × Key)
 sole_swap ((tree, (key, Some value) ∷ []) ∷ []) (stood ∷ []) = Some (tree, key, stood, value)
 sole_swap batches stood = None
@@ -58,7 +58,7 @@ abbrev pub Follow : Option Key → List (Option Key × Option Key) → Option Ke
 Follow first [] last = last ≡ first
 Follow first (swap ∷ swaps) last = (swap.0 ≡ first) × Follow swap.1 swaps last
 
--- No update is lost, of a legal history in which each call is a swap at the key, or leaves what stands there
+-- No update is lost, of a legal history in which each call is a swap at the key, or leaves what is there
 abbrev pub SwapsLaw : Type 0
 SwapsLaw = (old new : Maps) (tree key : Key) (history : List EntryValue) → IsLegal old history new
     → AllByRecursion (λ m. IsSwapAt tree key m ⊎ Leaves tree key m) (made_in history) → Follow (value_at old tree key) (swapped tree key (made_in history)) (value_at new tree key)
@@ -67,7 +67,7 @@ SwapsLaw = (old new : Maps) (tree key : Key) (history : List EntryValue) → IsL
 abbrev pub IsRaise : Option Key × Option Key → Type 0
 IsRaise swap = number_in swap.1 ≡ number_in swap.0 + 1
 
--- .. and where each of those that succeeded raised a number by one, the number stands higher by as many as there were
+-- .. and if each of those that succeeded raised a number by one, the number is higher by as many as there were
 abbrev pub RaisesLaw : Type 0
 RaisesLaw = (old new : Maps) (tree key : Key) (history : List EntryValue) → IsLegal old history new
     → AllByRecursion (λ m. IsSwapAt tree key m ⊎ Leaves tree key m) (made_in history) → AllByRecursion IsRaise (swapped tree key (made_in history))
@@ -97,7 +97,7 @@ is_part tree key m = ⊥
 abbrev pub OnlyRaises : Tree → Key → CallerValue → Type 0
 OnlyRaises tree key c = AllByRecursion (is_part tree key) c.made
 
--- No raise is lost: where all callers that were gathered made nothing else, the number stands higher by as many as their swaps that succeeded
+-- No raise is lost: if all callers that were gathered made nothing else, the number is higher by as many as their swaps that succeeded
 abbrev pub RaisedLaw : Type 0
 RaisedLaw = (old new : Maps) (tree : Tree) (key : Key) (history : List EntryValue) (given : ℕ) (callers : List CallerValue) → IsLegal old history new
     → All (IsMadeIn history) callers → EachOnce given callers → All (IsOfGiven given) history → All (OnlyRaises tree key) callers
@@ -113,14 +113,14 @@ abbrev pub swap_wrote : Outcome → ℕ → Option ℕ
 swap_wrote (Decided (Swapped (Ok done))) n = Some n
 swap_wrote o n = None
 
--- Parts of raises came to a list. Where this number was written one of the swaps succeeded, and wrote it, and else none did
+-- Parts of raises were added to a list. If this number was written one of the swaps succeeded, and wrote it, and else none did
 pub record Raises (tree : Tree) (key : Key) (n : Option ℕ) (made more : List MadeValue) : Type 0 where
   pub added : List MadeValue
   pub adds : more ≡ made ++ added
   pub parts : AllByRecursion (is_part tree key) added
   pub wrote : map (λ s. number_in s.1) (swapped tree.name key added) ≡ option_to_list n
 
--- where all attempts were overtaken, a list is longer by so many calls, and else by so many at most
+-- if all attempts were overtaken, a list is longer by so many calls, and else by so many at most
 abbrev pub calls_made : Raised → ℕ → List MadeValue → List MadeValue → Type 0
 calls_made Overtaken n made more = length more ≡ length made + n
 calls_made r n made more = length more ≤ length made + n
@@ -131,7 +131,7 @@ overtaken_by (Decided reply) r = Unit {0}
 overtaken_by o Overtaken = ⊥
 overtaken_by o r = Unit {0}
 
--- nothing but parts of raises came to a list
+-- nothing but parts of raises was added to a list
 pub record RaisesOn (tree : Tree) (key : Key) (made more : List MadeValue) : Type 0 where
   pub added : List MadeValue
   pub adds : more ≡ made ++ added
@@ -147,7 +147,7 @@ has_written m = false
 pub record HasWritten (times : ℕ) (c : CallerValue) : Type 0 where
   pub is : count_by has_written c.made ≡ times
 
--- the number at a key of a state's database stands by so much higher than it stood when the database was shared
+-- the number at a key of a state's database is by so much higher than it was when the database was shared
 abbrev pub StandsHigher : {P M : Type 0} → (P → Store) → Tree → Key → ℕ → StateValue P M → Type 0
 StandsHigher store tree key n s = number_in (value_at (maps_now store s.machine) tree.name key) ≡ number_in (value_at (maps_from s.opening) tree.name key) + n
 
@@ -160,7 +160,7 @@ IsFlush m = ⊥
 abbrev pub IsPartOrFlush : Tree → Key → MadeValue → Type 0
 IsPartOrFlush tree key m = is_part tree key m ⊎ IsFlush m
 
--- the number at a key of these maps lies between two
+-- the number at a key of these maps is between two
 abbrev pub StandsBetween : Tree → Key → ℕ → ℕ → Maps → Type 0
 StandsBetween tree key low high maps = (low ≤ number_in (value_at maps tree.name key)) × (number_in (value_at maps tree.name key) ≤ high)
 

@@ -33,8 +33,8 @@ fn raise_inside<P: Pages>(
     Ok(next)
 }
 
-/// Raises the number at a key by one, as a transaction, and answers the number that it wrote. It comes to the handle's list with what stood
-/// there before; where it is given up or refused nothing does.
+/// Raises the number at a key by one, as a transaction, and answers the number that it wrote. It is added to the handle's list with what
+/// was there before; if it is aborted or refused nothing is.
 ///
 /// ```
 /// let raised = raise_at_once(rt, &mut handle, &tree, b"visits");

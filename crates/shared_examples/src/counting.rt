@@ -1,6 +1,6 @@
-//! A number at a key, to which threads add one by merges. The operator of the tree is the caller's; a legal history has the reply of a merge as it
-//! was told, and says nothing of operators. So the laws say that what a merge replied is what stands, and not that each reply is one above the
-//! one before; `raising` has a number of which that is known.
+//! A number at a key, to which threads add one by merges. The operator of the tree is the caller's; a legal history has the reply of a
+//! merge as it was returned, and says nothing of operators. So the laws say that what a merge replied is what is there, and not that each
+//! reply is one above the one before; `raising` has a number of which that is known.
 ghost use Rattle.std.specs.Prelude.{◌≡◌, ◌++◌, IfOk, IfErr};
 ghost use Rattle.std.specs.Int.{w64, to_be_bytes};
 ghost use Rattle.sled_model.specs.declared.call.Call.TheVariants.{Merge};
@@ -15,9 +15,9 @@ use std::alloc::Global;
 use std::sync::Wait;
 use std::sync::ledger::Ledger;
 
-/// Adds one to the number at a key, by a merge of the eight bytes of 1, the highest first, and answers the number that the merge replied. That this
-/// is one above the number before is the work of the tree's operator, and is not promised here. The merge comes to the end of the handle's list, with
-/// that reply. Where it was not decided it answers how it came out, and nothing comes to the list.
+/// Adds one to the number at a key, by a merge of the eight bytes of 1, the highest first, and answers the number that the merge replied.
+/// That this is one above the number before is the work of the tree's operator, and is not promised here. The merge is added to the end of
+/// the handle's list, with that reply. If it was not decided it answers the outcome, and nothing is added to the list.
 ///
 /// ```
 /// match add_one(rt, alloc, &mut handle, &tree, b"visits") {

@@ -1,11 +1,11 @@
-//! Threads that share a database, proved from public contracts alone, as a user would write them. Each module has what one thread does by its
-//! handle, and what that adds to the handle's list. It also has laws of what all threads together come to, over every legal history.
+//! Threads that share a database, proved from public contracts alone, as a user would write them. Each module has what one thread does by
+//! its handle, and what that adds to the handle's list. It also has laws of what all threads do together, over every legal history.
 //! `counting` adds one to a number by a merge. `raising` reads a number and swaps it for the next, and does so again if another thread came
 //! between. `queueing` puts jobs into a tree and takes them out. `places` has the law of what leaves a key as it is, which the others ask
 //! for. `way` goes the whole way: it shares a database, has threads raise a number, and takes the database back.
 //!
-//! Whoever has gathered a state knows that its history is legal, and that each handle's list is that of its entries. So what the laws say of a
-//! history they say of what the threads did.
+//! A program that has gathered a state knows that its history is legal, and that each handle's list is that of its entries. So what the
+//! laws say of a history they say of what the threads did.
 #![tactic(auto)]
 
 mod adding;

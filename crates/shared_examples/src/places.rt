@@ -1,7 +1,7 @@
 //! What leaves a key of a tree as it is.
 ghost use Rattle.shared_examples.specs.Places.{LeavesLaw};
 
-/// A read leaves what stands at a key, whatever it reads, and so does a call on another key or of another tree, a flush, an id that is given, a
+/// A read leaves what is at a key, whatever it reads, and so does a call on another key or of another tree, a flush, an id that is given, a
 /// tree that is opened, and what is about subscribers.
 ///
 /// ```

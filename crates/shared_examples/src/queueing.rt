@@ -30,8 +30,8 @@ fn next_id<P: Pages, L: Ledger, M: MergeOperator>(
     }
 }
 
-/// Asks for an id, inserts the job at the eight bytes of it, the highest first, and answers the id. Both come to the handle's list. Where one of
-/// the two was not decided it answers how that came out, and nothing comes to the list but the id, if one was given.
+/// Asks for an id, inserts the job at the eight bytes of it, the highest first, and answers the id. Both are added to the handle's list. If
+/// one of the two was not decided it answers that outcome, and nothing is added to the list but the id, if one was given.
 ///
 /// ```
 /// match push(rt, alloc, &mut handle, &tree, b"paint the fence") {
@@ -60,8 +60,8 @@ pub fn push<P: Pages, L: Ledger, M: MergeOperator>(
     }
 }
 
-/// Takes the job at the front out of the queue, and answers its key and the job; or `None`, where none waits. The pop comes to the handle's list. Where
-/// it was not decided it answers how it came out, and nothing comes to the list.
+/// Takes the job at the front out of the queue, and answers its key and the job; or `None`, if none waits. The pop is added to the handle's
+/// list. If it was not decided it answers the outcome, and nothing is added to the list.
 ///
 /// ```
 /// match take(rt, &mut handle, &tree) {

@@ -1,5 +1,5 @@
-//! A number at a key that threads raise by one. A thread reads it and swaps it for the next, and begins again where another one wrote between. No
-//! raise is lost, and no operator is needed.
+//! A number at a key that threads raise by one. A thread reads it and swaps it for the next, and begins again if another one wrote between.
+//! No raise is lost, and no operator is needed.
 ghost use Rattle.std.specs.Prelude.{◌≡◌, ◌≤◌, ◌++◌, ◌+◌, ◌*◌, length, Some, None, OnOk, OnErr};
 ghost use Rattle.std.specs.Int.{w64, to_be_bytes};
 ghost use Rattle.sled_model.specs.declared.call.Call.TheVariants.{CompareAndSwap};
@@ -26,8 +26,8 @@ pub enum Raised {
     To(u64),
     /// At each attempt another caller wrote between the read and the swap. No swap of this caller's succeeded.
     Overtaken,
-    /// The read or the swap came out so, and no swap of this caller's succeeded. Where the greatest `u64` stood it is `Unsupported` (`numbers
-    /// used up`).
+    /// The read or the swap had this outcome, and no swap of this caller's succeeded. If the greatest `u64` was there it is `Unsupported`
+    /// (`numbers used up`).
     Stopped(Outcome),
 }
 
@@ -51,7 +51,7 @@ fn read<P: Pages, L: Ledger, M: MergeOperator>(
     }
 }
 
-// Swaps what stood for the number.
+// Swaps what was there for the number.
 fn swap<P: Pages, L: Ledger, M: MergeOperator>(
     rt: &impl Wait,
     alloc: Global,
@@ -107,7 +107,7 @@ fn told(came: Outcome, number: u64) -> Raised
     }
 }
 
-// Swaps what stood for the next number. It is overtaken where something else stands now.
+// Swaps what was there for the next number. It is overtaken if something else is there now.
 #[tactic(auto, using(crate::proofs::Attempts::swap_calls))]
 fn swap_next<P: Pages, L: Ledger, M: MergeOperator>(
     rt: &impl Wait,
@@ -127,7 +127,7 @@ fn swap_next<P: Pages, L: Ledger, M: MergeOperator>(
     told(came, number)
 }
 
-// One attempt. It is overtaken where another caller wrote between the read and the swap.
+// One attempt. It is overtaken if another caller wrote between the read and the swap.
 #[tactic(auto, using(crate::proofs::Attempts::calls_after, crate::proofs::Attempts::one_of_two, crate::proofs::Attempts::just_one_of_two))]
 fn attempt<P: Pages, L: Ledger, M: MergeOperator>(
     rt: &impl Wait,
@@ -153,9 +153,9 @@ fn attempt<P: Pages, L: Ledger, M: MergeOperator>(
     raised
 }
 
-/// Raises the number at a key by one: reads it, and swaps what it read for the next number. Where another caller wrote between it begins again, up
-/// to so many attempts. Its reads and swaps come to the handle's list, at most two for each of the attempts, and just two for each where it answers
-/// `Overtaken`. Where it answers `To` just one of the swaps succeeded, and wrote this number, and else none did.
+/// Raises the number at a key by one: reads it, and swaps what it read for the next number. If another caller wrote between it begins
+/// again, up to so many attempts. Its reads and swaps are added to the handle's list, at most two for each of the attempts, and just two
+/// for each if it answers `Overtaken`. If it answers `To` just one of the swaps succeeded, and wrote this number, and else none did.
 ///
 /// ```
 /// match raise(rt, alloc, &mut handle, &tree, b"visits", 100) {
@@ -196,7 +196,7 @@ pub fn law_swaps()
     ensures { SwapsLaw }
 {}
 
-/// Where each of these swaps raised the number by one, the number at the end is that in the beginning and as many more as there were.
+/// If each of these swaps raised the number by one, the number at the end is that in the beginning and as many more as there were.
 ///
 /// ```
 /// law_raises(); // From here on a proof knows it.
@@ -214,8 +214,8 @@ pub fn law_shares()
     ensures { SharesLaw }
 {}
 
-/// No raise is lost, whoever made it. Where all callers that were gathered made nothing but raises of one number, it stands higher at the end by as many
-/// as their swaps that succeeded. By what a raise adds to a list, these are one for each raise that answered `To`.
+/// No raise is lost, whichever caller made it. If all callers that were gathered made nothing but raises of one number, it is higher at the
+/// end by as many as their swaps that succeeded. By what a raise adds to a list, these are one for each raise that answered `To`.
 ///
 /// ```
 /// law_raised(); // From here on a proof knows it.

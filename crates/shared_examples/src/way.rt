@@ -51,7 +51,7 @@ fn raise_one<L: Ledger, M: MergeOperator>(
     }
 }
 
-// Raises the number so often, or until a raise comes to nothing.
+// Raises the number so often, or until a raise fails.
 fn raise_on<L: Ledger, M: MergeOperator>(
     rt: &impl Wait,
     alloc: Global,
@@ -158,7 +158,7 @@ fn have_all_written<L: Ledger, M: MergeOperator>(
     true
 }
 
-// The handles go to threads, each of which raises the number, and come back.
+// The handles go to threads, each of which raises the number, and are returned.
 fn work_beside<L: Ledger + Send + Sync, M: MergeOperator + Send, R: Threads + Wait + Sync>(
     rt: &R,
     alloc: Global,
@@ -188,7 +188,7 @@ fn is_open<L: Ledger, M: MergeOperator>(state: &State<MemPages, L, M>) -> bool
     !state.machine().db().pages().in_group()
 }
 
-// Takes the state back. Where of each caller so many swaps succeeded, and its database is open, it is `Ok`.
+// Takes the state back. If of each caller so many swaps succeeded, and its database is open, it is `Ok`.
 fn taken<L: Ledger, M: MergeOperator>(
     rt: &impl Wait,
     shared: shared::Db<MemPages, L, M>,
@@ -246,8 +246,8 @@ fn raised_beside<L: Ledger + Send + Sync, M: MergeOperator + Send, R: Threads + 
 /// Shares a database, lets so many callers raise the number at a key so often each, beside each other in threads, and takes the database back.
 /// A raise is a transaction, `at_once`, or else a read and a swap.
 ///
-/// Where it answers `Ok` the number stands higher by just as many raises as all make together than it stood in the database at first: none was
-/// lost. Else some raise came to nothing, and the state is given back, if it can be.
+/// If it answers `Ok` the number is higher by just as many raises as all make together than it was in the database at first: none was lost.
+/// Else some raise failed, and the state is given back, if it can be.
 ///
 /// ```text
 /// let blank = sled_machine::shared::Blank::new(5); // For four callers.

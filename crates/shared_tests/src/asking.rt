@@ -26,7 +26,7 @@ pub enum Ask<'a> {
     AddOne(&'a [u8]),
     /// Raises the number at the key by a read and a swap, again and again until it is done.
     Raise(&'a [u8]),
-    /// Raises the number at the key in one step, and tells what it is then, or what it was before.
+    /// Raises the number at the key in one step, and answers what it is then, or what it was before.
     Update(&'a [u8]),
     FetchFirst(&'a [u8]),
     /// Puts a job into the queue.
@@ -64,7 +64,7 @@ pub enum Ask<'a> {
     Export,
     /// A step of the call in this slot.
     Step(u64),
-    /// The call in this slot is given up.
+    /// The call in this slot is abandoned.
     Abandon(u64),
 }
 
@@ -114,7 +114,7 @@ pub fn number_of(bytes: &[u8]) -> u64 {
     number
 }
 
-/// What an event tells, or that some were missed.
+/// What is printed of an event, or that some were missed.
 pub fn next_told(next: &Next) -> Told {
     match next {
         Next::Event(sled_model::Event::Insert { key, .. }) => Told::Event(number_of(key.as_ref())),
@@ -123,7 +123,7 @@ pub fn next_told(next: &Next) -> Told {
     }
 }
 
-/// What a reply tells.
+/// What is printed of a reply.
 pub fn reply_told(reply: &Reply) -> Told {
     match reply {
         Reply::Value(Some(value)) => Told::Value(number_of(value.as_ref())),
@@ -142,7 +142,7 @@ pub fn reply_told(reply: &Reply) -> Told {
     }
 }
 
-/// What an error tells.
+/// What is printed of an error.
 pub fn error_told(error: &Error) -> Told {
     match error {
         Error::CollectionNotFound(_) => Told::NoSuchTree,
@@ -151,7 +151,7 @@ pub fn error_told(error: &Error) -> Told {
     }
 }
 
-/// What an outcome tells, which is let go.
+/// What is printed of an outcome, which is dropped.
 pub fn outcome_told(outcome: Outcome) -> Told {
     let told = match &outcome {
         Outcome::Decided(reply) => reply_told(reply),
@@ -166,7 +166,7 @@ pub fn outcome_told(outcome: Outcome) -> Told {
     told
 }
 
-/// What an entry tells of the call that was made.
+/// What an entry says of the call that was made.
 pub fn noted(made: &Made) -> Told {
     match made {
         Made::Point(_, _, reply) => reply_told(reply),
@@ -246,7 +246,7 @@ pub fn call_of<R: Abort>(rt: &R, scene: &Scene, ask: Ask<'_>) -> Call {
     call.expect(rt, "memory")
 }
 
-// What an example tells: this, or how its call came out.
+// What an example answers: this, or the outcome of its call.
 fn answer_told(answer: Result<Told, Outcome>) -> Told {
     match answer {
         Ok(told) => told,
@@ -262,7 +262,7 @@ fn raised_told(raised: Raised) -> Told {
     }
 }
 
-// What a job tells that was taken, if one waited.
+// What is printed of a job that was taken, if one waited.
 fn job_told(job: Option<(IVec, IVec)>) -> Told {
     let told = match &job {
         Some(pair) => Told::Job(number_of(pair.1.as_ref())),
@@ -278,7 +278,7 @@ fn next_of(alloc: Global, stood: Option<&[u8]>) -> Result<Option<Vec<u8>>, Alloc
     Ok(Some(Vec::from_slice(alloc, &number.to_be_bytes())?))
 }
 
-/// What a value tells that was looked up.
+/// What is printed of a value that was looked up.
 pub fn value_told(value: Result<Option<IVec>, Error>) -> Told {
     let told = match &value {
         Ok(Some(value)) => Told::Value(number_of(value.as_ref())),
@@ -292,7 +292,7 @@ pub fn value_told(value: Result<Option<IVec>, Error>) -> Told {
 // So often a number is read and swapped at most: each time in vain another thread wrote it.
 const ATTEMPTS: u64 = 1_000_000;
 
-/// Makes the call, or a part of it. What it tells.
+/// Makes the call, or a part of it. Its answer.
 pub fn told_of<L: Ledger, R: Wait + Abort>(
     rt: &R,
     scene: &Scene,

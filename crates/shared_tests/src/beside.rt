@@ -31,7 +31,7 @@ pub type Shared<L> = shared::Db<MemPages, L, Adds>;
 /// A caller's way to it.
 pub type Way<L> = shared::Handle<MemPages, L, Adds>;
 
-/// What lies under its lock.
+/// What is under its lock.
 pub type Gathered<L> = shared::State<MemPages, L, Adds>;
 
 /// What the callers of a trial have in common: the tree, the moves of the trial, and numbers, from 0 up, one for each `Signal`.
@@ -47,16 +47,16 @@ pub struct Scene {
     pub slot: AtomicU64,
     pub before: AtomicU64,
     pub after: AtomicU64,
-    /// So often somebody waited in vain.
+    /// How often a caller waited in vain.
     pub vain: AtomicU64,
 }
 
-/// Ends the test where something does not hold, and says what should.
+/// Ends the test if something does not hold, and says what should.
 pub fn require<R: Abort>(rt: &R, holds: bool, what: &str) {
     assert!(rt; holds, "{what}");
 }
 
-/// Whether this came out well. It is let go.
+/// Whether this succeeded. It is dropped.
 pub fn is_done<T: Drop, E: Drop>(came: Result<T, E>) -> bool {
     let done = came.is_ok();
     drop(came);
@@ -178,7 +178,7 @@ fn work_beside<L: Ledger + Send + Sync, R: Threads + Wait + Abort + Sync>(
     }
 }
 
-// The state, where these are all handles.
+// The state, if these are all handles.
 fn gathered<L: Ledger, R: Wait + Abort>(
     rt: &R,
     shared: Shared<L>,
@@ -202,7 +202,7 @@ fn gathered_with<L: Ledger, R: Wait + Abort>(
     gathered(rt, shared, handles)
 }
 
-// The state: first without the last handle, when all is given back, and then with it. Where no handle was made none is wanted.
+// The state: first without the last handle, when all is given back, and then with it. If no handle was made none is wanted.
 fn gathered_late<L: Ledger, R: Wait + Abort>(
     rt: &R,
     shared: Shared<L>,
@@ -249,7 +249,7 @@ fn has_flush(history: &[Entry]) -> bool {
     false
 }
 
-// Whether a crash that keeps nothing since the last flush leaves no pair. Nobody flushes the database before it is shared.
+// Whether a crash that keeps nothing since the last flush leaves no pair. No caller flushes the database before it is shared.
 fn is_unflushed<R: Abort>(rt: &R, alloc: Global, machine: Machine<MemPages, Adds>) -> bool {
     machine.audit();
     let left = crash_pages(machine.into_db().into_pages(), 0).expect(rt, "memory");

@@ -10,7 +10,7 @@ use std::sync::ledger::Ledger;
 
 /// A caller, in a thread of its own.
 pub trait Caller {
-    /// What it made, as it can tell itself.
+    /// What it made, as it knows itself.
     fn made(&self) -> &[Made];
 
     /// Makes the call. What came of it.
@@ -25,7 +25,7 @@ pub trait Caller {
     /// Begins a call on a key. Its slot.
     fn begin(&mut self, ask: Ask<'_>) -> u64;
 
-    /// Ends the test where something does not hold, and says what should.
+    /// Ends the test if something does not hold, and says what should.
     fn require(&self, holds: bool, what: &str);
 }
 

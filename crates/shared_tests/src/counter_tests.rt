@@ -1,4 +1,4 @@
-//! Threads that count up one number together: by merges, and by reads and swaps. None is lost, and none is told twice.
+//! Threads that count up one number together: by merges, and by reads and swaps. None is lost, and none is returned twice.
 use crate::asking::{Ask, Told};
 use crate::beside::try_out;
 use crate::trial::{TWO_CALLERS, Trial, Wanted};

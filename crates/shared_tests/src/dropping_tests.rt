@@ -32,7 +32,7 @@ fn an_insert_finds_its_tree_dropped(rt: HostRuntime) {
     try_out(&rt, rt.alloc(), &TRIAL);
 }
 
-// Once the tree is dropped, each call on it tells so.
+// Once the tree is dropped, each call on it says so.
 const GONE: [Turn<'static>; 4] = [
     Turn::Ask(Ask::DropTree, Told::Dropped),
     Turn::Ask(Ask::PopMin, Told::NoSuchTree),

@@ -1,4 +1,4 @@
-//! A subscriber from before the database was shared, and one that a handle made: each is told all events, whatever begins between.
+//! A subscriber from before the database was shared, and one that a handle made: each gets all events, whatever begins between.
 use crate::asking::{Ask, Told};
 use crate::beside::try_out;
 use crate::trial::{EMPTY, Start, TWO_CALLERS, Trial, Wanted};

@@ -1,4 +1,4 @@
-//! Many calls that are given up, one after the other.
+//! Many calls that are abandoned, one after the other.
 use crate::beside::try_out;
 use crate::trial::{TWO_CALLERS, Trial, Wanted};
 use crate::turns::Turn;

@@ -13,7 +13,7 @@ const FIRST: [Turn<'static>; 3] = [
     Turn::Set(Signal::Ended),
 ];
 
-// The second one is told what it was before, once the first is done.
+// The second one gets what it was before, once the first is done.
 const SECOND: [Turn<'static>; 4] = [
     Turn::Count(Ask::Update(b"n"), TIMES),
     Turn::Wait(Signal::Ended),

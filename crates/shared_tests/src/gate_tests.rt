@@ -1,4 +1,4 @@
-//! Two threads at one key: the second makes its call while the first stands between two steps, with the lock free; once, or often.
+//! Two threads at one key: the second makes its call while the first is between two steps, with the lock free; once, or often.
 use crate::asking::{Ask, Told};
 use crate::beside::try_out;
 use crate::trial::{TWO_CALLERS, Trial, Wanted};
@@ -33,7 +33,7 @@ fn one_call_between_two_steps_of_another(rt: HostRuntime) {
     try_out(&rt, rt.alloc(), &TRIAL);
 }
 
-// Where the second thread gives the call up meanwhile, the first has none any more.
+// If the second thread gives the call up meanwhile, the first has none any more.
 const FIRST_ENDED: [Turn<'static>; 2] = [
     Turn::Meet(b"a", &[1], Told::NoSuchSlot, 1),
     Turn::Made(0),

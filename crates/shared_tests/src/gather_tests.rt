@@ -22,7 +22,7 @@ const TRIAL: Trial<'static> = Trial {
     ..TWO_CALLERS
 };
 
-// Where no handle was made none is wanted.
+// If no handle was made none is wanted.
 const NO_CALLER: Trial<'static> = Trial {
     callers: 0,
     wanted: Wanted::Calls(0, &[]),

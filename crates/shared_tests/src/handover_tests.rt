@@ -1,4 +1,4 @@
-//! Calls that one thread leaves half done, which another finishes, or makes again once they are given up.
+//! Calls that one thread leaves half done, which another finishes, or makes again once they are abandoned.
 use crate::asking::{Ask, Told};
 use crate::beside::try_out;
 use crate::trial::{EMPTY, Start, TWO_CALLERS, Trial, Wanted};
@@ -34,7 +34,7 @@ const SECOND: [Turn<'static>; 3] = [
     Turn::Step(Told::Value(10)),
 ];
 
-// The first thread gives the removal up where it is.
+// The first thread abandons the removal at the stage that it has.
 const FIRST_GIVING_UP: [Turn<'static>; 6] = [
     Turn::Begin(Ask::Get(&[0]), Signal::Before),
     Turn::Begin(Ask::Remove(&[10]), Signal::Slot),

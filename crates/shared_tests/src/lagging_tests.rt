@@ -1,4 +1,4 @@
-//! Two threads that insert under a subscriber, which nobody asks meanwhile: it is told the latest events, and how many it missed.
+//! Two threads that insert under a subscriber, which no thread reads meanwhile: it gets the latest events, and how many it missed.
 use crate::beside::try_out;
 use crate::trial::{TWO_CALLERS, Trial, Wanted};
 use crate::turns::{Place, Signal, Turn};
@@ -12,7 +12,7 @@ const WAITING: u64 = 1024;
 // All calls are noted: the subscription, the inserts, and each that asked for what is next.
 const CALLS: u64 = 1 + 2 * TIMES + 1 + WAITING + 1;
 
-// The thread that is done last asks for what the subscriber is told.
+// The thread that is done last asks for what the subscriber gets.
 const LAG: Turn<'static> = Turn::Lag(WAITING, 2 * TIMES - WAITING);
 
 // The first thread has the subscriber.

@@ -1,4 +1,4 @@
-//! Transactions of several trees by two handles, what stood before their writes, and pages of a range one after the other.
+//! Transactions of several trees by two handles, what was before their writes, and pages of a range one after the other.
 ghost use Rattle.std.specs.Prelude.{◌≡◌};
 
 use crate::beside::{Fresh, Way, new_database, require};
@@ -13,7 +13,7 @@ use std::process::Abort;
 use std::sync::Wait;
 use std::sync::ledger::Ledger;
 
-// Moves the value at a key from the first tree to the second. It answers how long the value is, and gives up where there is none.
+// Moves the value at a key from the first tree to the second. It answers how long the value is, and aborts if there is none.
 fn move_over<L: Ledger>(
     rt: &impl Wait,
     handle: &mut Way<L>,
@@ -63,7 +63,7 @@ fn is_foreign(ended: TransactionResult<u64, u64>) -> bool {
     is
 }
 
-// What was moved stood in the first tree, and in the second one there was nothing at the two keys.
+// What was moved was in the first tree, and in the second one there was nothing at the two keys.
 fn is_move(made: &Made) -> bool {
     match made {
         Made::Transaction(batches, stood) => {

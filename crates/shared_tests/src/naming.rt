@@ -106,7 +106,7 @@ fn answer_told(answer: Result<Answer, Error>) -> Told {
     told
 }
 
-/// Makes the whole call by its own name; of an insert a group of one batch, of a get its reply, and of a count the question. What it tells.
+/// Makes the whole call by its own name; of an insert a group of one batch, of a get its reply, and of a count the question. Its answer.
 pub fn named_told<L: Ledger, R: Wait + Abort>(
     rt: &R,
     scene: &Scene,

@@ -7,7 +7,7 @@ use crate::turns::{Place, Taken, Turn};
 // So many jobs are put in: the numbers from 1 on.
 const JOBS: u64 = 1000;
 
-// A job comes to the history with its id and its insert, and is taken once. Then none waits.
+// A job is added to the history with its id and its insert, and is taken once. Then none waits.
 const CALLS: usize = 3 * JOBS as usize + 1;
 
 const FIRST: [Turn<'static>; 1] = [Turn::Put(Place::Queue, JOBS)];

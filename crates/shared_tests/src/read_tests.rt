@@ -1,4 +1,5 @@
-//! Reads under one lock: what each tells, beside writes of another thread, and of a tree that is gone. And whole calls by their own names.
+//! Reads under one lock: what each answers, beside writes of another thread, and of a tree that is gone. And whole calls by their own
+//! names.
 use crate::asking::{Ask, Told};
 use crate::beside::try_out;
 use crate::trial::{EMPTY, Start, TWO_CALLERS, Trial, Wanted};
@@ -29,7 +30,7 @@ const EACH: [Turn<'static>; 21] = [
     Turn::Set(Signal::Ready),
 ];
 
-// Then the other caller drops the tree, of which nothing more is told.
+// Then the other caller drops the tree, of which nothing more is answered.
 const GONE: [Turn<'static>; 6] = [
     Turn::Wait(Signal::Ready),
     Turn::Named(Ask::DropTree, Told::Flag(true)),
@@ -62,7 +63,7 @@ const TIMES: u64 = 300;
 
 const WRITING: [Turn<'static>; 1] = [Turn::Put(Place::Itself, TIMES)];
 
-// What is read beside the writes is what a plain map tells at its place in the history.
+// What is read beside the writes is what a plain map has at its place in the history.
 const READING: [Turn<'static>; 6] = [
     Turn::Again(Ask::Last, TIMES),
     Turn::Again(Ask::Look(&[0, 0, 0, 0, 0, 0, 0, 9]), TIMES),

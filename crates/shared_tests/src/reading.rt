@@ -9,7 +9,7 @@ use std::process::Abort;
 use std::sync::Wait;
 use std::sync::ledger::Ledger;
 
-// Why a read was refused. The error is let go.
+// Why a read was refused. The error is dropped.
 fn refused_told(error: Error) -> Told {
     let told = error_told(&error);
     drop(error);
@@ -84,7 +84,7 @@ fn export_told(answer: Result<Collections, Error>) -> Told {
     }
 }
 
-/// Reads a value or a pair. What it tells.
+/// Reads a value or a pair. Its answer.
 pub fn look_told<L: Ledger, R: Wait + Abort>(
     rt: &R,
     scene: &Scene,
@@ -103,7 +103,7 @@ pub fn look_told<L: Ledger, R: Wait + Abort>(
     }
 }
 
-/// Reads of many pairs how many there are, or some. What it tells.
+/// Reads of many pairs how many there are, or some. Its answer.
 pub fn count_told<L: Ledger, R: Wait + Abort>(
     rt: &R,
     scene: &Scene,
@@ -216,7 +216,7 @@ fn answers(map: &Plain, question: &Question, answer: &Answer) -> bool {
     }
 }
 
-/// Whether the map tells the same where it is read so.
+/// Whether the map answers the same if it is read so.
 pub fn reads(map: &Plain, read: &Read) -> bool {
     match read {
         Read::Tree(_, question, answer) => answers(map, question, answer),

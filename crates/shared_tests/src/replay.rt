@@ -29,7 +29,7 @@ fn set<R: Abort>(rt: &R, map: &mut Plain, key: &IVec, value: &Option<IVec>) {
     }
 }
 
-/// Whether this stands at a key.
+/// Whether this is the value at a key.
 pub fn stands(map: &Plain, key: &IVec, value: &Option<IVec>) -> bool {
     match (map.get(key), value) {
         (Some(there), Some(value)) => there == value,
@@ -38,7 +38,7 @@ pub fn stands(map: &Plain, key: &IVec, value: &Option<IVec>) -> bool {
     }
 }
 
-// Makes the call on the map, where this stands at its key and its reply is this value. Of a merge what the reply tells is written.
+// Makes the call on the map, if this is at its key and its reply is this value. Of a merge what the reply says is written.
 fn writes<R: Abort>(rt: &R, map: &mut Plain, call: &Call, told: &Option<IVec>) -> bool {
     match call {
         Call::Get(key) => stands(map, key, told),
@@ -83,7 +83,7 @@ fn makes<R: Abort>(rt: &R, map: &mut Plain, call: &Call, reply: &Reply) -> bool 
     }
 }
 
-// Whether this pair was taken out of the map. It is let go.
+// Whether this pair was taken out of the map. It is dropped.
 fn is_popped(popped: Option<(IVec, IVec)>, pair: &Option<(IVec, IVec)>) -> bool {
     let same = popped == *pair;
     drop(popped);
@@ -124,7 +124,7 @@ fn makes_whole<R: Abort>(rt: &R, map: &mut Plain, whole: &Whole, reply: &Reply) 
     }
 }
 
-// Whether these stand at the keys of all batches, in the order of their writes.
+// Whether these are at the keys of all batches, in the order of their writes.
 fn stand(map: &Plain, batches: &[(Tree, Batch)], stood: &[Option<IVec>]) -> bool {
     let mut place = 0usize;
     for (_, batch) in batches {
@@ -143,7 +143,7 @@ fn stand(map: &Plain, batches: &[(Tree, Batch)], stood: &[Option<IVec>]) -> bool
     place == stood.len()
 }
 
-// Makes the writes of a transaction. Whether these stood there before.
+// Makes the writes of a transaction. Whether these were there before.
 fn transacts<R: Abort>(
     rt: &R,
     map: &mut Plain,
@@ -199,7 +199,7 @@ fn replays<R: Abort>(rt: &R, map: &mut Plain, history: &[Entry]) -> bool {
     true
 }
 
-/// The plain map that begins with what the database had when it was shared, after it made each call of the history; `None` where one has
+/// The plain map that begins with what the database had when it was shared, after it made each call of the history; `None` if one has
 /// another reply there. All pairs and calls are of one tree.
 pub fn replayed<R: Abort>(
     rt: &R,

@@ -1,5 +1,5 @@
-//! A scan that two threads step: the first takes one pair of it, and the second the others. And one of several leaves. Neither comes to the
-//! history, and what they did is in the list of scans.
+//! A scan that two threads step: the first takes one pair of it, and the second the others. And one of several leaves. Neither is added to
+//! the history, and what they did is in the list of scans.
 use crate::asking::{Ask, Told};
 use crate::beside::try_out;
 use crate::trial::{EMPTY, Start, TWO_CALLERS, Trial, Wanted};

@@ -1,4 +1,4 @@
-//! A swap, what a handle tells of its caller, and calls of a state outside the lock, once all handles are back.
+//! A swap, what a handle says of its caller, and calls of a state outside the lock, once all handles are back.
 use crate::asking::{Ask, Told, call_of, outcome_told};
 use crate::beside::{Gathered, Scene, require, try_out};
 use crate::trial::{EMPTY, Start, TWO_CALLERS, Trial, Wanted};
@@ -6,7 +6,7 @@ use crate::turns::Turn;
 use std::process::Abort;
 use std::sync::ledger::Ledger;
 
-/// A call that begins in a state, and is given up: nothing is noted.
+/// A call that begins in a state, and is abandoned: nothing is noted.
 pub fn begin_and_abandon<L: Ledger, R: Abort>(rt: &R, scene: &Scene, state: &mut Gathered<L>) {
     let call = call_of(rt, scene, Ask::Get(&[0]));
     let slot = state.begin(&scene.tree, call).expect(rt, "a slot");

@@ -1,4 +1,5 @@
-//! A thread that inserts new keys, and another that takes the events meanwhile: they are told in order, and none is lost without a word.
+//! A thread that inserts new keys, and another that takes the events meanwhile: they are returned in order, and none is lost without a
+//! word.
 use crate::beside::try_out;
 use crate::trial::{TWO_CALLERS, Trial};
 use crate::turns::{Place, Signal, Taken, Turn};

@@ -1,4 +1,4 @@
-//! Transactions by two handles: what comes to the lists and the history, and what is refused.
+//! Transactions by two handles: what is added to the lists and the history, and what is refused.
 ghost use Rattle.std.specs.Prelude.{◌≡◌};
 
 use crate::beside::{Fresh, Gathered, Way, new_database, require};
@@ -17,7 +17,7 @@ use std::sync::ledger::Ledger;
 enum Came {
     /// It answered this.
     Answered(u64),
-    /// It was given up with this.
+    /// It was aborted with this.
     GivenUp(u64),
     NoSuchTree,
     Unsupported,
@@ -36,7 +36,7 @@ fn came_of(ended: TransactionResult<u64, u64>) -> Came {
     came
 }
 
-// Moves the value at `a` to `b`, and flushes. It answers how long the value is, and gives up where there is none.
+// Moves the value at `a` to `b`, and flushes. It answers how long the value is, and aborts if there is none.
 fn transfer<L: Ledger>(rt: &impl Wait, handle: &mut Way<L>, tree: &Tree) -> Came {
     came_of(handle.transaction(rt, tree, |inside| {
         let Some(value) = inside.remove(b"a")? else {

@@ -1,4 +1,4 @@
-//! What callers do beside each other, and what has to come of it.
+//! What callers do beside each other, and its expected outcome.
 use crate::asking::{Told, noted};
 use crate::beside::Scene;
 use crate::caller::Caller;
@@ -32,7 +32,7 @@ pub const EMPTY: Start = Start {
 /// What the history has, once all callers are done.
 #[derive(Clone, Copy)]
 pub enum Wanted<'a> {
-    /// So many calls; among them some of these callers, by their numbers, which tell this.
+    /// So many calls; among them some of these callers, by their numbers, which answer this.
     Calls(usize, &'a [(u64, Told)]),
     /// So many calls on a key, whose replies count up from 1.
     Counted(usize),
@@ -50,7 +50,7 @@ pub struct Trial<'a> {
     pub callers: u8,
     pub first: &'a [Turn<'a>],
     pub others: &'a [Turn<'a>],
-    /// So many moves of a call are the first caller's, where it hands one over.
+    /// So many moves of a call are the first caller's, if it hands one over.
     pub moves: u64,
     pub wanted: Wanted<'a>,
     /// One scan gives so many pairs, to its end, and what scans do is noted; or it is not.
@@ -68,7 +68,7 @@ pub const TWO_CALLERS: Trial<'static> = Trial {
     scanned: None,
 };
 
-// Whether the history has an entry of this caller that tells this.
+// Whether the history has an entry of this caller that says this.
 fn has_entry(history: &[Entry], by: u64, told: Told) -> bool {
     for entry in history {
         if entry.by == by && noted(&entry.made) == told {

@@ -7,10 +7,10 @@ use sled_model::{Call, Reply};
 use std::sync::atomic::{AtomicU64, Ordering};
 use std::thread::yield_now;
 
-/// What callers tell each other by a number that is 0 at first.
+/// What callers signal each other by a number that is 0 at first.
 #[derive(Clone, Copy)]
 pub enum Signal {
-    /// Another caller may begin. Where there is a subscriber, it is its number.
+    /// Another caller may begin. If there is a subscriber, it is its number.
     Ready,
     /// So often something was done.
     Count,
@@ -44,21 +44,22 @@ pub enum Taken {
 /// What a caller does.
 #[derive(Clone, Copy)]
 pub enum Turn<'a> {
-    /// Makes a call, of which this has to come.
+    /// Makes a call, with this expected outcome.
     Ask(Ask<'a>, Told),
-    /// Inserts this value at this key, of which that has to come, after it went on so often. After its first step the others make their call.
+    /// Inserts this value at this key, with that expected outcome, after it went on so often. After its first step the others make their
+    /// call.
     Meet(&'a [u8], &'a [u8], Told, u64),
-    /// Inserts this value at this key, of which that has to come. After each of so many steps that went on another caller makes a call.
+    /// Inserts this value at this key, with that expected outcome. After each of so many steps that went on another caller makes a call.
     HeldUp(&'a [u8], &'a [u8], Told, u64),
     /// Holds up so many steps of the call of another caller, each by an insert of its number at this key.
     HoldUp(&'a [u8], u64),
     /// Puts the numbers from 1 on there, so many, or until the tree is not there any more.
     Put(Place<'a>, u64),
-    /// Makes a call so often that tells a number. Each is greater than the one before.
+    /// Makes a call so often that answers a number. Each is greater than the one before.
     Count(Ask<'a>, usize),
-    /// Makes a whole call by its own name, of which this has to come.
+    /// Makes a whole call by its own name, with this expected outcome.
     Named(Ask<'a>, Told),
-    /// Makes a call so often, of which anything may come.
+    /// Makes a call so often, with any outcome.
     Again(Ask<'a>, u64),
     /// Begins a call.
     Begin(Ask<'a>, Signal),
@@ -66,7 +67,7 @@ pub enum Turn<'a> {
     GoOn,
     /// The same from there on, until it has so many moves.
     GoOnTo(u64),
-    /// One step of that call, which tells this.
+    /// One step of that call, which answers this.
     Step(Told),
     /// Steps that call, a scan, to its end. It gives the pairs with the numbers from 1 on as their keys, so many.
     ScanOn(u64),
@@ -76,11 +77,11 @@ pub enum Turn<'a> {
     GiveUp(u64),
     /// Subscribes to all keys.
     Watch,
-    /// Makes a call that takes what others put, an event or a job, until so many are told or missed.
+    /// Makes a call that takes what others put, an event or a job, until so many are returned or missed.
     Take(Taken, u64),
-    /// The one of two callers that comes here last is told so many events, and that it missed so many.
+    /// The one of two callers that comes here last gets so many events, and that it missed so many.
     Lag(u64, u64),
-    /// It has made so many calls, as it can tell itself.
+    /// It has made so many calls, as it knows itself.
     Made(usize),
     /// It has made one insert of this key, which had no value, and nothing else.
     MadeInsert(&'a [u8]),
@@ -133,7 +134,7 @@ impl Gate for Meets<'_> {
     }
 }
 
-// An insert that passes the gate so often, and tells this.
+// An insert that passes the gate so often, and answers this.
 fn meet<C: Caller>(
     scene: &Scene,
     caller: &mut C,
@@ -150,7 +151,7 @@ fn meet<C: Caller>(
     );
 }
 
-// An insert that is held up so often, and tells this.
+// An insert that is held up so often, and answers this.
 fn held_up<C: Caller>(
     scene: &Scene,
     caller: &mut C,
@@ -189,7 +190,7 @@ fn putting<'a>(place: Place<'a>, bytes: &'a [u8]) -> Ask<'a> {
     }
 }
 
-// Tells how many came in.
+// Signals how many were put in.
 fn put_on<C: Caller>(scene: &Scene, caller: &mut C, place: Place<'_>, times: u64) {
     for number in 1..=times {
         let bytes = number.to_be_bytes();
@@ -309,7 +310,7 @@ fn is_insert(made: &[Made], key: &[u8]) -> bool {
     }
 }
 
-// The number that stands for it.
+// The number of a signal.
 fn number_of(scene: &Scene, signal: Signal) -> &AtomicU64 {
     match signal {
         Signal::Ready => &scene.ready,

@@ -31,7 +31,7 @@ const SECOND: [Turn<'static>; 13] = [
     Turn::Made(11),
 ];
 
-// The pop, the clear and the import that was refused are told by their entries.
+// The pop, the clear and the import that was refused are shown by their entries.
 const TRIAL: Trial<'static> = Trial {
     first: &FIRST,
     others: &SECOND,

@@ -117,7 +117,7 @@ pub fn how_in(arguments: &Arguments) -> How {
     how_of(arguments.bytes(1)).unwrap_or(How::Short)
 }
 
-/// Adds what a line prints that asks a database, where there is none.
+/// Adds what a line prints that asks a database, if there is none.
 pub fn tell_unasked(out: &mut Told, verb: Verb) -> Result<()> {
     match verb {
         Verb::Step | Verb::Finish | Verb::Abandon | Verb::Turns => tell_turns(out, None),

@@ -38,7 +38,7 @@ fn add_part(
     }
 }
 
-// A text up to the first `;` that stands between two words, and what stands behind it, if there is one.
+// A text up to the first `;` that is between two words, and what is behind it, if there is one.
 fn cut(text: &[u8]) -> (&[u8], Option<&[u8]>) {
     for (at, _) in text.iter().enumerate() {
         if let [b' ', b';', b' ', rest @ ..] = &text[at..] {

@@ -24,10 +24,10 @@ pub struct Lines {
     pub arguments: Arguments,
     /// What is to be printed.
     pub out: Told,
-    /// Why the line cannot be read; empty where it can be.
+    /// Why the line cannot be read; empty if it can be.
     pub why: Vec<u8>,
     number: u64,
-    // Whether the line stands in a file that a line has run.
+    // Whether the line is in a file that a line has run.
     is_in_file: bool,
     // Whether each line could be read.
     is_good: bool,
@@ -47,7 +47,7 @@ pub fn rest_behind(line: &[u8], own: usize) -> &[u8] {
     words_behind(line, own).unwrap_or(b"")
 }
 
-// Adds the line of one that cannot be read, which stands in a file or not.
+// Adds the line of one that cannot be read, which is in a file or not.
 fn push_bad(out: &mut Told, number: u64, is_in_file: bool, why: &[u8]) -> Result<(), Stopped> {
     let place: &[u8] = if is_in_file { b" of the file: " } else { b": " };
     tell(
@@ -63,7 +63,7 @@ fn push_bad(out: &mut Told, number: u64, is_in_file: bool, why: &[u8]) -> Result
 }
 
 impl Lines {
-    /// No line was read yet. Where refusals are explained, their text stands behind their number.
+    /// No line was read yet. If refusals are explained, their text follows their number.
     pub fn new(alloc: Global, explains: bool) -> Lines {
         Lines {
             alloc,
@@ -92,7 +92,7 @@ impl Lines {
         push_bad(&mut self.out, number, is_in_file, self.why.as_slice())
     }
 
-    /// Adds why ids cannot be set aside, where the mark is higher.
+    /// Adds why ids cannot be set aside, if the mark is higher.
     pub fn tell_below(&mut self, upto: u64, mark: u64) -> Result<(), Stopped> {
         answered(push_pieces(
             &mut self.why,
@@ -132,7 +132,7 @@ impl Lines {
         self.number = number;
     }
 
-    /// Whether the line stands in a file that a line has run.
+    /// Whether the line is in a file that a line has run.
     pub fn is_in_file(&self) -> bool {
         self.is_in_file
     }
@@ -152,7 +152,7 @@ impl Lines {
         self.tell_bad()
     }
 
-    /// Adds that the line does not stand in a file, as it has the lines of one run, or makes many changes one after the other.
+    /// Adds that the line may not be in a file, as it has the lines of one run, or makes many changes one after the other.
     pub fn tell_swept(&mut self) -> Result<(), Stopped> {
         let name = first_word(without_end(self.line.as_slice())).0;
         answered(quote(
@@ -188,7 +188,7 @@ impl Lines {
         way_of(first_word(self.line.as_slice()).0)
     }
 
-    // What the line asks for, if it does. One that cannot be read is told.
+    // What the line asks for, if it does. One that cannot be read is printed.
     fn verb(&mut self) -> Result<Option<Verb>, Stopped> {
         self.why.clear();
         self.arguments.clear();

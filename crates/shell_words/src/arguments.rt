@@ -1,4 +1,4 @@
-//! What a line has behind the words of its command: how many words that takes, and what each of them stands for.
+//! What a line has behind the words of its command: how many words that takes, and what each of them means.
 
 use crate::how::takes_bytes;
 use crate::image::check_page;
@@ -25,7 +25,7 @@ const NO_OPERATOR: &str = "is no operator: concat, add, max, before, keep, gone 
 #[derive(Drop)]
 pub struct Arguments {
     alloc: Global,
-    // Byte strings, and other words as they stand; `-` is none, and so is a `;` between two parts.
+    // Byte strings, and other words as they are; `-` is none, and so is a `;` between two parts.
     values: Vec<Option<IVec>>,
     bounds: Vec<Bound<IVec>>,
     numbers: Vec<u64>,
@@ -64,7 +64,7 @@ impl Arguments {
         value_at(self.values.as_slice(), place)
     }
 
-    /// The same, where none is the empty string.
+    /// The same; none becomes the empty string.
     pub fn bytes(&self, place: usize) -> &[u8] {
         self.value(place).unwrap_or(b"")
     }
@@ -77,7 +77,7 @@ impl Arguments {
         }
     }
 
-    /// The first number, or 0 where there is none.
+    /// The first number, or 0 if there is none.
     pub fn number(&self) -> u64 {
         match self.numbers.first() {
             Some(number) => *number,
@@ -85,7 +85,7 @@ impl Arguments {
         }
     }
 
-    // Takes down a value, if there is one. Else it answers what is said of its word, and nothing where it was read.
+    // Takes down a value, if there is one. Else it answers what is said of its word, and nothing if it was read.
     fn take(
         &mut self,
         value: Option<Option<IVec>>,
@@ -121,7 +121,7 @@ impl Arguments {
         Ok("")
     }
 
-    // The same for a bound. Where the word is a byte string it stands behind what is said.
+    // The same for a bound. If the word is a byte string it follows what is said.
     fn take_bound(&mut self, word: &[u8]) -> Result<&'static str> {
         if let Some(bound) = read_bound(self.alloc, word)? {
             self.bounds.push(bound)?;
@@ -195,7 +195,7 @@ impl Arguments {
         }
     }
 
-    /// Reads a text by what a command takes, which is named by its own words. Where it is not that, adds why.
+    /// Reads a text by what a command takes, which is named by its own words. If it is not that, adds why.
     pub fn read_text(
         &mut self,
         own: &'static str,
@@ -226,13 +226,13 @@ pub fn value_at(values: &[Option<IVec>], place: usize) -> Option<&[u8]> {
     }
 }
 
-// What any number of words stand for behind those that come once.
+// What any number of words mean behind those that are there once.
 #[derive(Clone, Copy)]
 enum Tail {
     Nothing,
     // Numbers, of which there is one.
     Numbers,
-    // A key and a value in turn; the word is what stands for the value.
+    // A key and a value in turn; the word is that of the value.
     Pairs(&'static str),
     // The same, and then more of all, behind a `;`.
     Parts(&'static str),
@@ -240,7 +240,7 @@ enum Tail {
     How,
     // Two words at the most.
     Maybe,
-    // A transaction, with the words of the list in front where it is of several trees.
+    // A transaction, with the words of the list in front if it is of several trees.
     Script(Reach),
     // A page of an image.
     Page,
@@ -323,7 +323,7 @@ fn count_of(takes: Takes<'_>) -> (&'static str, &'static str) {
     }
 }
 
-// What a word of a line stands for.
+// What a word of a line means.
 #[derive(Clone, Copy)]
 enum Kind {
     Bytes,
@@ -354,7 +354,7 @@ static KINDS: [(&str, Kind); 15] = [
     ("[WORD]", Kind::Any),
 ];
 
-// What the word stands for in this place of a command.
+// What the word means in this place of a command.
 fn kind_of(place: &[u8]) -> Kind {
     find(&KINDS, place).unwrap_or(Kind::Number)
 }
@@ -414,7 +414,7 @@ fn has_strings(takes: Takes<'_>) -> bool {
     false
 }
 
-// Adds how many words a command takes, where there are so many others.
+// Adds how many words a command takes, if there are so many others.
 fn push_count(
     why: &mut Vec<u8>,
     own: &'static str,

@@ -13,7 +13,7 @@ use std::alloc::Global;
 pub enum Image {
     /// A store with the mark 0.
     Plain,
-    /// A store with a mark, which stands in the line.
+    /// A store with a mark, which the line has.
     Mark,
     /// A store with the mark 0, in which a group is begun.
     Group,
@@ -49,7 +49,7 @@ fn kind_of(word: &[u8]) -> Option<Kind> {
     }
 }
 
-// What a word of a page stands for.
+// What a word of a page means.
 #[derive(Clone, Copy)]
 enum Place {
     Number,
@@ -58,7 +58,7 @@ enum Place {
     Bytes,
 }
 
-// What the word in this place of a page stands for, and what is said of it if it does not. The kind was compared before, and is a byte
+// What the word in this place of a page means, and what is said of it if it means nothing. The kind was compared before, and is a byte
 // string too.
 fn place_of(kind: Kind, at: usize) -> (Place, &'static str) {
     match at {
@@ -71,7 +71,7 @@ fn place_of(kind: Kind, at: usize) -> (Place, &'static str) {
     }
 }
 
-// Whether a word stands for this.
+// Whether a word means this.
 fn fits(alloc: Global, place: Place, word: &[u8]) -> sled_nodes::Result<bool> {
     match place {
         Place::Number => Ok(read_number(word).is_some()),
@@ -81,7 +81,7 @@ fn fits(alloc: Global, place: Place, word: &[u8]) -> sled_nodes::Result<bool> {
     }
 }
 
-// Adds why words do not stand for what a page of this kind has, if one does not.
+// Adds why words do not mean what a page of this kind has, if one does not.
 fn check_words(
     alloc: Global,
     kind: Kind,

@@ -1,5 +1,5 @@
 //! What the shell reads and spells: its commands and what they take, transactions and pages of images, its merge operators, and how answers
-//! are told. No database is needed.
+//! are printed. No database is needed.
 #![tactic(auto)]
 
 pub mod arguments;

@@ -80,7 +80,7 @@ fn is_bound(alloc: Global, word: &[u8]) -> Answer<bool> {
     Ok(was_read(read_bound(alloc, word)?))
 }
 
-/// Whether a read takes these words, which stand behind its own.
+/// Whether a read takes these words, which are behind its own.
 pub fn is_read(alloc: Global, look: Look, words: Option<&[u8]>) -> Answer<bool> {
     match (look, words) {
         (Look::First | Look::Last | Look::Len | Look::Empty | Look::Names | Look::All, words) => {

@@ -8,9 +8,9 @@ use line_words::words::read_value;
 use sled_model::Tree;
 use std::alloc::Global;
 
-/// What names stand for.
+/// What names mean.
 pub trait TreeNames {
-    /// The tree that a name stands for, if it stands for one.
+    /// The tree that a name means, if it means one.
     fn tree(&self, name: &[u8]) -> Option<&Tree>;
 }
 

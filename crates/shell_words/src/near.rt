@@ -1,4 +1,4 @@
-//! How near a word is to another one that somebody may have meant.
+//! How near a word is to another one that a user may have meant.
 
 /// How near a word is to another one.
 #[derive(Clone, Copy)]

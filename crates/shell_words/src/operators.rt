@@ -8,7 +8,7 @@ use crate::words::find;
 use sled_model::MergeOperator;
 use std::alloc::{AllocError, Global};
 
-/// How a merge joins bytes to the value that stands.
+/// How a merge joins bytes to the value that is there.
 #[derive(Clone, Copy)]
 pub enum Operator {
     /// The old value and the new bytes behind it.
@@ -19,7 +19,7 @@ pub enum Operator {
     Max,
     /// The new bytes and the old value behind them.
     Before,
-    /// The old value, or the new bytes where there is none.
+    /// The old value, or the new bytes if there is none.
     Keep,
     /// No value.
     Gone,
@@ -43,7 +43,7 @@ pub fn operator_of(name: &[u8]) -> Option<Operator> {
     find(&OPERATORS, name)
 }
 
-/// The bytes of a value, where none is the empty string.
+/// The bytes of a value; none becomes the empty string.
 pub fn bytes_of<'a>(value: Option<&'a [u8]>) -> &'a [u8]
     ensures { result.now ≡ bytes_or_none (option_copied value.entry) }
 {
@@ -83,7 +83,7 @@ fn sum_of(alloc: Global, old: &[u8], new: &[u8]) -> Result<Vec<u8>, AllocError>
     Vec::from_slice(alloc, &sum.to_be_bytes())
 }
 
-// The greater of two byte strings, where the first may be none.
+// The greater of two byte strings, of which the first may be none.
 fn greater_of(alloc: Global, old: Option<&[u8]>, new: &[u8]) -> Result<Vec<u8>, AllocError>
     ensures { IfOk result (λ made. made.items ≡ greater (option_copied old.entry) new.now) }
 {
@@ -99,7 +99,7 @@ fn greater_of(alloc: Global, old: Option<&[u8]>, new: &[u8]) -> Result<Vec<u8>, 
     }
 }
 
-// The first of two byte strings, or the second where there is no first.
+// The first of two byte strings, or the second if there is no first.
 fn kept_of(alloc: Global, old: Option<&[u8]>, new: &[u8]) -> Result<Vec<u8>, AllocError>
     ensures { IfOk result (λ made. made.items ≡ kept (option_copied old.entry) new.now) }
 {

@@ -14,7 +14,7 @@ fn is_space(byte: &u8) -> bool {
     *byte == b' '
 }
 
-// Whether a line begins with a word, and each space of it stands between two.
+// Whether a line begins with a word, and each space of it is between two.
 fn is_spaced(line: &[u8]) -> bool {
     for word in line.split(is_space) {
         if word.is_empty() {
@@ -49,7 +49,7 @@ fn push_misfit<'a>(why: &mut Vec<u8>, line: &'a [u8], misfit: Misfit<'a>) -> Res
     }
 }
 
-/// What a line asks for, with its arguments; `None` where it cannot be read, and then the reason is added.
+/// What a line asks for, with its arguments; `None` if it cannot be read, and then the reason is added.
 pub fn read(line: &[u8], arguments: &mut Arguments, why: &mut Vec<u8>) -> Result<Option<Verb>> {
     if !is_spaced(line) {
         push_text(why, SPACED.as_bytes())?;

@@ -27,7 +27,7 @@ const NEEDS_NO_POSITION: &str = "takes no position";
 pub enum Reach {
     /// The current tree.
     One,
-    /// Those of a list, which stands in front. A part has the position of its tree in front.
+    /// Those of a list, which is in front. A part has the position of its tree in front.
     List,
 }
 
@@ -52,7 +52,7 @@ const VERBS: [(&str, Verb); 6] = [
 ];
 
 impl Verb {
-    // What is said of it where it stands before other words than it takes.
+    // What is said of it if it is before other words than it takes.
     fn takes(self) -> &'static str {
         match self {
             Verb::Get | Verb::Remove => "takes K, one word",
@@ -76,7 +76,7 @@ pub enum Act {
     Id,
 }
 
-/// A part: what it does, and the position of the tree on which it does that. Where there is no position it is 0.
+/// A part: what it does, and the position of the tree on which it does that. If there is no position it is 0.
 #[derive(Drop)]
 pub struct Part {
     pub position: usize,
@@ -89,11 +89,11 @@ pub enum End {
     Commit,
     Abort,
     Conflict,
-    /// A conflict where the id that was taken last, or 0 where none was, is below this.
+    /// A conflict if the id that was taken last, or 0 if none was, is below this.
     ConflictBelow(u64),
 }
 
-// The number of the last one stands behind its word.
+// The number of the last one follows its word.
 const ENDS: [(&str, End); 4] = [
     ("commit", End::Commit),
     ("abort", End::Abort),
@@ -114,7 +114,7 @@ pub enum Misfit<'a> {
     NoMemory,
     /// What is said of a word.
     Word(&'a [u8], &'static str),
-    /// What is said where words are missing.
+    /// What is said if words are missing.
     Missing(&'static [u8]),
 }
 
@@ -238,7 +238,7 @@ fn act_of<'a>(alloc: Global, words: &'a [&'a [u8]]) -> Spelled<'a, Act> {
     }
 }
 
-// The position that stands before the words of a part.
+// The position that is before the words of a part.
 fn position_of<'a>(position: &'a [u8], words: &'a [&'a [u8]]) -> Spelled<'a, usize> {
     let Some(number) = read_number(position) else {
         return Err(Misfit::Word(position, NO_POSITION));

@@ -1,4 +1,4 @@
-//! The table of commands: a row says what a line begins with, what it takes, who answers it, and what it does.
+//! The table of commands: a row says what a line begins with, what it takes, which part answers it, and what it does.
 
 use crate::choices::{Drawing, Sweep};
 use crate::image::Image;
@@ -88,14 +88,14 @@ pub enum Verb {
     Quit,
 }
 
-// A row of the table: a command's own words, what it takes, who answers it, and what it does.
+// A row of the table: a command's own words, what it takes, which part answers it, and what it does.
 struct Command(&'static str, &'static str, Verb, &'static str);
 
 // What a command takes has words of its own. K, V, P, OLD, NEW, DATABASE, TYPE, NAME, TREE and FILE are byte strings, of which OLD, NEW and
 // TREE may be `-`. LO and HI are bounds, OPERATOR is a merge operator, and HOW what is made of a value. [WORD] is two words at the most,
-// and the others are numbers. `..` stands for more of the word before it, `K V ..` and `K NEW ..` for pairs, and `; ..` for more of all
-// that stands before it. A line `page` has the words of one page. PART is a part of a transaction and END how it ends; in front of a PART,
-// P is the position of a tree. The table is several lists, since whoever names a list has all of it in its proof.
+// and the others are numbers. `..` means more of the word before it, `K V ..` and `K NEW ..` for pairs, and `; ..` for more of all that is
+// before it. A line `page` has the words of one page. PART is a part of a transaction and END how it ends; in front of a PART, P is the
+// position of a tree. The table is several lists, since a function that names a list has all of it in its proof.
 #[rattlefmt::skip]
 static KEY: [Command; 8] = [
     Command("insert", "K V", Verb::Insert, "sets the value at a key, and prints the one that stood there"),
@@ -400,7 +400,7 @@ pub enum Misfit<'a> {
     Name,
     /// It ends behind a word that is not the last of a command's own.
     Short,
-    /// Behind its first word stands another than in any command.
+    /// Behind its first word is another than in any command.
     Other(&'a [u8]),
 }
 
@@ -447,7 +447,7 @@ struct Nearest {
     is: Nearness,
 }
 
-// Where a command stands: in which group, and where there.
+// The place of a command: its group, and its place there.
 #[derive(Clone, Copy)]
 struct Place {
     group: usize,
@@ -513,7 +513,7 @@ fn second_of<'a>(words: Option<&'a [u8]>) -> (Option<&'a [u8]>, Option<&'a [u8]>
     }
 }
 
-// Why a line has the words of no command, where a command begins with its first word, or not.
+// Why a line has the words of no command, if a command begins with its first word, or not.
 fn misfit_of<'a>(is_name: bool, second: Option<&'a [u8]>) -> Misfit<'a> {
     match second {
         _ if !is_name => Misfit::Name,

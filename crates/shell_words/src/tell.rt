@@ -1,4 +1,4 @@
-//! What is told of an answer, why a call was refused, and words that are read.
+//! What is printed of an answer, why a call was refused, and words that are read.
 
 use line_words::input::Stopped;
 use line_words::print::Piece::{Number, Text};
@@ -9,10 +9,10 @@ use sled_nodes::{Error, IVec};
 use std::alloc::Global;
 use std::io::Write;
 
-/// What telling comes to.
+/// The outcome of printing.
 pub type Result<T> = std::result::Result<T, Stopped>;
 
-/// What was answered, where that was not refused.
+/// What was answered, if that was not refused.
 pub fn answered<T: Drop>(answer: sled_nodes::Result<T>) -> Result<T> {
     match answer {
         Ok(value) => Ok(value),
@@ -28,7 +28,7 @@ pub fn answered<T: Drop>(answer: sled_nodes::Result<T>) -> Result<T> {
 pub struct Told {
     pub text: Vec<u8>,
     pub why: Vec<u8>,
-    // Whether the text of a refusal stands behind its number.
+    // Whether the text of a refusal follows its number.
     explains: bool,
 }
 
@@ -99,7 +99,7 @@ pub fn tell_refused(out: &mut Told, error: Error) -> Result<()> {
     told
 }
 
-/// Adds the text of the last refusal, or `-` where nothing was refused.
+/// Adds the text of the last refusal, or `-` if nothing was refused.
 pub fn tell_why(out: &mut Told) -> Result<()> {
     if out.why.is_empty() {
         return push_line(&mut out.text, b"why ", b"-");

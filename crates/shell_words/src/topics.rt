@@ -1,6 +1,6 @@
 //! What help says of more than one line.
 
-// Where a text has several lines each of them ends in a line feed.
+// If a text has several lines each of them ends in a line feed.
 const BYTES: &str =
     "There is one space between two words. `!` to `~` but for `%` stand for themselves, any other byte as % and two lower-case hexadecimal digits.\nSo %20 is a space inside a word, % alone is the empty string, and - is no value; the string - is %2d. For example:\n    insert Bad%20Ems hello%20world\n    get Bad%20Ems\n";
 

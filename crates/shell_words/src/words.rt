@@ -12,7 +12,7 @@ pub const NO_NUMBER: &str = "is no number: decimal digits without leading zeros"
 pub const NO_BYTES: &str =
     "is no byte string: `!` to `~` but for `%` stand for themselves, any other byte and a `-` alone as % and two lower-case hexadecimal digits";
 
-/// What a name stands for by a table.
+/// What a name means by a table.
 pub fn find<T: Copy>(table: &[(&str, T)], name: &[u8]) -> Option<T> {
     for (own, meant) in table {
         if own.as_bytes() == name {
@@ -22,14 +22,14 @@ pub fn find<T: Copy>(table: &[(&str, T)], name: &[u8]) -> Option<T> {
     None
 }
 
-/// Whether a word could be read as what it was taken for, which is let go.
+/// Whether a word could be read as what it was taken for, which is dropped.
 pub fn was_read<T: Drop>(read: Option<T>) -> bool {
     let is = read.is_some();
     drop(read);
     is
 }
 
-/// The words of a text; none where there is no text.
+/// The words of a text; none if there is no text.
 pub fn words_of<'a>(alloc: Global, text: Option<&'a [u8]>) -> Result<Vec<&'a [u8]>> {
     let mut words = Vec::new(alloc);
     let mut rest = text;
@@ -44,7 +44,7 @@ pub fn words_of<'a>(alloc: Global, text: Option<&'a [u8]>) -> Result<Vec<&'a [u8
     Ok(words)
 }
 
-/// Whether a word stands between two parts of a line.
+/// Whether a word is between two parts of a line.
 pub fn is_semicolon(word: &&[u8]) -> bool {
     *word == b";".as_slice()
 }

@@ -1,4 +1,4 @@
--- What kept replies tell of a map.
+-- What kept replies say of a map.
 use Rattle.std.specs.Prelude.{◌≡◌, ℕ, Some}
 use Rattle.std.specs.FinMap.Entries.{find}
 use Rattle.sled_nodes.specs.Order.{Key, key_cmp}

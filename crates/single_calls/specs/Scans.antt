@@ -1,4 +1,4 @@
--- What the end of a scan tells of keys.
+-- What the end of a scan says of keys.
 use Rattle.std.specs.Prelude.{◌≡◌, ℕ, Bool, true, false, List}
 use Rattle.std.specs.List.{AllByRecursion}
 use Rattle.std.specs.declared.ops.Bound.{Bound}
@@ -40,7 +40,7 @@ abbrev pub IsQuiet : List Outcome → Type 0
 IsQuiet outcomes = AllByRecursion (λ o. goes_on o ≡ true) outcomes
 
 module _ {P M : Type 0} (store : P → Store) (flush_number : P → ℕ) (meant : M → Merge) where
-  -- how a machine came to be as it is since a scan began in the slot: by these steps, of whichever calls
+  -- how a machine came to be as it is since a scan began in the slot: by these steps, of any calls
   pub record SinceScan (slot : ℕ) (now : MachineValue P M) : Type 0 where
     pub before : MachineValue P M
     pub begun : MachineValue P M
@@ -58,7 +58,7 @@ module _ {P M : Type 0} (store : P → Store) (flush_number : P → ℕ) (meant 
   abbrev pub run_since : {slot : ℕ} {now : MachineValue P M} (since : SinceScan slot now) → RunsBeside (configuration_of store flush_number meant since.begun) since.steps since.outcomes (configuration_of store flush_number meant now)
   run_since since = run_of store flush_number meant (steps_alone store flush_number meant since.made)
 
-  -- where the next step of the slot ends the scan, it has given each key within its bounds that was there at each of its steps
+  -- if the next step of the slot ends the scan, it has given each key within its bounds that was there at each of its steps
   pub record TellsOfEnd (slot : ℕ) (now : MachineValue P M) (o : Outcome) : Type 0 where
     pub is : (reply : Reply) → o ≡ Decided reply → (since : SinceScan slot now) (key : Key) → is_in_range (record { lo = since.lo; hi = since.hi; back = since.back }) key ≡ true
         → AtOwnSteps slot (HasKey since.tree key) (run_since since) → (value : Key) × In (key, value) (yielded slot since.steps since.outcomes)

@@ -8,7 +8,7 @@ use sled_model::{MergeOperator, Tree};
 use sled_nodes::{IVec, Result};
 use sled_store::Pages;
 
-/// The value at a key, of which nothing is told.
+/// The value at a key, of which nothing is stated.
 pub fn get_closed<P: Pages, M: MergeOperator>(
     db: &Db<P, M>,
     tree: &Tree,

@@ -15,7 +15,7 @@ use sled_nodes::Result;
 use sled_store::Pages;
 use sled_tree::{InFlight, Went};
 
-/// Flushes a machine's database and ends it: its pages, of which a crash then takes nothing. The calls in flight are given up.
+/// Flushes a machine's database and ends it: its pages, of which a crash then takes nothing. The calls in flight are abandoned.
 pub fn close<P: Pages, M: MergeOperator>(machine: Machine<P, M>) -> Result<P>
     ensures { IfOk result (λ pages. Flushes (P.store machine.db.pages) (P.store pages)) }
 {
@@ -27,7 +27,7 @@ pub fn close<P: Pages, M: MergeOperator>(machine: Machine<P, M>) -> Result<P>
     Ok(db.into_pages())
 }
 
-/// Drops the tree that a `Tree` value names. Where there was one, every value of that name is refused from then on.
+/// Drops the tree that a `Tree` value names. If there was one, every value of that name is refused from then on.
 pub fn drop_tree<P: Pages, M: MergeOperator>(db: &mut Db<P, M>, tree: &Tree) -> Result<bool>
     ensures drops { IfOk result (λ dropped. DropsTree P.store M.meant db.old tree.now.name dropped db.new) }
     ensures refused { IfOk result (λ dropped. dropped ≡ true → must_refuse_of (db_state P.store M.meant db.new) (tree.now ∷ []) ≢ None) }

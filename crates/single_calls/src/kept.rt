@@ -1,4 +1,4 @@
-//! Kept replies, and what they tell.
+//! Kept replies, and what they say.
 ghost use Rattle.std.specs.Prelude.{◌≡◌, IfSome, Some};
 ghost use Rattle.sled_nodes.specs.Order.{Key};
 ghost use Rattle.sled_model.specs.State.{CallInFlight};
@@ -11,7 +11,7 @@ use sled_calls::Machine;
 use sled_model::{MergeOperator, Outcome, Reply, Slot};
 use sled_store::Pages;
 
-/// A step of the call in the slot, and the two kept replies where it decides the call: what it replies to the map as it was at this step.
+/// A step of the call in the slot, and the two kept replies if it decides the call: what it replies to the map as it was at this step.
 /// Those of a `Get` are what the map has now too, as no other call was stepped since.
 pub fn get_kept<P: Pages, M: MergeOperator>(
     machine: &mut Machine<P, M>,

@@ -1,4 +1,4 @@
-//! What a call comes to at its key.
+//! The outcome of a call at its key.
 ghost use Rattle.std.specs.Prelude.{◌≡◌, IfOk};
 ghost use Rattle.std.specs.Option.{option_map};
 ghost use Rattle.sled_model.specs.Answer.{ReadDecides, decision_of};
@@ -7,14 +7,14 @@ use sled_model::{Call, Decision, MergeOperator, Reply};
 use sled_nodes::{IVec, Result};
 use std::alloc::Global;
 
-/// What a call replies by the read of its value, where it changes nothing.
+/// What a call replies by the read of its value, if it changes nothing.
 pub fn at_read(call: &Call, value: Option<IVec>) -> Result<Option<Reply>>
     ensures { IfOk result (ReadDecides call.now value) }
 {
     call.at_read(value)
 }
 
-/// What a call comes to where this value stands at its key, by the operator of its tree.
+/// The outcome of a call if this value is at its key, by the operator of its tree.
 pub fn at_link<M: MergeOperator>(
     alloc: Global,
     call: &Call,

@@ -1,4 +1,4 @@
-//! One step of a call in flight, what a call comes to at its key, a search and a change of a leaf, and what subscribers get, each under the
+//! One step of a call in flight, the outcome of a call at its key, a search and a change of a leaf, and what subscribers get, each under the
 //! contract that it has. The edits in `must-fail` show what these contracts rule out: each does something to the store, the call, the leaf
 //! or the queues before that, or in its place, or gives another answer in some case.
 #![tactic(auto)]

@@ -8,7 +8,7 @@ use sled_nodes::IVec;
 use sled_store::Pages;
 use tree_transactions::{TransactionalTree, TransactionalTrees, UnabortableTransactionResult};
 
-// What a read answers. What stood before is let go.
+// What a read answers. What was before is dropped.
 fn now(
     before: Option<IVec>,
     read: UnabortableTransactionResult<Option<IVec>>,

@@ -31,17 +31,17 @@ without_last (part ∷ next ∷ parts) = part ∷ without_last (next ∷ parts)
 abbrev pub lines_of : List ℕ → List (List ℕ)
 lines_of text = without_last (slice_split (λ b. b == 10) text)
 
--- the number of the first line that cannot be read, where the first of these lines has the number n
+-- the number of the first line that cannot be read, if the first of these lines has the number n
 abbrev pub first_bad : ℕ → List (List ℕ) → Option ℕ
 first_bad n [] = None
 first_bad n (line ∷ lines) = if is_some (command_of line) then first_bad (n + 1) lines else Some n
 
--- the same of what a reader has left behind n lines, where its bytes are known
+-- the same of what a reader has left behind n lines, if its bytes are known
 abbrev pub bad_left : ℕ → Option (List ℕ) → Option (Option ℕ)
 bad_left n None = None
 bad_left n (Some text) = Some (first_bad (n + 1) (lines_of text))
 
--- The exit status: 0 where every line can be read, and 1 where one cannot
+-- The exit status: 0 if every line can be read, and 1 if one cannot
 pub record IsStatus (bad : Option ℕ) (status : ℕ) : Type 0 where
   pub all : status ≡ 0 → bad ≡ None
   pub some : status ≡ 1 → IsSome bad
@@ -60,13 +60,13 @@ pub data Lives {P M : Type 0} (store : P → Store) (flush_number : P → ℕ) (
   Obeying : {n m : ℕ} {s next last : Session P M} {line : List ℕ} {lines rest : List (List ℕ)} (c : Command) (text : List ℕ) {texts : List ℕ} {e : End} → command_of line ≡ Some c → crash_of c ≡ None
       → obeys store flush_number meant s c text next → Lives store flush_number meant (n + 1) next lines texts e m last rest → Lives store flush_number meant n s (line ∷ lines) (text ++ texts) e m last rest
 
--- How lines end tells whether one is bad: it is the line of the number n, or there is none, or the same as before
+-- The end of lines says whether one is bad: it is the line of the number n, or there is none, or the same as before
 abbrev pub Ends : Option (Option ℕ) → Option (Option ℕ) → ℕ → End → Type 0
 Ends before after n NoLine = IfSome before (λ bad. bad ≡ None)
 Ends before after n BadLine = IfSome before (λ bad. bad ≡ Some n)
 Ends before after n (Crash keep) = IfSome before (λ bad. after ≡ Some bad)
 
--- where a run stands: how many lines were read, what the reader has left, what the writer holds, and what is gathered for it
+-- how far a run is: how many lines were read, what the reader has left, what the writer holds, and what is gathered for it
 pub record Place : Type 0 where
   pub number : ℕ
   pub left : Option (List ℕ)
@@ -89,7 +89,7 @@ pub record RunsOn {P M : Type 0} (store : P → Store) (flush_number : P → ℕ
   pub left : there.left ≡ Some rest
   pub prints : Prints here.held here.gathered there.held there.gathered texts
 
--- the same of what the reader has left, where that is known
+-- the same of what the reader has left, if that is known
 abbrev pub RunsFrom : {P M : Type 0} → (P → Store) → (P → ℕ) → (M → Merge) → Session P M → Place → End → Session P M → Place → Type 0
 RunsFrom store flush_number meant s here e last there = IfSome here.left (λ text. RunsOn store flush_number meant s here e last there text)
 

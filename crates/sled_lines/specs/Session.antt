@@ -57,7 +57,7 @@ abbrev pub acts_at : {P M : Type 0} → (P → Store) → (P → ℕ) → (M →
 acts_at store flush_number meant old act None shown o new = (o ≡ NoSuchSlot) × (new ≡ old)
 acts_at store flush_number meant old act (Some at) shown o new = (shown ≡ at.1) × acts_on store flush_number meant old act at.0 o new
 
--- a call that comes to its end at once is one on a key: a scan has a pair to give before it ends
+-- a call that ends at once is one on a key: a scan has a pair to give before it ends
 abbrev pub CanRun : Command → Type 0
 CanRun (command.Point call) = IsOnKey call
 CanRun c = Unit {0}

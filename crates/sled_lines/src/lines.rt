@@ -105,7 +105,7 @@ fn keep_bad(command: &Option<Command>, text: &[u8], line: &mut Vec<u8>) -> Resul
     Ok(())
 }
 
-// The command of the next line, where the reader holds it whole: it is read where it lies, and then the reader goes past it.
+// The command of the next line, if the reader holds it whole: it is read in place, and then the reader goes past it.
 #[inline(always)]
 fn held_command<R: BufRead>(
     alloc: Global,
@@ -152,7 +152,7 @@ fn copied_command<R: BufRead, W: Write>(
     Ok(Some(parse(alloc, without_end(line.as_slice()))?))
 }
 
-// The command of the next line, if there is one. It is copied where the reader is not known to hold it whole.
+// The command of the next line, if there is one. It is copied if the reader is not known to hold it whole.
 #[inline(always)]
 fn next_command<R: BufRead, W: Write>(
     alloc: Global,
@@ -214,8 +214,8 @@ fn answer<P: Pages, M: MergeOperator, W: Write>(
     write(output, out)
 }
 
-/// Runs lines on a session, and prints what each of them came to, up to a line that asks for a crash or cannot be read, or to the last.
-/// Of a line that cannot be read nothing is printed; `Buffers::bad_line` has it, and `tell_end` tells its number. Where a read or a write
+/// Runs lines on a session, and prints the outcome of each of them, up to a line that asks for a crash or cannot be read, or to the last.
+/// Of a line that cannot be read nothing is printed; `Buffers::bad_line` has it, and `tell_end` prints its number. If a read or a write
 /// fails, or there is no memory, it stops.
 pub fn run_lines<P: Pages, M: MergeOperator, R: BufRead, W: Write>(
     alloc: Global,

@@ -4,7 +4,7 @@ ghost use Rattle.sled_lines.specs.Serve.{no_meaning};
 use sled_model::MergeOperator;
 use std::alloc::{AllocError, Global};
 
-/// Stands for a merge operator where no line gives a tree one. It would leave no value.
+/// A merge operator for programs in which no line gives a tree one. It would leave no value.
 #[derive(Drop)]
 pub struct NoOperator;
 

@@ -55,7 +55,7 @@ fn tell_recovered<P: Pages, M: MergeOperator, W: Write>(
     write(output, out)
 }
 
-// Opens the pages, tells if they are what a crash left, and runs lines up to a crash or the last of them: how that ended,
+// Opens the pages, says so if they are what a crash left, and runs lines up to a crash or the last of them: how that ended,
 // and the pages.
 fn live<R: BufRead, W: Write>(
     alloc: Global,
@@ -143,8 +143,8 @@ fn run<R: BufRead, W: Write>(alloc: Global, input: &mut R, output: &mut W) -> Re
     Ok(read)
 }
 
-/// Runs the lines of the input, and prints what each of them came to. Answers the exit status: 0 at the end, 1 at the first
-/// line that cannot be read, after `bad line N`, and 2 where a read or a write failed or there was no memory.
+/// Runs the lines of the input, and prints the outcome of each of them. Answers the exit status: 0 at the end, 1 at the first
+/// line that cannot be read, after `bad line N`, and 2 if a read or a write failed or there was no memory.
 pub fn serve<R: BufRead, W: Write>(alloc: Global, input: &mut R, output: &mut W) -> u8
     ensures status { result ≤ 2 }
     ensures bad { IfSome (bad_left 0 (R.remaining input.old)) (λ bad. IsStatus bad result) }

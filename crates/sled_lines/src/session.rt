@@ -47,7 +47,7 @@ pub enum Act {
     Step,
     /// All steps to its end, or of a scan to its next pair.
     Finish,
-    /// It is given up.
+    /// It is abandoned.
     Abandon,
 }
 
@@ -59,7 +59,7 @@ pub struct Session<P: Pages = MemPages, M = Box<dyn MergeOperator + Send>> {
     slots: Vec<(Slot, Shown)>,
 }
 
-// By hand, so that whoever lets go of a session cites this, and need not prove again how each of its parts goes.
+// By hand, so that each function that drops a session cites this, and does not prove again how its parts are dropped.
 impl<P: Pages, M: Drop> Drop for Session<P, M> {
     fn drop(self) {
         let Session {
@@ -74,7 +74,7 @@ impl<P: Pages, M: Drop> Drop for Session<P, M> {
 }
 
 impl<P: Pages, M: MergeOperator> Session<P, M> {
-    /// A session over a database, whose default tree is current. Where that is refused it gives the pages back.
+    /// A session over a database, whose default tree is current. If that is refused it gives the pages back.
     pub fn over(alloc: Global, db: Db<P, M>) -> Result<Session<P, M>, (P, Error)>
         ensures whole { IfErr result (λ e. IsCrashConsistent (P.store e.0)) }
         ensures well { IfErr result (λ e. IsValid (now (P.store e.0))) }
@@ -97,7 +97,7 @@ impl<P: Pages, M: MergeOperator> Session<P, M> {
         }
     }
 
-    /// A session over a database, where this tree is current.
+    /// A session over a database, in which this tree is current.
     pub fn with_tree(alloc: Global, db: Db<P, M>, tree: Tree) -> Session<P, M>
         ensures db { result.machine.db ≡ db }
         ensures tree { result.tree ≡ tree }
@@ -134,7 +134,7 @@ impl<P: Pages, M: MergeOperator> Session<P, M> {
         drop(old);
     }
 
-    /// The database and the current tree. The calls in flight are given up.
+    /// The database and the current tree. The calls in flight are abandoned.
     pub fn into_parts(self) -> (Db<P, M>, Tree)
         ensures db { result.0 ≡ self.machine.db }
         ensures tree { result.1 ≡ self.tree }
@@ -148,7 +148,7 @@ impl<P: Pages, M: MergeOperator> Session<P, M> {
         (machine.into_db(), tree)
     }
 
-    /// The database. The calls in flight are given up.
+    /// The database. The calls in flight are abandoned.
     pub fn into_db(self) -> Db<P, M>
         ensures { result ≡ self.machine.db }
     {
@@ -246,7 +246,7 @@ impl<P: Pages, M: MergeOperator> Session<P, M> {
         self.machine.update_and_fetch(&self.tree, key, f)
     }
 
-    /// The same, but that it answers the value that stood there before.
+    /// The same, but that it answers the value that was there before.
     pub fn fetch_and_update<F>(&mut self, key: &[u8], f: F) -> sled_nodes::Result<Option<IVec>>
     where
         F: FnMut(Option<&[u8]>) -> Result<Option<Vec<u8>>, AllocError>,
@@ -496,7 +496,7 @@ pub fn write<W: Write>(output: &mut W, out: &mut Vec<u8>) -> Result<(), Stopped>
     Ok(())
 }
 
-// Adds the line of a pair, and writes the lines where many were gathered.
+// Adds the line of a pair, and writes the lines if many were gathered.
 fn write_pair<W: Write>(
     output: &mut W,
     out: &mut Vec<u8>,

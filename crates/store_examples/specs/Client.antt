@@ -15,7 +15,7 @@ pub record Twice (f g : Node → Node) (pid version : ℕ) (old new : Store) : T
   pub recent : new.recent ≡ old.recent ++ PageBecomes pid (Some (record { version = middle; node = f node })) ∷ PageBecomes pid (Some (record { version = last; node = g (f node) })) ∷ []
   pub is : (now new).pages pid ≡ Some (record { version = last; node = g (f node) })
 
--- two changes, or none where the page had another version
+-- two changes, or none if the page had another version
 abbrev pub links_as : (Node → Node) → (Node → Node) → ℕ → ℕ → Store → Store → Bool → Type 0
 links_as f g pid version old new true = Twice f g pid version old new
 links_as f g pid version old new false = (new ≡ old) × (version_now old pid ≢ Some version)

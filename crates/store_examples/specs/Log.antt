@@ -1,4 +1,4 @@
--- A list of all that was ever done to a store, and what it comes to.
+-- A list of all that was ever done to a store, and its result.
 use Rattle.std.specs.Prelude.{◌≡◌, ℕ, ◌+◌, ◌<◌, ◌≤◌, ◌^◌, Bool, true, false, ◌&&◌, nat_le, nat_lt, List, Some, None, length, map, take}
 use Rattle.std.specs.List.{list_all}
 use Rattle.sled_store.specs.State.{State, Action, PageBecomes, RootBecomes, GroupBegins, GroupEnds, after_all}

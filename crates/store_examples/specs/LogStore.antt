@@ -5,7 +5,7 @@ use Rattle.store_examples.specs.declared.log_pages.LogPages.{LogPages}
 use Rattle.store_examples.specs.declared.log_pages.Logged.{Logged}
 use Rattle.store_examples.specs.Log.{actions_of, state_after, up_to, below}
 
--- the base is what the flushed ones come to, and the others are recent
+-- the base is the result of the flushed ones, and the others are recent
 abbrev pub meaning : List Logged → ℕ → ℕ → ℕ → ℕ → ℕ → ℕ → Bool → Store
 meaning log flushed actions last next faults mark recovered = record {
   base = state_after (take flushed log);

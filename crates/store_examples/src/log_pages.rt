@@ -269,7 +269,7 @@ impl LogPages {
         Ok(version)
     }
 
-    // The page of a number, where it has this version; else the version that it has.
+    // The page of a number, if it has this version; else the version that it has.
     fn page_at(&self, pid: Pid, version: Version) -> std::result::Result<&Page, Option<Version>>
         ensures ok { IfOk result (λ page. (now (store_of self.now)).pages pid ≡ Some page.now) }
         ensures same { IfOk result (λ page. page.now.version ≡ version) }

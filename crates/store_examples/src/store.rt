@@ -8,7 +8,7 @@ ghost use Rattle.sled_store.specs.Store.{now};
 use sled_nodes::{Link, Node, Pid, Result};
 use sled_store::{Pages, View, law_given, law_sealed};
 
-/// Two changes of one page, one after the other. `false` where another was there first.
+/// Two changes of one page, one after the other. `false` if another was there first.
 pub fn two_links<P: Pages>(pages: &mut P, view: &View, first: Link, second: Link) -> Result<bool>
     ensures { IfOk result (links_as (after_link first) (after_link second) view.now.pid view.now.version (P.store pages.old) (P.store pages.new)) }
 {
@@ -25,7 +25,7 @@ pub fn two_links<P: Pages>(pages: &mut P, view: &View, first: Link, second: Link
     }
 }
 
-/// Makes a page and the root of a name of it, where the name has none, and makes that durable.
+/// Makes a page and the root of a name of it, if the name has none, and makes that durable.
 pub fn open_tree<P: Pages>(pages: &mut P, name: &[u8], node: Node) -> Result<Option<Pid>>
     requires { (now (P.store pages.old)).in_group ≡ false }
     ensures opened { IfOk result (λ pid. Opens name.now node pid (P.store pages.old) (P.store pages.new)) }

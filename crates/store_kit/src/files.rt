@@ -5,7 +5,7 @@ use sled_store::Pages;
 use std::fs;
 use std::io::{self, ErrorKind, Write};
 
-// The text of the file of this name and ending, or `None` where it is missing.
+// The text of the file of this name and ending, or `None` if it is missing.
 fn text_of(rt: &HostRuntime, name: &str, ending: &str) -> io::Result<Option<String>> {
     let path = format!(in rt.alloc(); "{name}{ending}")?;
     match fs::read_to_string(rt, path.as_str()) {
@@ -26,7 +26,7 @@ fn counts_of(text: &[u8]) -> (usize, usize) {
     (lines, empty.saturating_sub(1))
 }
 
-// Whether a line that was printed may stand where this one is expected. One that was left out is empty, where lines were left out.
+// Whether a line that was printed may be where this one is expected. One that was left out is empty, if lines were left out.
 fn is_like(line: Option<&[u8]>, other: Option<&[u8]>, leaves_out: bool) -> bool {
     match (line, other) {
         (Some(b""), Some(_)) if leaves_out => true,
@@ -55,7 +55,7 @@ fn line_at(text: &[u8], number: u64) -> &[u8] {
     text.split(is_end).nth(place).unwrap_or(b"")
 }
 
-// Tells a line that differs.
+// Prints a line that differs.
 fn write_difference<W: Write>(
     output: &mut W,
     number: u64,
@@ -69,7 +69,7 @@ fn write_difference<W: Write>(
     output.write_all(b"`\n")
 }
 
-// Tells how many lines were as expected, and which were left out.
+// Prints how many lines were as expected, and which were left out.
 fn write_counts<W: Write>(output: &mut W, printed: &[u8], lacked: Option<&str>) -> io::Result<()> {
     let (lines, empty) = counts_of(printed);
     match lacked {
@@ -84,7 +84,7 @@ fn write_counts<W: Write>(output: &mut W, printed: &[u8], lacked: Option<&str>) 
     }
 }
 
-// Whether what was printed is what is expected, but for lines that were left out. Tells so, or where it is not.
+// Whether what was printed is what is expected, but for lines that were left out. Prints so, or where it is not.
 fn judge<W: Write>(
     output: &mut W,
     printed: &[u8],
@@ -97,7 +97,7 @@ fn judge<W: Write>(
     }
 }
 
-// Compares what lines came to with what the file of this name expects.
+// Compares the outcome of lines with what the file of this name expects.
 fn compare<W: Write>(
     rt: &HostRuntime,
     ran: &Ran<'_>,
@@ -114,7 +114,7 @@ fn compare<W: Write>(
 }
 
 /// Runs the file NAME.lines from an empty store, and compares what it prints with the file NAME.expected: whether it prints what is
-/// expected. It tells so in a line. A line that asks for what the stores do not have is left out, with those behind it up to a `new`.
+/// expected. It prints so in a line. A line that asks for what the stores do not have is left out, with those behind it up to a `new`.
 pub fn check_file<P: Pages, T: Trial<P>, W: Write>(
     rt: &HostRuntime,
     trial: &T,

@@ -4,7 +4,7 @@ use crate::text::Text;
 use ordered_keys::{Kind, Part, key_of, parts_of};
 use sled_nodes::IVec;
 
-// A number stands behind `#`. So a text that begins with that byte has it by its digits.
+// A number follows `#`. So a text that begins with that byte has it by its digits.
 impl Word for Part {
     fn read(line: &mut Line) -> Option<Part> {
         if line.takes_mark('#') {

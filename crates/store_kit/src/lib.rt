@@ -1,7 +1,7 @@
 //! A kit for authors of stores: files of lines that make calls of a store, run over any store and compared with what they should print.
 //!
-//! An author says by a `Trial` how an empty store is made, and, where the store has that, what a crash leaves of it, how calls are refused
-//! and more. `exercise` is a whole program over such stores:
+//! An author says by a `Trial` how an empty store is made, and, if the store has that, what a crash leaves of it, how calls are refused and
+//! more. `exercise` is a whole program over such stores:
 //!
 //! ```text
 //! struct Logs;

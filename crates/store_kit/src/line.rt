@@ -7,7 +7,7 @@ use std::alloc::Global;
 use std::ops::Bound;
 
 /// A line that is read word by word, and what it prints. A word that is missing, or is not what is asked for, is taken for an
-/// empty one, and then the line cannot be read. Who acts asks `is_read` first.
+/// empty one, and then the line cannot be read. A function that acts asks `is_read` first.
 #[derive(Drop)]
 pub struct Line {
     pub out: Text,
@@ -111,7 +111,7 @@ impl Line {
         word
     }
 
-    /// What stands beside the next word in a table.
+    /// What a table has beside the next word.
     pub fn named<T: Copy>(&mut self, table: &[(&str, T)]) -> Option<T> {
         let found = find(table, self.word().as_bytes());
         self.is_bad |= found.is_none();
@@ -160,9 +160,9 @@ impl Line {
     }
 }
 
-/// What a word stands for, or several words.
+/// What a word means, or several words.
 pub trait Word: Drop {
-    /// Reads it; `None` where the line cannot be read or there was no memory.
+    /// Reads it; `None` if the line cannot be read or there was no memory.
     fn read(line: &mut Line) -> Option<Self>;
 }
 

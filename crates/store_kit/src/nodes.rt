@@ -92,7 +92,7 @@ impl Nodes {
         }
     }
 
-    // A copy of the node of a place, where the line ends.
+    // A copy of the node of a place, if the line ends.
     fn copy(&self, place: usize, line: &mut Line) -> Option<Node> {
         match self.get(place) {
             Some(node) if line.is_read() => line.out.kept(node.clone(self.alloc)),
@@ -109,7 +109,7 @@ impl Nodes {
         self.copy(place, line)
     }
 
-    /// Gives a node, if there is one, the name of a place; what had the name before is let go.
+    /// Gives a node, if there is one, the name of a place; what had the name before is dropped.
     pub fn set(&mut self, place: usize, node: Option<Node>) {
         let old = match self.named.get_mut(place) {
             Some(row) if node.is_some() => std::mem::replace(&mut row.1, node),
@@ -285,7 +285,7 @@ fn find_pair(node: &Node, back: bool, line: &mut Line) {
     }
 }
 
-// Adds the pair that a bound leads to, and says so where from some place another pair or a wrong place comes.
+// Adds the pair that a bound leads to, and says so if from some place another pair or a wrong place comes.
 fn push_pair(out: &mut Text, node: &Node, bound: Bound<&[u8]>, back: bool) {
     let found = if back {
         node.predecessor(bound)
@@ -309,7 +309,7 @@ fn push_pair(out: &mut Text, node: &Node, bound: Bound<&[u8]>, back: bool) {
     }
 }
 
-// Whether the same pair is found where the bound's key is looked for at this place first, and the place that is left is its own.
+// Whether the same pair is found if the bound's key is looked for at this place first, and the place that is left is its own.
 fn is_found_near(
     node: &Node,
     bound: Bound<&[u8]>,
@@ -485,7 +485,7 @@ fn push_prefix(out: &mut Text, node: &Node) {
     });
 }
 
-// Adds what each key has behind that, with what stands at it.
+// Adds what each key has behind that, with what is at it.
 fn push_rests(out: &mut Text, node: &Node) {
     out.push("rests");
     match &node.content {

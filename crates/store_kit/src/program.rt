@@ -88,7 +88,7 @@ wholes WHOLE, ..
 trees TREE, ..
 ";
 
-// Prints what lines print. The first that asks for what the stores do not have is told.
+// Prints what lines print. The first that asks for what the stores do not have is printed.
 fn run_text<P: Pages, T: Trial<P>>(rt: &HostRuntime, trial: &T, text: &str) -> io::Result<()> {
     let ran = run_lines(rt.alloc(), trial, text);
     let done = match ran.printed.text() {
@@ -141,8 +141,8 @@ pub fn words_of(rt: &HostRuntime) -> io::Result<Vec<String>> {
     Ok(env::args(rt)?.skip(1).collect(rt.alloc())?)
 }
 
-/// How a program ends: 1 where a file printed something else than it should, 2 where a read or a write failed or there was no memory,
-/// which is told.
+/// How a program ends: 1 if a file printed something else than it should, 2 if a read or a write failed or there was no memory, which is
+/// printed.
 pub fn ended(rt: &HostRuntime, passed: io::Result<bool>) -> ExitCode {
     match passed {
         Ok(true) => ExitCode::SUCCESS,

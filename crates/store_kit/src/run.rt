@@ -7,7 +7,7 @@ use crate::values::{compare_values, kind_of};
 use sled_store::Pages;
 use std::alloc::Global;
 
-/// What lines came to.
+/// The outcome of lines.
 #[derive(Drop)]
 pub struct Ran<'t> {
     /// What they printed. A line that was left out printed an empty line.
@@ -57,7 +57,7 @@ fn run_all<'t, P: Pages, T: Trial<P>>(
     }
 }
 
-// Adds what the line of this number comes to. Whether it asks for what the store does not have.
+// Adds the outcome of the line of this number. Whether it asks for what the store does not have.
 fn run_line<P: Pages, T: Trial<P>>(
     store: &mut Store<'_, P, T>,
     number: u64,
@@ -85,7 +85,7 @@ fn run_line<P: Pages, T: Trial<P>>(
     lacks
 }
 
-// Runs a command; of `repeat N COMMAND` what counts is what the last of N times comes to.
+// Runs a command; of `repeat N COMMAND` what counts is the outcome of the last of N times.
 fn run_command<P: Pages, T: Trial<P>>(store: &mut Store<'_, P, T>, line: &mut Line) {
     if !line.takes("repeat") {
         return store.run(line);

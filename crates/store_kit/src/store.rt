@@ -144,8 +144,8 @@ const CALLS: [(&str, Call); 57] = [
     ("made", Call::Made),
 ];
 
-// The page numbers that were given. Lines name a page by its place among them, counted from 1, so that they say the same of each store;
-// where a store was made of pages with numbers, they name it by its number.
+// The page numbers that were given. Lines name a page by its place among them, counted from 1, so that they say the same of each store; if
+// a store was made of pages with numbers, they name it by its number.
 #[derive(Drop)]
 enum Pids {
     Met(Vec<u64>),
@@ -192,7 +192,7 @@ impl<'a, P: Pages, T: Trial<P>> Store<'a, P, T> {
         })
     }
 
-    /// Does what a line says, and adds what that comes to.
+    /// Does what a line says, and adds the outcome.
     pub fn run(&mut self, line: &mut Line) {
         let Some(call) = line.named(&CALLS) else {
             return;
@@ -283,7 +283,7 @@ impl<'a, P: Pages, T: Trial<P>> Store<'a, P, T> {
         Ok(())
     }
 
-    // Flushes, where no group is open.
+    // Flushes, if no group is open.
     fn flush(&mut self, line: &mut Line) -> Result<()> {
         if self.pages.in_group() {
             line.out.push("barred");
@@ -305,7 +305,7 @@ impl<'a, P: Pages, T: Trial<P>> Store<'a, P, T> {
         }
     }
 
-    // Adds how many actions became durable: what the store told, if it tells that.
+    // Adds how many actions became durable: what the store returned, if it returns that.
     fn push_flushed(&mut self, told: u64, out: &mut Text) {
         let actions = if self.trial.tells_actions() {
             told
@@ -433,7 +433,7 @@ impl<'a, P: Pages, T: Trial<P>> Store<'a, P, T> {
         met.len() as u64
     }
 
-    // The version of this place among those that were met; where there is none, the version of this number.
+    // The version of this place among those that were met; if there is none, the version of this number.
     fn version(&self, line: &mut Line) -> Version {
         let met = self.versions.as_slice();
         if line.takes("last") {
@@ -445,7 +445,7 @@ impl<'a, P: Pages, T: Trial<P>> Store<'a, P, T> {
         met.get(place).copied().unwrap_or(Version(number))
     }
 
-    // Adds the place of a version, which is a new one where it was not met before.
+    // Adds the place of a version, which is a new one if it was not met before.
     fn push_version(&mut self, word: &str, version: Version, out: &mut Text) {
         let place = place_of(self.versions.as_slice(), version);
         if place == self.versions.len() {
@@ -542,7 +542,7 @@ impl<'a, P: Pages, T: Trial<P>> Store<'a, P, T> {
         push_kept(out, self.pages.roots(self.alloc));
     }
 
-    // Another store stands in the place of the one that crashes.
+    // Puts another store in the place of the one that crashes.
     fn crash(&mut self, keep: u64, line: &mut Line) {
         let keep = usize::try_from(keep).unwrap_or(usize::MAX);
         let made = self.trial.empty(self.alloc);
@@ -602,7 +602,7 @@ impl<'a, P: Pages, T: Trial<P>> Store<'a, P, T> {
     }
 }
 
-// The page number at a place, counted from 1, of those that were met; where there is none, the next from that number on that was not.
+// The page number at a place, counted from 1, of those that were met; if there is none, the next from that number on that was not.
 fn number_in(met: &[u64], number: u64) -> u64 {
     let place = usize::try_from(number).unwrap_or(usize::MAX);
     if let Some(pid) = place.checked_sub(1).and_then(|place| met.get(place)) {

@@ -1,4 +1,4 @@
-//! What is printed: how byte strings, numbers and answers stand in a line.
+//! What is printed: how byte strings, numbers and answers are written in a line.
 use line_words::print::push_text;
 use line_words::words::push_word;
 use sled_nodes::{Error, Result};
@@ -6,7 +6,7 @@ use std::alloc::Global;
 use std::fmt::Display;
 use std::io::Write;
 
-/// Text that is added to. Where there is no memory for a part of it, that is told at the end alone.
+/// Text that is added to. If there is no memory for a part of it, that is printed at the end alone.
 #[derive(Drop)]
 pub struct Text {
     pub alloc: Global,
@@ -47,7 +47,7 @@ impl Text {
         self.is_cut |= write!(self.text, "{value}").is_err();
     }
 
-    /// Adds `done` where nothing was said.
+    /// Adds `done` if nothing was said.
     pub fn end(&mut self) {
         if self.text.is_empty() {
             self.push("done");

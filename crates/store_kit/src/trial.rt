@@ -27,7 +27,7 @@ pub trait Trial<P: Pages> {
         None
     }
 
-    /// What `flush` does, without being counted among the calls. It is asked where no group is open.
+    /// What `flush` does, without being counted among the calls. It is called while no group is open.
     fn flush_uncounted(&self, _store: &mut P) -> Option<usize> {
         None
     }
@@ -37,7 +37,7 @@ pub trait Trial<P: Pages> {
         None
     }
 
-    /// The base node of a page and the links since, or nothing where there is no page.
+    /// The base node of a page and the links since, or nothing if there is no page.
     fn parts<'a>(&self, _store: &'a P, _pid: Pid) -> Option<Option<(&'a Node, &'a [Link])>> {
         None
     }
@@ -61,7 +61,7 @@ pub trait Trial<P: Pages> {
         None
     }
 
-    /// Whether a flush answers how many changing actions became durable. Where it answers another number, which a store may, that is not
+    /// Whether a flush answers how many changing actions became durable. If it answers another number, which a store may, that is not
     /// compared.
     fn tells_actions(&self) -> bool {
         true

@@ -37,7 +37,7 @@ pub fn kind_of(line: &str) -> Option<(Kind, &str)> {
     Some((find(&KINDS, name.as_bytes())?, items))
 }
 
-// A value that lines compare. An event is one that a subscriber is told.
+// A value that lines compare. An event is one that a subscriber gets.
 #[derive(Drop)]
 enum Value {
     String(IVec),
@@ -90,7 +90,7 @@ impl Value {
         }
     }
 
-    // What stands between the value and another one: `/` where they differ and there is no order.
+    // What is between the value and another one: `/` if they differ and there is no order.
     fn sign(&self, other: &Value) -> &'static str {
         match (self, other) {
             (Value::String(one), Value::String(other)) => sign_of(one, other),
@@ -113,7 +113,7 @@ impl Value {
     }
 }
 
-// What stands between two values that have an order.
+// What is between two values that have an order.
 fn sign_of<T: Ord>(value: &T, other: &T) -> &'static str {
     if value == other {
         "="
@@ -145,7 +145,7 @@ fn read_conflict(line: &mut Line) -> Option<Value> {
     Some(Value::Conflict(CompareAndSwapError { current, proposed }))
 }
 
-// The texts that refusals tell, which are numbered from here on.
+// The texts of refusals, which are numbered from here on.
 const FIRST_TEXT: u64 = 10;
 
 const TEXTS: [&str; 12] = [
@@ -381,7 +381,7 @@ fn read_values(kind: Kind, items: &str, line: &mut Line) -> Vec<Value> {
     all
 }
 
-// Adds what stands between a value and a copy of each.
+// Adds what is between a value and a copy of each.
 fn push_signs(value: &Value, all: &[Value], out: &mut Text) {
     for other in all {
         if let Some(copy) = out.kept(other.copy()) {

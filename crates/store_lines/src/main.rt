@@ -3,7 +3,7 @@
 //!
 //! `store_lines FILE ..` runs files, each from an empty store, and without arguments standard input. `store_lines check NAME ..`
 //! runs the files NAME.lines of the folder that it runs in, and compares what they print with the files NAME.expected. Of a name
-//! `log/NAME` the store is that of `store_examples`. The exit status is 1 where a file printed something else, and 2 where a read or a
+//! `log/NAME` the store is that of `store_examples`. The exit status is 1 if a file printed something else, and 2 if a read or a
 //! write failed or there was no memory.
 #![tactic(auto)]
 
@@ -16,7 +16,7 @@ use std::io::{self, Write};
 use std::process::ExitCode;
 use store_kit::{check_file, ended, exercise, words_of};
 
-// Runs the file of a name, over the stores that stand before it: whether it prints what is expected.
+// Runs the file of a name, over the stores that are before it: whether it prints what is expected.
 fn check_name<W: Write>(rt: &HostRuntime, name: &str, output: &mut W) -> io::Result<bool> {
     match name.split_once('/') {
         Some(("log", name)) => check_file(rt, &Logs, name, output),

@@ -26,7 +26,7 @@ impl Report {
         self.rt.alloc()
     }
 
-    /// How the program ends: as a failure where a line was not printed, or something failed that should not.
+    /// How the program ends: as a failure if a line was not printed, or something failed that should not.
     pub fn status(&self) -> ExitCode {
         if self.has_failed.get() {
             ExitCode::FAILURE
@@ -53,7 +53,7 @@ impl Report {
         self.tell(line);
     }
 
-    /// Prints a line of these words and a value, and lets go of the value.
+    /// Prints a line of these words and a value, and drops the value.
     pub fn show<T: Debug + Drop>(&self, words: &str, value: T) {
         self.tell(format_args!("{words}: {value:?}"));
         drop(value);

@@ -9,7 +9,7 @@ pub type Owned = Db<MemPages>;
 // After so many inserts there is a flush.
 const FLUSH: u64 = 1000;
 
-/// Whether this came out well. It is let go.
+/// Whether this succeeded. It is dropped.
 pub fn is_done<T: Drop, E: Drop>(came: Result<T, E>) -> bool {
     let done = came.is_ok();
     drop(came);

@@ -9,7 +9,7 @@
 //!
 //! Each workload prints its name, how many calls the history has, and a checksum of their replies, which is the same whatever the
 //! schedule. On standard error it prints its name and the time from the start of the first thread to the end of the last, in microseconds.
-//! The status is 1 for other words, and where anything failed.
+//! The status is 1 for other words, and if anything failed.
 #![tactic(auto)]
 
 mod loaded;
@@ -55,7 +55,7 @@ fn tell<R: Print + Eprint>(rt: &R, name: &str, told: &Told) -> bool {
     is_done(println!(rt; "{name} {calls} {sum:016x}")) && is_done(eprintln!(rt; "{name} {time}"))
 }
 
-// Shares a database among the threads, once it has the pairs, and tells what came of their calls.
+// Shares a database among the threads, once it has the pairs, and prints the outcome of their calls.
 fn measure_on<R: Threads + Wait + Clock + Sync>(
     rt: &R,
     mut db: Owned,
@@ -82,7 +82,7 @@ fn measure<R: Threads + Wait + Clock + Sync>(rt: &R, work: &Work) -> Option<Told
     }
 }
 
-// Measures the workload of each name, and prints what it came to. Whether all that went well.
+// Measures the workload of each name, and prints its checksum. Whether all that went well.
 fn measure_all<R: Threads + Wait + Clock + Print + Eprint + Sync>(
     rt: &R,
     work: Work,

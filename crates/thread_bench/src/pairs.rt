@@ -5,7 +5,7 @@ const CHOICES: u64 = 1 << 63;
 
 const TURNS: u64 = 1 << 40;
 
-/// What stands in a checksum where there is no value.
+/// The number in a checksum if there is no value.
 pub const NO_MARK: u64 = 1;
 
 // A number that looks random, another one for each place.
@@ -47,7 +47,7 @@ impl Pairs {
     }
 }
 
-/// The mark of a value: what stands for it in a checksum.
+/// The mark of a value: its number in a checksum.
 pub fn mark_of(value: &[u8]) -> u64 {
     match value.first_chunk::<8>() {
         Some(mark) => u64::from_be_bytes(*mark),

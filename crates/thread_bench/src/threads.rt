@@ -42,7 +42,7 @@ fn add_handles<L: Ledger>(
     true
 }
 
-// Each handle goes to a thread, which makes its calls. How long that takes, where the clock tells it.
+// Each handle goes to a thread, which makes its calls. How long that takes, if the clock has it.
 fn timed<L: Ledger + Send + Sync, R: Threads + Wait + Clock + Sync>(
     rt: &R,
     tree: &Tree,
@@ -78,7 +78,7 @@ fn mark_told(answer: &Answer) -> u64 {
     }
 }
 
-// What stands for a call in a checksum: the mark in its reply, turned by a bit where it is an insert.
+// A call as a number of a checksum: the mark in its reply, turned by a bit if it is an insert.
 fn digest(made: &Made) -> u64 {
     match made {
         Made::Point(_, Call::Get(_), reply) => mark_in(reply),
@@ -88,7 +88,7 @@ fn digest(made: &Made) -> u64 {
     }
 }
 
-// What a history tells, where it is known how long the threads took. The checksum is a sum, so that the order of calls is all one.
+// What a history says, if it is known how long the threads took. The checksum is a sum, so that the order of calls is all one.
 fn told_of(history: &[Entry], time: Option<Duration>) -> Option<Told> {
     let time = time?;
     let mut sum = 0u64;
@@ -102,7 +102,7 @@ fn told_of(history: &[Entry], time: Option<Duration>) -> Option<Told> {
     })
 }
 
-// What the history tells, if all handles are back.
+// What the history says, if all handles are back.
 fn gathered<L: Ledger, R: Wait>(
     rt: &R,
     shared: Shared<L>,
@@ -122,7 +122,7 @@ fn gathered<L: Ledger, R: Wait>(
     }
 }
 
-// Has each caller work by a handle of its own, and tells what came of it.
+// Has each caller work by a handle of its own, and prints the outcome.
 fn run_shared<L: Ledger + Send + Sync, R: Threads + Wait + Clock + Sync>(
     rt: &R,
     mut shared: Shared<L>,
@@ -138,7 +138,7 @@ fn run_shared<L: Ledger + Send + Sync, R: Threads + Wait + Clock + Sync>(
     gathered(rt, shared, handles, time)
 }
 
-/// Shares a database among threads that work on it, and tells what came of it.
+/// Shares a database among threads that work on it, and prints the outcome.
 pub fn run<L: Ledger + Send + Sync, R: Threads + Wait + Clock + Sync>(
     rt: &R,
     blank: Blank,

@@ -17,7 +17,7 @@ use std::thread::yield_now;
 /// A caller's way to a database whose merge operators add.
 pub type Way<L> = shared::Handle<MemPages, L, Adds>;
 
-// A gate at which others may run, so that more of their calls come between two steps.
+// A gate at which others may run, so that more of their calls are made between two steps.
 struct Yields;
 
 impl Gate for Yields {
@@ -309,7 +309,7 @@ pub fn group<L: Ledger, R: Wait>(
     scene.ended(text, outcome_of(answer.map(|()| Reply::Done)));
 }
 
-// Ends the line of a call that told a value.
+// Ends the line of a call that answered a value.
 fn told_value(scene: &Scene, text: &mut Text, answer: Result<Option<IVec>>) {
     match answer {
         Ok(value) => scene.ended(text, Outcome::Decided(Reply::Value(value))),
@@ -326,7 +326,7 @@ fn added(
     Ok(Some(add_to(alloc, stood, more)?))
 }
 
-// Adds to the number at a key, in one step. It tells the new number.
+// Adds to the number at a key, in one step. It answers the new number.
 fn update<L: Ledger, R: Wait>(
     rt: &R,
     alloc: Global,
@@ -338,7 +338,7 @@ fn update<L: Ledger, R: Wait>(
     way.update_and_fetch(rt, tree, key, move |stood| added(alloc, stood, more))
 }
 
-// The same, but that it tells the number that was there.
+// The same, but that it answers the number that was there.
 fn fetch_first<L: Ledger, R: Wait>(
     rt: &R,
     alloc: Global,
@@ -350,7 +350,7 @@ fn fetch_first<L: Ledger, R: Wait>(
     way.fetch_and_update(rt, tree, key, move |stood| added(alloc, stood, more))
 }
 
-/// Adds to the number at a key, in one step. It tells the new number, or the one that was there.
+/// Adds to the number at a key, in one step. It answers the new number, or the one that was there.
 pub fn fetch<L: Ledger, R: Wait>(
     rt: &R,
     scene: &Scene,
@@ -373,7 +373,7 @@ pub fn fetch<L: Ledger, R: Wait>(
     told_value(scene, text, answer);
 }
 
-/// Moves the value at a key to another key, and flushes, if so. It is given up where there is none.
+/// Moves the value at a key to another key, and flushes, if so. It is aborted if there is none.
 pub fn transfer<L: Ledger, R: Wait>(
     rt: &R,
     scene: &Scene,

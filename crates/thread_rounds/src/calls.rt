@@ -123,7 +123,7 @@ impl Text {
         self.text(b"\n");
     }
 
-    // Adds a read and what it told.
+    // Adds a read and its answer.
     fn read(&mut self, read: &Read) {
         match read {
             Read::Tree(tree, question, answer) => {

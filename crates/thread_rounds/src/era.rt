@@ -37,7 +37,7 @@ fn prepare(db: &mut Fresh) -> Result<u64> {
     db.generate_id()
 }
 
-// Adds all pairs, where they can be read.
+// Adds all pairs, if they can be read.
 fn tell_pairs(all: &mut Text, text: &[u8], db: &Fresh) {
     match db.export() {
         Ok(trees) => {

@@ -1,4 +1,4 @@
-//! Threads that share a database in memory make calls of all kinds on it, and the lines that it prints tell a checker all of them.
+//! Threads that share a database in memory make calls of all kinds on it, and the lines that it prints show a checker all of them.
 //!
 //!     thread_rounds SEED OPENINGS CALLERS KEYS CALLS
 //!
@@ -7,7 +7,7 @@
 //! seed it is chosen which calls are made and what the crash leaves; with one caller the lines are the same in each run. `tests/rounds`
 //! checks them.
 //!
-//! The lines are these. A word is spelled as in lines of the shell, a tree is its name and its number, and pairs come behind their count.
+//! The lines are these. A word is spelled as in lines of the shell, a tree is its name and its number, and pairs follow their count.
 //!
 //!     id N                            an id that was taken at an opening
 //!     opened N ..                     what is there: so many trees, each with its name and its pairs
@@ -19,7 +19,7 @@
 //!     left N ..                       what is there at the end
 //!     crash N                         a crash that keeps so many actions
 //!
-//! The status is 1 for other words, and where anything failed.
+//! The status is 1 for other words, and if anything failed.
 #![tactic(auto)]
 
 mod caller;
@@ -82,7 +82,7 @@ fn fate_of(choice: u64) -> Fate {
     }
 }
 
-// Prints lines, where all are there. Whether that went well.
+// Prints lines, if all are there. Whether that went well.
 fn print<W: Write>(output: &mut W, text: &Text) -> bool {
     match text.whole() {
         Some(bytes) => {

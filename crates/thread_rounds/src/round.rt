@@ -15,7 +15,7 @@ use std::thread::{Threads, for_each_mut};
 /// A database that is shared.
 pub type Shared<L> = shared::Db<MemPages, L, Adds>;
 
-/// What lies under its lock.
+/// What is under its lock.
 pub type Gathered<L> = shared::State<MemPages, L, Adds>;
 
 // A caller: its number, its handle until that is lost, and its book.
@@ -31,7 +31,7 @@ struct Desk<L: Ledger> {
 pub struct Ending {
     /// Some callers lose their handles.
     pub loses: bool,
-    /// All handles are let go, and the state is reclaimed.
+    /// All handles are dropped, and the state is reclaimed.
     pub reclaims: bool,
 }
 
@@ -96,7 +96,7 @@ fn make_all<L: Ledger, R: Wait>(
 }
 
 impl<L: Ledger> Desk<L> {
-    // The caller works. Where handles are lost, some callers lose theirs with a call in flight.
+    // The caller works. If handles are lost, some callers lose theirs with a call in flight.
     fn work<R: Wait>(&mut self, rt: &R, scene: &Scene, loses: bool) {
         let Some(way) = &mut self.way else {
             return;
@@ -194,7 +194,7 @@ fn reclaimed<L: Ledger, R: Wait>(rt: &R, all: &mut Text, shared: Shared<L>) -> O
     }
 }
 
-// The state: with all handles, or, where some were lost or all are to be let go, without them.
+// The state: with all handles, or, if some were lost or all are to be dropped, without them.
 fn taken<L: Ledger, R: Wait>(
     rt: &R,
     all: &mut Text,

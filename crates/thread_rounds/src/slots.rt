@@ -118,7 +118,7 @@ pub fn work<L: Ledger, R: Wait>(
     }
 }
 
-/// One step of a call that was left for others, and stays so; or gives up the call that is held.
+/// One step of a call that was left for others, and stays so; or abandons the call that is held.
 pub fn meddle<L: Ledger, R: Wait>(
     rt: &R,
     scene: &Scene,

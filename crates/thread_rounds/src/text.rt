@@ -4,7 +4,7 @@ use sled::{Batch, Collection, IVec, Outcome, Reply, Tree};
 use std::alloc::Global;
 use std::ops::Bound;
 
-/// Lines. Where there is no memory for one they are cut.
+/// Lines. If there is no memory for one they are cut.
 #[derive(Drop)]
 pub struct Text {
     bytes: Vec<u8>,
@@ -20,7 +20,7 @@ impl Text {
         }
     }
 
-    /// The lines, where all of them are there.
+    /// The lines, if all of them are there.
     pub fn whole(&self) -> Option<&[u8]> {
         if self.is_cut {
             None
@@ -98,7 +98,7 @@ impl Text {
         }
     }
 
-    /// Adds a range of a tree, which is read from its end where it says `yes`.
+    /// Adds a range of a tree, which is read from its end if it says `yes`.
     pub fn range(
         &mut self,
         text: &[u8],

@@ -18,7 +18,7 @@ pub record Agree (table index : Key → Option Key) : Type 0 where
 abbrev pub agree_in : Key → Key → Maps → Type 0
 agree_in table index maps = Agree (found_in (maps table)) (found_in (maps index))
 
--- A user had this address before, or none, and has another now, which nobody else had. No other user's changes, and no other tree
+-- A user had this address before, or none, and has another now, which no other user had. No other user's changes, and no other tree
 pub record PutsRow (old new : Maps) (table index id email : Key) (before : Option Key) : Type 0 where
   pub free : (owner : Key) → found_in (old index) email ≡ Some owner → owner ≡ id
   pub was : found_in (old table) id ≡ before

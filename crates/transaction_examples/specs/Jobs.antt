@@ -36,6 +36,6 @@ module _ {P M : Type 0} (store : P → Store) (meant : M → Merge) (old new : D
   refuses_as (Abort e) = ⊥
   refuses_as (Storage e) = (now (store new.pages)).in_group ≡ false → maps_now store meant new ≡ maps_now store meant old
 
-  -- it is refused, and never given up: all maps are as they were, unless the database is closed now
+  -- it is refused, and never aborted: all maps are as they were, unless the database is closed now
   pub record RefusesJob (e : TransactionError (Unit {0})) : Type 0 where
     pub is : refuses_as e

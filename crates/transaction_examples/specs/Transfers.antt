@@ -11,12 +11,12 @@ use Rattle.example_parts.specs.Reads.{found_in, maps_now}
 use Rattle.transaction_examples.specs.declared.transfers.TransferError.{TransferError}
 use Rattle.transaction_examples.specs.declared.transfers.TransferError.TheVariants.{SameCounter, NotEnough, TooMuch}
 
--- the two counters of a tree come to this
+-- the sum of the two counters of a tree is this
 abbrev pub come_to : Key → Key → Key → ℕ → Maps → Type 0
 come_to tree from to total maps = counter_in maps tree from + counter_in maps tree to ≡ total
 
--- An amount went from one counter of a tree to another: the one stands lower by it, and the other higher, so the two come to what they came to
--- before. No other key changes, and no other tree
+-- An amount went from one counter of a tree to another: the one is lower by it, and the other higher, so their sum is the one before. No
+-- other key changes, and no other tree
 pub record Transfers (old new : Maps) (tree from to : Key) (amount : ℕ) : Type 0 where
   pub apart : from ≢ to
   pub less : counter_in new tree from + amount ≡ counter_in old tree from
@@ -36,6 +36,6 @@ module _ {P M : Type 0} (store : P → Store) (meant : M → Merge) (old : DbVal
   ends_as (Abort why) new = is_reason (maps_now store meant old) tree from to amount why × (maps_now store meant new ≡ maps_now store meant old)
   ends_as (Storage e) new = (now (store new.pages)).in_group ≡ false → maps_now store meant new ≡ maps_now store meant old
 
-  -- It did not: the transfer was given up for a reason, or it was refused. All maps are as they were, unless a refusal closed the database
+  -- It did not: the transfer was aborted for a reason, or it was refused. All maps are as they were, unless a refusal closed the database
   pub record EndsTransfer (new : DbValue P M) (e : TransactionError TransferError) : Type 0 where
     pub is : ends_as e new

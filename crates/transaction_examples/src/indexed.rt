@@ -24,7 +24,7 @@ const INDEX: usize = 1;
 #[derive(Clone, Copy, Debug, PartialEq, Eq)]
 pub struct EmailTaken;
 
-// Whether nobody else has the address.
+// Whether no other user has the address.
 fn is_free<P: Pages>(
     both: &TransactionalTrees<'_, P>,
     id: &[u8],
@@ -107,9 +107,9 @@ fn put_inside<P: Pages>(
     }
 }
 
-/// Gives a user an address, and answers the one before. It is given up where the address is another user's; then nothing changes. Refused,
-/// all maps are as they were too, unless the database is closed now. Where the index agrees with the table, now and in all that a crash may
-/// leave, it does so afterwards too, whatever the call came to.
+/// Gives a user an address, and answers the one before. It is aborted if the address is another user's; then nothing changes. Refused, all
+/// maps are as they were too, unless the database is closed now. If the index agrees with the table, now and in all that a crash may leave,
+/// it does so afterwards too, whatever the outcome of the call.
 ///
 /// ```
 /// let emails = db.open_tree(b"emails")?;

@@ -58,9 +58,9 @@ fn take_inside<P: Pages>(
     Ok(true)
 }
 
-/// Takes a job from those that are ready to those that run, with its value, and answers `true`; or `false`, where it is not ready. Refused,
-/// all maps are as they were, unless the database is closed now. A job that is in one of the two trees alone, now and in all that a crash may
-/// leave, is so afterwards too, whatever the call came to.
+/// Takes a job from those that are ready to those that run, with its value, and answers `true`; or `false`, if it is not ready. Refused,
+/// all maps are as they were, unless the database is closed now. A job that is in one of the two trees alone, now and in all that a crash
+/// may leave, is so afterwards too, whatever the outcome of the call.
 ///
 /// ```
 /// let taken = take_job(&mut db, &ready, &done, b"ulm");

@@ -1,4 +1,4 @@
-//! Transfers between counters of a tree, each of them a transaction: an amount leaves one counter and comes to another, or nothing
+//! Transfers between counters of a tree, each of them a transaction: an amount leaves one counter and is added to another, or nothing
 //! happens. A counter is a number of eight bytes, as in `examples`.
 ghost use Rattle.std.specs.Prelude.{ℕ, Some, IfOk, IfErr, OnOk};
 ghost use Rattle.std.specs.Int.{w64, to_be_bytes};
@@ -32,7 +32,7 @@ pub enum TransferError {
     TooMuch,
 }
 
-// The number at which a counter stands inside.
+// The number of a counter inside.
 fn count_inside<P: Pages>(
     inside: &TransactionalTree<'_, P>,
     name: &[u8],
@@ -91,9 +91,9 @@ fn move_amount<P: Pages>(
     Ok(())
 }
 
-/// Moves an amount from one counter of a tree to another. It is given up where the two are one, where the first has less, or where the
-/// second would pass the greatest number; then nothing changes. Refused, all maps are as they were too, unless the database is closed now.
-/// What the two come to, now and in all that a crash may leave, they come to afterwards too, whatever the call came to.
+/// Moves an amount from one counter of a tree to another. It is aborted if the two are one, if the first has less, or if the second would
+/// pass the greatest number; then nothing changes. Refused, all maps are as they were too, unless the database is closed now. The sum of
+/// the two, now and in all that a crash may leave, is the same afterwards, whatever the outcome of the call.
 ///
 /// ```
 /// let paid = transfer(&mut db, &tree, b"ulm", b"bern", 30);
@@ -114,8 +114,8 @@ pub fn transfer<P: Pages, M: MergeOperator>(
     db.transaction(tree, |inside| move_amount(inside, from, to, amount))
 }
 
-/// Makes all durable, and then a transfer, whatever comes of it; ends the database by a crash, of whose last actions so many are kept, and
-/// opens what is left. The two counters come to what they came to before.
+/// Makes all durable, and then a transfer, whatever its outcome; ends the database by a crash, of whose last actions so many are kept, and
+/// opens what is left. The sum of the two counters is the one before.
 ///
 /// ```
 /// let left = transfer_and_crash(alloc, db, &tree, b"ulm", b"bern", 30, b"weather", 3)?;

@@ -11,7 +11,7 @@ use sled::{
 use sled_nodes::Result;
 use std::alloc::Global;
 
-/// Why a transaction is given up.
+/// Why a transaction is aborted.
 #[derive(Clone, Copy)]
 pub enum GivenUp {
     /// It says so.
@@ -20,7 +20,7 @@ pub enum GivenUp {
     Stopped,
 }
 
-/// What an attempt comes to.
+/// The outcome of an attempt.
 pub type Attempted = ConflictableTransactionResult<(), GivenUp>;
 
 /// What the parts of an attempt answered.

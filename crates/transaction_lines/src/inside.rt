@@ -11,7 +11,7 @@ use sled_store::Pages;
 /// What a part answers.
 #[derive(Drop)]
 pub(crate) enum Answer {
-    // The value that stands, or stood where the part writes.
+    // The value that is there, or was if the part writes.
     Value(Option<IVec>),
     Id(u64),
     Done,

@@ -1,4 +1,4 @@
-//! Transactions that lines spell: how they are run and told, with no machine round the database. Programs over lines stand on this.
+//! Transactions that lines spell: how they are run and printed, with no machine round the database. Programs over lines are built on this.
 #![tactic(auto)]
 
 pub mod attempt;

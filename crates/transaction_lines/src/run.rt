@@ -1,4 +1,4 @@
-//! Transactions that lines spell, run and told.
+//! Transactions that lines spell, run and printed.
 
 use crate::attempt::{Answers, Attempted, GivenUp};
 use crate::inside::{perform_on_tree, perform_on_trees};
@@ -13,7 +13,7 @@ use sled_store::Pages;
 use std::alloc::Global;
 use std::cell::Cell;
 
-/// What a transaction came to.
+/// The outcome of a transaction.
 pub type Ended = TransactionResult<(), GivenUp>;
 
 /// A transaction while it is run: what it does, and what the parts of its last attempt answered.
@@ -65,7 +65,7 @@ impl Run {
         attempted
     }
 
-    /// Adds what the parts answered, and what the transaction came to.
+    /// Adds what the parts answered, and the outcome of the transaction.
     pub fn tell(self, out: &mut Told, ended: Ended) -> Result<()> {
         let Run {
             alloc: _,
@@ -104,7 +104,7 @@ fn attempt_on_trees<P: Pages>(
     answers.end(script)
 }
 
-// What is printed of the parts: nothing where it was none of them that was refused, but the transaction.
+// What is printed of the parts: nothing if it was none of them that was refused, but the transaction.
 fn shown_of<'a>(answers: &'a Answers, ended: &Ended) -> &'a [u8] {
     match ended {
         Err(TransactionError::Storage(_)) if !answers.is_refused => b"",
@@ -112,7 +112,7 @@ fn shown_of<'a>(answers: &'a Answers, ended: &Ended) -> &'a [u8] {
     }
 }
 
-// Adds what a transaction came to.
+// Adds the outcome of a transaction.
 fn tell_ending(out: &mut Told, ended: Ended) -> Result<()> {
     match ended {
         Ok(()) => tell(out, &[Text(b"committed\n")]),
@@ -122,7 +122,7 @@ fn tell_ending(out: &mut Told, ended: Ended) -> Result<()> {
     }
 }
 
-// Runs it on a tree. Nothing is said of what that does, so that nobody who tells it has more to prove.
+// Runs it on a tree. Nothing is said of what that does, so that no function that prints it has more to prove.
 fn run_on_tree<P: Pages, M: MergeOperator>(db: &mut Db<P, M>, tree: &Tree, run: &Run) -> Ended {
     db.transaction(tree, |tree| run.attempt_on_tree(tree))
 }

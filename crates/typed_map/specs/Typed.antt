@@ -40,7 +40,7 @@ by_parts shape parts = record { is_value = λ a. HasShape shape (parts a); bytes
 abbrev pub as_it_is : Spelling Key
 as_it_is = record { is_value = λ b. Unit {0}; bytes = λ b. b; order = key_cmp }
 
--- the pairs of a tree, none where there is no tree
+-- the pairs of a tree, none if there is no tree
 abbrev pub pairs_in : Option Map → Map
 pairs_in None = []
 pairs_in (Some map) = map
@@ -76,7 +76,7 @@ module _ {K V : Type 0} (keys : Spelling K) (values : Spelling V) where
     pub here : (entries : List (K × V)) → IsTyped (pairs_in (old tree)) entries → IsTyped (pairs_in (new tree)) (put keys.order key value entries)
     pub trees : (other : Key) → other ≢ tree → new other ≡ old other
 
-  -- what stands at the key among the tree's entries
+  -- what is at the key among the tree's entries
   pub record LooksUp (maps : Maps) (tree : Key) (key : K) (found : Option V) : Type 0 where
     pub is : (entries : List (K × V)) → IsTyped (pairs_in (maps tree)) entries → found ≡ find keys.order key entries
 
@@ -104,7 +104,7 @@ module _ {P M : Type 0} (store : P → Store) (meant : M → Merge) where
     pub stood : Option Key
     pub decided : PointDecided store meant old tree (Insert (keys.bytes key) (values.bytes value)) (Value stood) new
 
-  -- the bytes at the key are those of what was found, or there are none where nothing was
+  -- the bytes at the key are those of what was found, or there are none if nothing was
   abbrev pub HasBytes : {K V : Type 0} → Spelling K → Spelling V → DbValue P M → Tree → K → Option V → Type 0
   HasBytes keys values d tree key found = ReadsMap store meant d tree (λ map. option_map values.bytes found ≡ find key_cmp (keys.bytes key) map)
 

@@ -11,7 +11,7 @@ use sled_store::Pages;
 use std::alloc::Global;
 use std::iter::Iterator;
 
-/// All pairs that an iterator still gives, which has ended then: none where it has ended already, as after a refusal. Each key is a byte
+/// All pairs that an iterator still gives, which has ended then: none if it has ended already, as after a refusal. Each key is a byte
 /// string, since it was given. Refused as `next` is, or for want of memory; then some pairs may be taken already.
 ///
 /// ```

@@ -20,7 +20,7 @@ pub trait Spelled: Drop {
         ensures err { IfErr result (λ e. e ≡ NoMemory) }
         ensures is_value { spelling.is_value self.now };
 
-    /// The value that these bytes spell, or `None` where they spell none. Refused with `NoMemory` alone.
+    /// The value that these bytes spell, or `None` if they spell none. Refused with `NoMemory` alone.
     fn read(alloc: Global, bytes: &[u8]) -> Result<Option<Self>>
         ensures some { IfOk result (λ found. IfSome found (λ x. spelling.is_value x × (bytes.now ≡ spelling.bytes x))) }
         ensures none { IfOk result (λ found. IfNone found ((x : Self) → spelling.is_value x → bytes.now ≢ spelling.bytes x)) }

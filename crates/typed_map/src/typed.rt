@@ -88,8 +88,8 @@ fn read_whole<A: Spelled>(alloc: Global, bytes: &[u8]) -> TypedResult<A>
     }
 }
 
-/// The value at a key, or `None` where it is absent. Refused as `Db::get` of the key's bytes is, for want of memory to spell the key or to
-/// read the value, or as `Foreign` where what stands there spells no value.
+/// The value at a key, or `None` if it is absent. Refused as `Db::get` of the key's bytes is, for want of memory to spell the key or to
+/// read the value, or as `Foreign` if what is there spells no value.
 pub fn look_up<P: Pages, M: MergeOperator, K: Spelled, V: Spelled>(
     db: &Db<P, M>,
     tree: &Tree,
@@ -181,7 +181,7 @@ fn spelled_bounds<K: Spelled>(
 }
 
 /// The entries within two bounds, in the order of their keys. Refused as `Db::range` and what it gives are, for want of memory, or as
-/// `Foreign` where something in the tree spells no entry.
+/// `Foreign` if something in the tree spells no entry.
 pub fn walk<P: Pages, M: MergeOperator, K: Spelled, V: Spelled>(
     db: &Db<P, M>,
     tree: &Tree,

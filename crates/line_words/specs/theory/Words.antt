@@ -1,4 +1,4 @@
--- Of Words, for proofs. Words: how the byte strings, the numbers and the words themselves stand in a line.
+-- Of Words, for proofs. Words: how the byte strings, the numbers and the words themselves are written in a line.
 use Rattle.std.specs.Prelude.{◌≡◌, ℕ, ◌<◌, List, length, Option, Some, None, MatchOption}
 use Rattle.std.specs.Borrow.{Bor}
 use Rattle.line_words.specs.Words.{and_then, bytes_of}

@@ -14,7 +14,7 @@ use Rattle.sled_lines.specs.declared.lines.Line.{Line}
 use Rattle.sled_lines.specs.declared.lines.Line.TheVariants as line
 use Rattle.sled_lines.specs.declared.lines.End.{End}
 
--- What is read next tells whether a line is bad: it is the line of the number n, or there is none, or the same as before
+-- What is read next says whether a line is bad: it is the line of the number n, or there is none, or the same as before
 abbrev pub Reads : Option (Option ℕ) → Option (Option ℕ) → ℕ → Line → Type 0
 Reads before after n line.NoLine = IfSome before (λ bad. bad ≡ None)
 Reads before after n line.BadLine = IfSome before (λ bad. bad ≡ Some n)
@@ -39,7 +39,7 @@ abbrev pub ReadsNext : Option (List ℕ) → Option (List ℕ) → Option (Optio
 ReadsNext before after None = IfSome before (λ text. (text ≡ []) × (after ≡ Some []))
 ReadsNext before after (Some read) = IfSome before (λ text. BeginsSo text read after)
 
--- the same of a line that a reader holds whole; where it holds none, nothing is read
+-- the same of a line that a reader holds whole; if it holds none, nothing is read
 abbrev pub ReadsHeld : Option (List ℕ) → Option (List ℕ) → Option (Option Command) → Type 0
 ReadsHeld before after None = Keeps before after
 ReadsHeld before after (Some read) = IfSome before (λ text. BeginsSo text read after)
@@ -80,7 +80,7 @@ pub record LivesOn {P M : Type 0} (store : P → Store) (flush_number : P → �
   pub left : there.left ≡ Some rest
   pub prints : Prints here.held here.gathered there.held there.gathered texts
 
--- the same of what the reader has left, where that is known
+-- the same of what the reader has left, if that is known
 abbrev pub LivesFrom : {P M : Type 0} → (P → Store) → (P → ℕ) → (M → Merge) → Session P M → Place → End → Session P M → Place → Type 0
 LivesFrom store flush_number meant s here e last there = IfSome here.left (λ text. LivesOn store flush_number meant s here e last there text)
 
@@ -92,7 +92,7 @@ pub record LivedOn (before : Store) (here : Place) (e : End) (after : Store) (th
   pub left : there.left ≡ Some rest
   pub prints : Prints here.held here.gathered there.held there.gathered texts
 
--- the same of what the reader has left, where that is known
+-- the same of what the reader has left, if that is known
 abbrev pub LivedFrom : Store → Place → End → Store → Place → Type 0
 LivedFrom before here e after there = IfSome here.left (λ text. LivedOn before here e after there text)
 

@@ -15,7 +15,7 @@ use Rattle.store_examples.specs.declared.log_pages.Logged.TheVariants.{PageBecam
 use Rattle.store_examples.specs.Log.{actions_of, action_of, state_after, up_to, below, is_given}
 use Rattle.store_examples.specs.LogStore.{store_of}
 
--- what is flushed and then the rest come to the same as all of it
+-- what is flushed and then the rest have the same result as all of it
 pub parts : (flushed : ℕ) (log : List Logged) (s : State) → after_all (actions_of (drop flushed log)) (after_all (actions_of (take flushed log)) s) ≡ after_all (actions_of log) s
 parts zero log s = refl
 parts (suc flushed) [] s = refl

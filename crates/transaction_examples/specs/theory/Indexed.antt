@@ -9,12 +9,12 @@ use Rattle.tree_transactions.specs.declared.errors.ConflictableTransactionError.
 use Rattle.tree_transactions.specs.declared.trees.TransactionalTrees.{TransactionalTrees}
 use Rattle.transaction_examples.specs.declared.indexed.EmailTaken.{EmailTaken}
 
--- nobody but this user is the owner, or somebody is
+-- no other user is the owner, or some other is
 abbrev pub is_free_as : Bool → Option Key → Key → Type 0
 is_free_as true owner id = (other : Key) → owner ≡ Some other → other ≡ id
 is_free_as false owner id = (other : Key) × (owner ≡ Some other) × (other ≢ id)
 
--- whether an address is free for a user is told
+-- whether an address is free for a user is answered
 pub record TellsFree {P : Type 0} (store : P → Store) (both : TransactionalTrees P) (id email : Key) (free : Bool) : Type 0 where
   pub owner : Option Key
   pub shows : ShowsAt store both 1 email owner
@@ -48,6 +48,6 @@ module _ {P : Type 0} (store : P → Store) (old : TransactionalTrees P) (id ema
   gives_up_put_as Conflict = Unit {0}
   gives_up_put_as (Storage e) = Unit {0}
 
-  -- it is given up where the address is another user's, or a call inside is refused
+  -- it is aborted if the address is another user's, or a call inside is refused
   pub record GivesUpPut (e : ConflictableTransactionError EmailTaken) : Type 0 where
     pub is : gives_up_put_as e

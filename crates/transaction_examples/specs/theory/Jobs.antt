@@ -18,7 +18,7 @@ abbrev pub takes_inside_as : {P : Type 0} → (P → Store) → Bool → Transac
 takes_inside_as store true old job new = (value : Key) × ShowsAt store old 0 job (Some value) × MovesInside old job value new
 takes_inside_as store false old job new = ShowsAt store old 0 job None × (new ≡ old)
 
--- .. where it is there, with the value that it has there
+-- .. if it is there, with the value that it has there
 pub record TakesInside {P : Type 0} (store : P → Store) (old : TransactionalTrees P) (job : Key) (taken : Bool) (new : TransactionalTrees P) : Type 0 where
   pub is : takes_inside_as store taken old job new
 
@@ -27,6 +27,6 @@ is_no_abort (Abort e) = ⊥
 is_no_abort Conflict = Unit {0}
 is_no_abort (Storage e) = Unit {0}
 
--- the transaction is not given up
+-- the transaction is not aborted
 pub record NotAborted {E : Type 0} (e : ConflictableTransactionError E) : Type 0 where
   pub is : is_no_abort e

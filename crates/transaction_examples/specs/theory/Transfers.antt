@@ -12,7 +12,7 @@ use Rattle.example_parts.specs.Counters.{number_in}
 use Rattle.transaction_examples.specs.declared.transfers.TransferError.{TransferError}
 use Rattle.transaction_examples.specs.declared.transfers.TransferError.TheVariants.{SameCounter, NotEnough, TooMuch}
 
--- a counter is shown to stand at this number
+-- a counter is shown to have this number
 pub record CountsInside {P : Type 0} (store : P → Store) (inside : TransactionalTree P) (name : Key) (n : ℕ) : Type 0 where
   pub value : Option Key
   pub shows : Shows store inside name value
@@ -37,6 +37,6 @@ module _ {P : Type 0} (store : P → Store) (old : TransactionalTree P) (from to
   gives_up_as Conflict = Unit {0}
   gives_up_as (Storage e) = Unit {0}
 
-  -- it is given up for a reason, or a call inside is refused
+  -- it is aborted for a reason, or a call inside is refused
   pub record GivesUpMove (e : ConflictableTransactionError TransferError) : Type 0 where
     pub is : gives_up_as e
