@@ -1,2 +1,4 @@
 pub mod Halving
+pub mod SettingOff
 pub mod Moving
+pub mod Ending

@@ -4,17 +4,14 @@ use Rattle.std.proofs.Math.Arith.{lt_of_le-ne}
 use Rattle.std.proofs.Math.Path.{fun_ext}
 use Rattle.std.proofs.lemmas.Bool.{eq-eqb, eqb-true}
 use Rattle.std.proofs.lemmas.List.{append_assoc}
-use Rattle.std.specs.declared.ops.Bound.TheVariants.{Included}
 use Rattle.sled_nodes.proofs.Basics.{none_some, some_is, same_or_not}
 use Rattle.sled_nodes.specs.Order.{Key}
-use Rattle.sled_nodes.specs.Ranges.{Range}
 use Rattle.sled_store.specs.In.{In}
 use Rattle.sled_store.specs.Store.{Store, now}
 use Rattle.sled_store.specs.theory.Facts.{put_here}
-use Rattle.sled_model.specs.Answer.{key_of}
 use Rattle.sled_model.specs.Maps.{Map, Merge}
 use Rattle.sled_model.specs.Refusal.{ToStep, must_refuse, turns_limit}
-use Rattle.sled_model.specs.State.{State, NamedTree, CallInFlight, range_of, IsOnKey}
+use Rattle.sled_model.specs.State.{State, NamedTree, CallInFlight}
 use Rattle.sled_model.specs.Transition.{Move}
 use Rattle.sled_model.specs.declared.outcome.Outcome.TheVariants as outcome
 use Rattle.sled_model.specs.declared.outcome.Step.TheVariants as step
@@ -23,43 +20,35 @@ use Rattle.tree_laws.specs.Contents.{trees_of}
 use Rattle.tree_laws.specs.Forest.{Forest}
 use Rattle.tree_laws.specs.Snapshot.{HasForest, snapshot_of}
 use Rattle.sled_tree.specs.Course.{course_of}
-use Rattle.sled_tree.specs.Follows.{Follows, FollowsOn}
 use Rattle.sled_tree.specs.Stages.{Knows}
 use Rattle.sled_tree.specs.declared.flight.InFlight.{InFlight}
-use Rattle.sled_tree.specs.declared.flight.Sequel.TheVariants.{Go}
 use Rattle.sled_tree.specs.declared.flight.Went.{Went}
 use Rattle.sled_tree.specs.declared.flight.Went.TheVariants.{Moved, Yielded, Decided, Refused}
 use Rattle.tree_progress.specs.Alone.{GoesOnAlone}
 use Rattle.move_laws.proofs.Running.{among_law}
-use Rattle.move_laws.specs.Among.{IsUnderWay, GoesOnAmong, MovesAmong, Begins as NoneMoved, Moves as OneMoved}
+use Rattle.move_laws.specs.Among.{IsUnderWay, GoesOnAmong, MovesAmong, Turns, Begins as NoneMoved, Moves as OneMoved}
 use Rattle.move_laws.specs.Meant.{Flight, flight}
 use Rattle.tree_steps.specs.Outcomes.{outcome_of}
 use Rattle.sled.proofs.Flying.{named_now}
 use Rattle.sled.proofs.Trees.{trees_at}
-use Rattle.sled.specs.Flights.{call_in_flight_of, follows_as}
+use Rattle.sled.specs.Flights.{call_in_flight_of}
 use Rattle.sled.specs.Values.{db_state, named, numbers_of, given_to, snapshot_of_db}
 use Rattle.sled_calls.specs.Step.{MachineStepContract, FollowsAt}
 use Rattle.sled_calls.specs.StepsInSlot.{flight_after}
 use Rattle.sled_calls.specs.Values.{MachineValue, kept_at, slots_of, configuration_of}
-use Rattle.machine_laws.specs.Moves.{is_live_as, is_live, flights_in, flights_up_to, flights_of, IsSound, IsReached, MovesInARow, Begins, Moves, MovesLaw}
+use Rattle.machine_laws.specs.Moves.{has_number, is_live, KeepsAim, flights_in, flights_up_to, flights_of, IsSound, IsReached, MovesInARow, Begins, Moves, MovesLaw}
+use Rattle.machine_laws.proofs.SettingOff.{flight_of, SetsOff, sets_off}
 use Rattle.machine_laws.proofs.Halving.{flying_there, reached_sound, machine_halves_law}
 
-abbrev flight_of : InFlight → Flight
-flight_of f = flight (course_of f) f.stage
-
-live_means : (range : Option Range) (o : Option ℕ) (n : ℕ) → is_live_as range o n ≡ true → (range ≡ None) × (o ≡ Some n)
-live_means None (Some k) n e = (refl, ap Some (eqb-true k n e))
-live_means None None n e = absurd (off e)
-  where
-    off : false ≡ true → ⊥
-    off e = cc
-live_means (Some range) o n e = absurd (off e)
+live_means : (o : Option ℕ) (n : ℕ) → has_number o n ≡ true → o ≡ Some n
+live_means (Some k) n e = ap Some (eqb-true k n e)
+live_means None n e = absurd (off e)
   where
     off : false ≡ true → ⊥
     off e = cc
 
-live_is : (range : Option Range) (o : Option ℕ) (n : ℕ) → range ≡ None → o ≡ Some n → is_live_as range o n ≡ true
-live_is range o n none there = ap (λ z. is_live_as z o n) none ∙ ap (λ z. is_live_as None z n) there ∙ eq-eqb n n refl
+live_is : (o : Option ℕ) (n : ℕ) → o ≡ Some n → has_number o n ≡ true
+live_is o n there = ap (λ z. has_number z n) there ∙ eq-eqb n n refl
 
 -- The flights of slots
 module _ (numbers : Key → Option ℕ) where
@@ -189,8 +178,8 @@ moved_is (Refused r) e = absurd (off e)
     off e = cc
 
 module _ {P M : Type 0} (store : P → Store) (number : P → ℕ) (meant : M → Merge) where
-  -- a step of the slot by which its call on a key goes on
-  module _ (a b : MachineValue P M) (slot : ℕ) (k : MachineStepContract store number meant a (step.Step slot) outcome.Moved b) (x : IsSound store a) (y : IsSound store b) (keys : (f : InFlight) → kept_at a.flights slot ≡ Some f → IsOnKey f.job.call) where
+  -- a step of the slot by which its call goes on
+  module _ (a b : MachineValue P M) (slot : ℕ) (k : MachineStepContract store number meant a (step.Step slot) outcome.Moved b) (x : IsSound store a) (y : IsSound store b) (keeps : (f g : InFlight) → kept_at a.flights slot ≡ Some f → kept_at b.flights slot ≡ Some g → KeepsAim f g) where
     move : Move (configuration_of store number meant a).state slot (configuration_of store number meant b).state
     move = k.step.step.is.0
 
@@ -199,9 +188,6 @@ module _ {P M : Type 0} (store : P → Store) (number : P → ℕ) (meant : M �
 
     abbrev f : InFlight
     f = flying.0
-
-    on_key : IsOnKey f.job.call
-    on_key = keys f flying.1
 
     passes : must_refuse (db_state store meant a.db) (ToStep (call_in_flight_of f)) ≡ None
     passes = subst (λ z. must_refuse (db_state store meant a.db) (ToStep z) ≡ None) (sym flying.2) move.free
@@ -231,20 +217,8 @@ module _ {P M : Type 0} (store : P → Store) (number : P → ℕ) (meant : M �
     same_call : g.job.call ≡ f.job.call
     same_call = ap (λ (z : CallInFlight). z.call) is_call ∙ ap (λ (z : CallInFlight). z.call) (sym flying.2)
 
-    stays_on_key : IsOnKey g.job.call
-    stays_on_key = ap range_of same_call ∙ on_key
-
-    same_course : course_of g ≡ course_of f
-    same_course =
-        ap (λ z. record { tree = z; call = g.job.call; aim = (course_of g).aim }) same_tree
-        ∙ ap (λ z. record { tree = f.job.tree; call = z; aim = (course_of g).aim }) same_call
-        ∙ ap (λ z. record { tree = f.job.tree; call = f.job.call; aim = z }) ((y.calls.known slot g now_there).aimed.key stays_on_key ∙ ap (λ z. Included (key_of z)) same_call ∙ sym ((x.calls.known slot f flying.1).aimed.key on_key))
-
-    follows : Follows (course_of f) (store a.db.pages) f.stage (Go g.stage) (store b.db.pages)
-    follows = on.is
-      where
-        on : FollowsOn (store a.db.pages) f Moved (store b.db.pages) g
-        on = subst (λ z. FollowsOn (store a.db.pages) f z (store b.db.pages) g) went_is (subst (λ r. follows_as r (store a.db.pages) f follows_at.went (store b.db.pages) g) on_key follows_at.follows)
+    off : SetsOff (store a.db.pages) (store b.db.pages) f g
+    off = sets_off (store a.db.pages) (store b.db.pages) f g same_tree same_call (x.calls.known slot f flying.1).aimed (y.calls.known slot g now_there).aimed follows_at.went went_is (keeps f g flying.1 now_there) follows_at.follows
 
     same_trees : numbers_of b.db.trees ≡ numbers_of a.db.trees
     same_trees = fun_ext (λ t. same_number _ _ _ _ (numbers_of b.db.trees t) (numbers_of a.db.trees t) (trees_of (now (store b.db.pages)) t) (trees_of (now (store a.db.pages)) t)
@@ -282,7 +256,7 @@ module _ {P M : Type 0} (store : P → Store) (number : P → ℕ) (meant : M �
     moment : (m : MachineValue P M) → numbers_of m.db.trees ≡ numbers → m.db.trees_given ≡ first.db.trees_given → snapshot_of_db store m.db ≡ snapshot_of (store m.db.pages) numbers given
     moment m trees count = ap (λ z. snapshot_of (store m.db.pages) z (given_to m.db.trees_given)) trees ∙ ap (λ z. snapshot_of (store m.db.pages) numbers (given_to z)) count
 
-    module _ (w : Forest) (a b : MachineValue P M) (i slot : ℕ) (r : IsAfter w a i) (keys : (f : InFlight) → kept_at a.flights slot ≡ Some f → IsOnKey f.job.call)
+    module _ (w : Forest) (a b : MachineValue P M) (i slot : ℕ) (r : IsAfter w a i) (keys : (f g : InFlight) → kept_at a.flights slot ≡ Some f → kept_at b.flights slot ≡ Some g → KeepsAim f g)
         (k : MachineStepContract store number meant a (step.Step slot) outcome.Moved b) (y : IsSound store b) where
       abbrev was : InFlight
       was = f a b slot k r.sound y keys
@@ -300,10 +274,10 @@ module _ {P M : Type 0} (store : P → Store) (number : P → ℕ) (meant : M �
       has_name = subst (λ z. z was.job.tree.name ≡ Some was.job.tree.number) r.trees (is_named a b slot k r.sound y keys)
 
       live : is_live numbers was ≡ true
-      live = live_is _ _ _ (on_key a b slot k r.sound y keys) has_name
+      live = live_is _ _ has_name
 
       lives : is_live numbers is ≡ true
-      lives = live_is _ _ _ (stays_on_key a b slot k r.sound y keys) (subst (λ z. numbers z.name ≡ Some z.number) (sym (same_tree a b slot k r.sound y keys)) has_name)
+      lives = live_is _ _ (subst (λ z. numbers z.name ≡ Some z.number) (sym (same_tree a b slot k r.sound y keys)) has_name)
 
       other_slots : (q : ℕ) → q ≢ slot → kept_at b.flights q ≡ kept_at a.flights q
       other_slots q off = k.slots.others q (λ e. off (sym (some_is e)))
@@ -324,28 +298,38 @@ module _ {P M : Type 0} (store : P → Store) (number : P → ℕ) (meant : M �
       slots : AreBeside numbers (kept_at a.flights) (kept_at b.flights) slot was is there there_now live lives other_slots first.slots_given
       slots = beside numbers (kept_at a.flights) (kept_at b.flights) slot was is there there_now live lives other_slots first.slots_given (subst (λ z. slot ≤ z) r.slot_count (r.sound.calls.given slot was there))
 
-      goes : GoesOnAlone numbers given (course_of was) (store a.db.pages) was.stage r.sound.db.forest (store b.db.pages) is.stage y.db.forest
+      sets : SetsOff (store a.db.pages) (store b.db.pages) was is
+      sets = off a b slot k r.sound y keys
+
+      goes : GoesOnAlone numbers given sets.course (store a.db.pages) sets.was r.sound.db.forest (store b.db.pages) is.stage y.db.forest
       goes = record {
-        follows = follows a b slot k r.sound y keys;
+        follows = sets.follows;
         formed = subst (λ z. HasForest z y.db.forest) at_moment y.db.is;
         stays = λ x p i. (k.loses.none r.sound.db.forest y.db.forest r.sound.db.is y.db.is).is x p (λ e. none_some e) i;
-        knows = subst (λ z. Knows (snapshot_of (store b.db.pages) numbers given) y.db.forest z is.stage) (same_course a b slot k r.sound y keys) (known_now slot is there_now);
+        knows = subst (λ z. Knows (snapshot_of (store b.db.pages) numbers given) y.db.forest z is.stage) sets.same (known_now slot is there_now);
       }
 
-      goes_among : GoesOnAmong numbers given (store a.db.pages) (flights a) r.sound.db.forest (store b.db.pages) (flights b) y.db.forest
+      goes_among : GoesOnAmong numbers given (store a.db.pages) (slots.before ++ flight sets.course sets.was ∷ slots.behind) r.sound.db.forest (store b.db.pages) (flights b) y.db.forest
       goes_among = record {
-        course = course_of was;
-        was = was.stage;
+        course = sets.course;
+        was = sets.was;
         is = is.stage;
         before = slots.before;
         behind = slots.behind;
-        from = slots.from;
-        to = slots.to ∙ ap (λ z. slots.before ++ flight z is.stage ∷ slots.behind) (same_course a b slot k r.sound y keys);
+        from = refl;
+        to = slots.to ∙ ap (λ z. slots.before ++ flight z is.stage ∷ slots.behind) sets.same;
         goes = goes;
+        begins = sets.begins;
         others = λ x i.
             let e = slots.others x i in
             subst (λ (z : Flight). Knows (snapshot_of (store b.db.pages) numbers given) y.db.forest z.course z.stage) (sym e.2.is) (known_now e.0 e.2.call (other_slots e.0 e.1 ∙ e.2.there));
       }
+
+      turned : MovesAmong numbers given (store first.db.pages) (flights first) w i (store a.db.pages) (slots.before ++ flight sets.course sets.was ∷ slots.behind) r.sound.db.forest
+      turned = elim (sets.turns (flights a) slots.before slots.behind slots.from) [
+        | inl e ↦ subst (λ z. MovesAmong numbers given (store first.db.pages) (flights first) w i (store a.db.pages) z r.sound.db.forest) e r.moves
+        | inr t ↦ Turns r.moves t
+      ]
 
       step_on : IsAfter w b (suc i)
       step_on = record {
@@ -353,7 +337,7 @@ module _ {P M : Type 0} (store : P → Store) (number : P → ℕ) (meant : M �
         tree_count = count_now;
         slot_count = same_count a b slot k r.sound y keys ∙ r.slot_count;
         sound = y;
-        moves = OneMoved r.moves goes_among;
+        moves = OneMoved turned goes_among;
       }
 
     rows : (reached : IsReached store number meant first) (n : ℕ) (last : MachineValue P M) → MovesInARow store number meant first n last → IsAfter (reached_sound store number meant first reached).db.forest last n
@@ -363,11 +347,10 @@ module _ {P M : Type 0} (store : P → Store) (number : P → ℕ) (meant : M �
     under_way : (reached : IsReached store number meant first) (x : Flight) → In x (flights first) → IsUnderWay numbers given (store first.db.pages) (reached_sound store number meant first reached).db.forest x
     under_way reached x i =
         let k = in_slots numbers (kept_at first.flights) first.slots_given x i in
-        let means = live_means (range_of k.2.call.job.call) (numbers k.2.call.job.tree.name) k.2.call.job.tree.number k.2.live in
+        let means = live_means (numbers k.2.call.job.tree.name) k.2.call.job.tree.number k.2.live in
         let sound = reached_sound store number meant first reached in
         subst (λ z. IsUnderWay numbers given (store first.db.pages) sound.db.forest z) (sym k.2.is) (record {
-          named = means.1;
-          on_key = means.0;
+          named = means;
           knows = (sound.calls.known k.0 k.2.call k.2.there).is sound.db.forest sound.db.is;
           halves = machine_halves_law store number meant first reached k.0 k.2.call k.2.there;
         })

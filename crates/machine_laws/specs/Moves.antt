@@ -12,9 +12,13 @@ use Rattle.sled_model.specs.declared.outcome.Outcome.TheVariants.{Moved}
 use Rattle.sled_model.specs.declared.outcome.Step.{Step}
 use Rattle.sled_model.specs.declared.outcome.Step.TheVariants as step
 use Rattle.sled_model.specs.declared.tree.Tree.{Tree}
+use Rattle.tree_laws.specs.declared.flight.Stage.{Stage}
+use Rattle.tree_laws.specs.declared.flight.Stage.TheVariants.{Give}
 use Rattle.sled_tree.specs.Course.{course_of}
+use Rattle.sled_tree.specs.declared.flight.Aim.{Aim}
 use Rattle.sled_tree.specs.declared.flight.InFlight.{InFlight}
 use Rattle.tree_progress.specs.Steps.{HasHalves}
+use Rattle.tree_scans.specs.Scans.{aim_behind}
 use Rattle.move_laws.specs.Meant.{Flight, flight, moves_bound}
 use Rattle.sled.specs.Sound.{IsDb}
 use Rattle.sled.specs.Values.{numbers_of, snapshot_of_db}
@@ -23,15 +27,15 @@ use Rattle.sled_calls.specs.Sound.{IsMachine}
 use Rattle.sled_calls.specs.Step.{MachineStepContract}
 use Rattle.sled_calls.specs.Values.{MachineValue, kept_at}
 
--- whether a call is one on a key, of a tree that is there: a tree has the number that the call has for it
-abbrev pub is_live_as : Option Range → Option ℕ → ℕ → Bool
-is_live_as None (Some n) number = nat_eq n number
-is_live_as range n number = false
+-- whether the tree of a call is there: it has the number that the call has for it
+abbrev pub has_number : Option ℕ → ℕ → Bool
+has_number None number = false
+has_number (Some n) number = nat_eq n number
 
 abbrev pub is_live : (Key → Option ℕ) → InFlight → Bool
-is_live numbers f = is_live_as (range_of f.job.call) (numbers f.job.tree.name) f.job.tree.number
+is_live numbers f = has_number (numbers f.job.tree.name) f.job.tree.number
 
--- the flight of such a call in a slot; there is none where no call is, or a scan is, or one whose tree was dropped
+-- the flight of the call in a slot; there is none where no call is, or one whose tree was dropped
 abbrev pub flights_in : (Key → Option ℕ) → Option InFlight → List Flight
 flights_in numbers None = []
 flights_in numbers (Some f) = if is_live numbers f then flight (course_of f) f.stage ∷ [] else []
@@ -41,7 +45,7 @@ abbrev pub flights_up_to : (Key → Option ℕ) → (ℕ → Option InFlight) �
 flights_up_to numbers kept zero = flights_in numbers (kept 0)
 flights_up_to numbers kept (suc n) = flights_in numbers (kept (suc n)) ++ flights_up_to numbers kept n
 
--- the calls on keys in flight of a machine
+-- the calls in flight of a machine, scans among them
 abbrev pub flights_of : {P M : Type 0} → MachineValue P M → List Flight
 flights_of m = flights_up_to (numbers_of m.db.trees) (kept_at m.flights) m.slots_given
 
@@ -63,13 +67,37 @@ pub data IsReached {P M : Type 0} (store : P → Store) (flush_number : P → �
 abbrev pub MachineHalvesLaw : {P M : Type 0} → (P → Store) → (P → ℕ) → (M → Merge) → Type 0
 MachineHalvesLaw {P} {M} store flush_number meant = (m : MachineValue P M) → IsReached store flush_number meant m → (slot : ℕ) (f : InFlight) → kept_at m.flights slot ≡ Some f → HasHalves (nodes_of (now (store m.db.pages))) f.stage
 
--- So many steps in a row, each of whichever slot has a call on a key, that all come out as `Moved`. Scans may be in other slots
+-- where a scan goes on: behind its leaf, where it has one
+abbrev pub aim_ahead : Range → Stage → Aim → Aim
+aim_ahead r (Give a) aim = aim_behind a.leaf.node r.back
+aim_ahead r other aim = aim
+
+-- A scan that goes on aims there: no other part of its range counts as read. Of a call on a key nothing is asked
+abbrev pub keeps_aim_as : Option Range → InFlight → InFlight → Type 0
+keeps_aim_as None f g = Unit {0}
+keeps_aim_as (Some r) f g = g.aim ≡ aim_ahead r f.stage f.aim
+
+abbrev pub KeepsAim : InFlight → InFlight → Type 0
+KeepsAim f g = keeps_aim_as (range_of f.job.call) f g
+
+-- So many steps in a row, of whichever slot each, that all come out as `Moved`
 pub data MovesInARow {P M : Type 0} (store : P → Store) (flush_number : P → ℕ) (meant : M → Merge) (first : MachineValue P M) : ℕ → MachineValue P M → Type 0 where
   Begins : MovesInARow store flush_number meant first 0 first
-  Moves : {n slot : ℕ} {a b : MachineValue P M} → MovesInARow store flush_number meant first n a → ((f : InFlight) → kept_at a.flights slot ≡ Some f → IsOnKey f.job.call)
+  Moves : {n slot : ℕ} {a b : MachineValue P M} → MovesInARow store flush_number meant first n a → ((f g : InFlight) → kept_at a.flights slot ≡ Some f → kept_at b.flights slot ≡ Some g → KeepsAim f g)
       → MachineStepContract store flush_number meant a (step.Step slot) Moved b → IsSound store b → MovesInARow store flush_number meant first (suc n) b
 
--- Of such a machine no more steps of calls on keys come out as `Moved` in a row than the pages tell, whichever slots they are of
+-- Of such a machine no more steps come out as `Moved` in a row than the pages tell, whichever slots they are of
 abbrev pub MovesLaw : {P M : Type 0} → (P → Store) → (P → ℕ) → (M → Merge) → Type 0
 MovesLaw {P} {M} store flush_number meant = (first : MachineValue P M) → IsReached store flush_number meant first
     → (n : ℕ) (last : MachineValue P M) → MovesInARow store flush_number meant first n last → n ≤ moves_bound (now (store first.db.pages)) (flights_of first)
+
+-- However the calls on keys in flight of a machine are stepped, they end: a step of one of them is followed by such a step at most so
+-- often until none is made any more
+pub data IsEnding {P M : Type 0} (store : P → Store) (flush_number : P → ℕ) (meant : M → Merge) : MachineValue P M → Type 0 where
+  Ends : {m : MachineValue P M} → ((slot : ℕ) (f : InFlight) (o : Outcome) (next : MachineValue P M) → kept_at m.flights slot ≡ Some f → IsOnKey f.job.call
+      → MachineStepContract store flush_number meant m (step.Step slot) o next → IsSound store next → IsEnding store flush_number meant next) → IsEnding store flush_number meant m
+
+-- So it is of each machine that began with no call in flight: no list of steps of its calls on keys goes on for ever. So where each step is
+-- of a call on a key that is in flight, none is left in the end
+abbrev pub EndsLaw : {P M : Type 0} → (P → Store) → (P → ℕ) → (M → Merge) → Type 0
+EndsLaw {P} {M} store flush_number meant = (m : MachineValue P M) → IsReached store flush_number meant m → IsEnding store flush_number meant m

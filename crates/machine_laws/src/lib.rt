@@ -1,18 +1,23 @@
-//! Laws: of the steps in a row of a machine one is decided or refused before long.
+//! Laws: of the steps in a row of a machine one is decided or refused before long, and of finitely many calls on keys none is left.
 //!
 //! A machine's calls in flight share their pages: each repairs what others left half done, and what one changes sends others back to the
-//! root. Here it is said that they do not do so for ever. Of calls on keys no more steps come out as `Moved` in a row than `moves_bound` of
-//! `move_laws` tells, a number of the pages and of the calls in flight, whichever slot each step is of. So of one step more at least one
-//! tells its caller something: a reply or why the call is refused.
+//! root. Here it is said that they do not do so for ever. No more steps come out as `Moved` in a row than `moves_bound` of `move_laws`
+//! tells, a number of the pages and of the calls in flight, whichever slot each step is of. So of one step more at least one tells its
+//! caller something: a reply, a pair, or why the call is refused. As each of them ends a call on a key, steps of such calls end
+//! (`law_ends`).
 //!
-//! It is said of the calls together: one of them may be overtaken for ever by others that are decided. A scan may be in a slot, but a step of
-//! it is none of those in the row. Nothing is said of the time that a step takes.
+//! It is said of the calls together: one of them may be overtaken for ever by others that are decided, if new calls begin. Nothing is said
+//! of the time that a step takes.
+//!
+//! Of a scan's step in such a row it is asked that the scan aims where it aimed or, if it had a leaf, behind that (`KeepsAim`). It does so,
+//! and `advance` of `tree_scans` is proved to, but what a machine says of a step leaves it out (`follows_as` of `sled` has `FollowsOn`,
+//! which speaks of the stage that comes next and of no aim). A row without steps of scans needs nothing.
 //!
 //! Nothing is done here. The laws are concluded from the public contract of a step of a machine alone (`MachineStepContract` of
 //! `sled_calls`).
 #![tactic(auto)]
 
-ghost use Rattle.machine_laws.specs.Moves.{MachineHalvesLaw, MovesLaw};
+ghost use Rattle.machine_laws.specs.Moves.{EndsLaw, MachineHalvesLaw, MovesLaw};
 
 use sled_model::MergeOperator;
 use sled_store::Pages;
@@ -27,13 +32,24 @@ pub fn law_machine_halves<P: Pages, M: MergeOperator>()
     ensures { MachineHalvesLaw P.store P.flush_number M.meant }
 {}
 
-/// Does nothing. Of a machine that began with no call in flight no more steps of calls on keys come out as `Moved` in a row than
-/// `moves_bound` of `move_laws` tells of the pages and the calls in flight as the row begins. So it is whichever slot each step is of, however
-/// many calls there are, at whatever stages, and whatever was left half done.
+/// Does nothing. Of a machine that began with no call in flight no more steps come out as `Moved` in a row than `moves_bound` of
+/// `move_laws` tells of the pages and the calls in flight as the row begins. So it is whichever slot each step is of, however many calls
+/// there are, scans among them, at whatever stages, and whatever was left half done. Of a scan's step `KeepsAim` is asked.
 ///
 /// ```
 /// law_moves::<MemPages, Adds>(); // From here on a proof knows it.
 /// ```
 pub fn law_moves<P: Pages, M: MergeOperator>()
     ensures { MovesLaw P.store P.flush_number M.meant }
+{}
+
+/// Does nothing. Of a machine that began with no call in flight steps of its calls on keys do not go on for ever, whichever slot each is of,
+/// if no call begins: each goes on, and of those there are few in a row, or is decided or refused. So if each step is of such a call that
+/// is in flight, none is left in the end. Scans may be in flight beside them, but are not stepped.
+///
+/// ```
+/// law_ends::<MemPages, Adds>(); // From here on a proof knows it.
+/// ```
+pub fn law_ends<P: Pages, M: MergeOperator>()
+    ensures { EndsLaw P.store P.flush_number M.meant }
 {}

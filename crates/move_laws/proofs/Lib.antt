@@ -4,5 +4,6 @@ pub mod OnWay
 pub mod Deeds
 pub mod Meaning
 pub mod Stepping
+pub mod Scanning
 pub mod Falling
 pub mod Running

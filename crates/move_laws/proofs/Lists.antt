@@ -1,6 +1,7 @@
 -- Lists of calls, one of which stands between the others.
-use Rattle.std.proofs.Common.{◌≡◌, ℕ, ◌+◌, ◌≤◌, sum_by, flat_map, List, [], ◌∷◌, ◌++◌, sym, refl, subst, inl, inr, ◌⊎◌, arith, le_refl}
+use Rattle.std.proofs.Common.{◌≡◌, ℕ, ◌+◌, ◌≤◌, Bool, true, false, cond, sum_by, flat_map, List, [], ◌∷◌, ◌++◌, sym, refl, ap, ◌∙◌, subst, inl, inr, ◌⊎◌, arith, le_refl}
 use Rattle.std.proofs.lemmas.List.Sums.{sum_by-cons}
+use Rattle.std.specs.List.{count_by}
 use Rattle.sled_store.specs.In.{In}
 use Rattle.tree_laws.proofs.Runs.{In-left, In-right, In_cases}
 
@@ -74,3 +75,35 @@ one_within f (y ∷ ys) x (inr i) = sum _ _ _ _ (sum_by-cons f y ys) (one_within
   where
     sum : (a b c d : ℕ) → a ≡ b + c → d ≤ c → d ≤ a
     sum a b c d e l = omega arith
+
+-- what a function gives along a list, where one element stands for another
+pub gathers_same : {A : Type 0} (f : A → List ℕ) (xs ys : List A) (x y : A) → f x ≡ f y → flat_map f (xs ++ x ∷ ys) ≡ flat_map f (xs ++ y ∷ ys)
+gathers_same f [] ys x y e = ap (λ z. z ++ flat_map f ys) e
+gathers_same f (z ∷ xs) ys x y e = ap (λ l. f z ++ l) (gathers_same f xs ys x y e)
+
+-- elements that pass, of which fewer pass
+as_number : (a b : Bool) → (a ≡ true → b ≡ true) → cond a 1 0 ≤ cond b 1 0
+as_number false b k = omega arith
+as_number true false k = absurd (off (k refl))
+  where
+    off : false ≡ true → ⊥
+    off e = cc
+as_number true true k = le_refl 1
+
+pub count_less : {A : Type 0} (p q : A → Bool) (xs : List A) → ((x : A) → In x xs → p x ≡ true → q x ≡ true) → count_by p xs ≤ count_by q xs
+count_less p q xs k = sum_less (λ x. cond (p x) 1 0) (λ x. cond (q x) 1 0) xs (λ x i. as_number (p x) (q x) (k x i))
+
+pub count_fewer : {A : Type 0} (p q : A → Bool) (xs : List A) (x : A) → In x xs → p x ≡ false → q x ≡ true → ((y : A) → In y xs → p y ≡ true → q y ≡ true) → count_by p xs + 1 ≤ count_by q xs
+count_fewer p q [] x i off on k = absurd i
+count_fewer p q (y ∷ ys) x (inl e) off on k = sum _ _ _ _ _ _ (sum_by-cons (λ z. cond (p z) 1 0) y ys) (sum_by-cons (λ z. cond (q z) 1 0) y ys) (ap (λ z. cond (p z) 1 0) (sym e) ∙ ap (λ b. cond b 1 0) off) (ap (λ z. cond (q z) 1 0) (sym e) ∙ ap (λ b. cond b 1 0) on) (count_less p q ys (λ z j. k z (inr j)))
+  where
+    sum : (a b c d u v : ℕ) → a ≡ c + u → b ≡ d + v → c ≡ 0 → d ≡ 1 → u ≤ v → a + 1 ≤ b
+    sum a b c d u v e g h i l = omega arith
+count_fewer p q (y ∷ ys) x (inr i) off on k = sum _ _ _ _ _ _ (sum_by-cons (λ z. cond (p z) 1 0) y ys) (sum_by-cons (λ z. cond (q z) 1 0) y ys) (as_number (p y) (q y) (k y (inl refl))) (count_fewer p q ys x i off on (λ z j. k z (inr j)))
+  where
+    sum : (a b c d u v : ℕ) → a ≡ c + u → b ≡ d + v → c ≤ d → u + 1 ≤ v → a + 1 ≤ b
+    sum a b c d u v e g h l = omega arith
+
+pub count_same : {A : Type 0} (p q : A → Bool) (xs : List A) → ((x : A) → In x xs → p x ≡ q x) → count_by p xs ≡ count_by q xs
+count_same p q [] k = refl
+count_same p q (x ∷ xs) k = sum_by-cons (λ z. cond (p z) 1 0) x xs ∙ ap (λ b. cond b 1 0 + count_by p xs) (k x (inl refl)) ∙ ap (λ n. cond (q x) 1 0 + n) (count_same p q xs (λ z i. k z (inr i))) ∙ sym (sum_by-cons (λ z. cond (q z) 1 0) x xs)

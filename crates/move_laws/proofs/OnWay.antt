@@ -110,7 +110,7 @@ module _ (m : Snapshot) (w : Forest) (is : HasForest m w) (m' : Snapshot) (q : â
     },
   )
   fresh_stays n (stage.Act v) s k = stays v (seen_off 0 v s.0.seen k) k
-  fresh_stays n (stage.Give a) s k = absurd k
+  fresh_stays n (stage.Give a) s k = stays a.leaf (seen_off 0 a.leaf s.seen k) k
   fresh_stays n (stage.Split a) s k = (k.0, stays a.page (seen_off s.height a.page s.seen k.1) k.1, k.2, k.3, posting_stays s.height a.page _ a.posting s.posted k.4)
   fresh_stays n (stage.InstallLeft a) s k = (stays a.page (seen_off s.height a.page s.seen k.0) k.0, posting_stays s.height a.page _ a.posting s.posted k.1)
   fresh_stays n (stage.Post a) s k = (stays a.parent (seen_off (suc s.height) a.parent s.above.seen k.0) k.0, k.1)

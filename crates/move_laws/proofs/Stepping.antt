@@ -1,5 +1,6 @@
 -- A step by which one of several calls goes on: it brings that call on, or changes a page.
-use Rattle.std.proofs.Common.{◌≡◌, ℕ, ◌+◌, ◌*◌, ◌-◌, ◌<◌, ◌≤◌, Bool, false, Option, Some, None, option_map, sym, refl, ap, ◌∙◌, subst, inl, inr, ◌⊎◌, arith, le_refl}
+use Rattle.std.proofs.Common.{◌≡◌, ℕ, ◌+◌, ◌*◌, ◌-◌, ◌<◌, ◌≤◌, Bool, true, false, [], Option, Some, None, option_map, sym, refl, ap, ◌∙◌, subst, inl, inr, ◌⊎◌, arith, le_refl}
+use Rattle.sled_nodes.specs.Among.{is_up_to}
 use Rattle.sled_nodes.specs.Node.{count}
 use Rattle.sled_nodes.specs.declared.node.Node.{Node}
 use Rattle.sled_store.specs.In.{In}
@@ -15,7 +16,7 @@ use Rattle.tree_laws.specs.declared.flight.Stage.{Stage}
 use Rattle.tree_laws.specs.declared.flight.Stage.TheVariants as stage
 use Rattle.tree_laws.proofs.Reading.{one_law}
 use Rattle.sled_tree.specs.Course.{Course}
-use Rattle.sled_tree.specs.Stages.{changes_at}
+use Rattle.sled_tree.specs.Stages.{IsOnItsWay}
 use Rattle.sled_tree.specs.declared.flight.Sequel.TheVariants.{Go}
 use Rattle.tree_progress.specs.Alone.{GoesOnAlone}
 use Rattle.tree_progress.specs.ToDo.{to_do}
@@ -49,6 +50,7 @@ pub record IsStill (numbers : Tree → Option ℕ) (given : ℕ → Bool) (old n
   pub nodes : (x : Place) (c : ℕ) → In c (w.chain x) → nodes_of (now new) c ≡ nodes_of (now old) c
   pub left : (u : Tree) → to_do (now new) u ≡ to_do (now old) u
   pub pages : (u : Tree) (number : ℕ) → numbers u ≡ Some number → tree_pages (now new) u ≡ tree_pages (now old) u
+  pub forest : v ≡ w
   pub ahead : ℕ
   pub fewer : ahead < n
   pub going : IsGoing (snapshot_of new numbers given) v j ahead b
@@ -72,6 +74,7 @@ module _ (numbers : Tree → Option ℕ) (given : ℕ → Bool) (old new : Store
     nodes = λ x c i. ap (λ (s : Store). nodes_of (now s) c) e;
     left = λ u. ap (λ (s : Store). to_do (now s) u) e;
     pages = λ u k named. ap (λ (s : Store). tree_pages (now s) u) e;
+    forest = same new (sym e) v is_new;
     ahead = r.0;
     fewer = r.1;
     going = r.2;
@@ -79,6 +82,9 @@ module _ (numbers : Tree → Option ℕ) (given : ℕ → Bool) (old new : Store
     keeps = λ f u k on. go f k on new (sym e) v is_new;
   }
     where
+      same : (s : Store) → old ≡ s → (v : Forest) → HasForest (snapshot_of s numbers given) v → v ≡ w
+      same s e = subst (λ (s : Store). (v : Forest) → HasForest (snapshot_of s numbers given) v → v ≡ w) e (λ v formed. sym (one_law (nodes_of (now old)) (now old).roots w v is.formed formed.formed))
+
       go : (f : Flight) (k : ℕ) → IsGoing m w f.course k f.stage → (s : Store) → old ≡ s → (v : Forest) → HasForest (snapshot_of s numbers given) v → IsGoing (snapshot_of s numbers given) v f.course k f.stage
       go f k on s e = subst (λ (s : Store). (v : Forest) → HasForest (snapshot_of s numbers given) v → IsGoing (snapshot_of s numbers given) v f.course k f.stage) e
           (λ v formed. subst (λ (z : Forest). IsGoing m z f.course k f.stage) (one_law (nodes_of (now old)) (now old).roots w v is.formed formed.formed) on)
@@ -89,6 +95,7 @@ module _ (numbers : Tree → Option ℕ) (given : ℕ → Bool) (old new : Store
     nodes = λ x c i. ap (λ (z : State). nodes_of z c) s.is ∙ ap (option_map (λ (g : Page). g.node)) (put_elsewhere (now old).pages s.page c s.becomes (λ e. out x (subst (λ z. In z (w.chain x)) e i)));
     left = λ u. ap (λ z. to_do z u) s.is ∙ stray_stays (now old) w is.formed is.below s.page s.becomes out u;
     pages = counts;
+    forest = s.same;
     ahead = r.0;
     fewer = r.1;
     going = r.2;
@@ -107,8 +114,8 @@ module _ (numbers : Tree → Option ℕ) (given : ℕ → Bool) (old new : Store
   Outcome n a b = IsStill numbers given old new w v j n b ⊎ (is_calm b × (Repairs m m' w j.tree.name ⊎ ((x : Merge) × (a ≡ stage.Intend x) × Takes m m' w j.tree.name x)))
 
   -- what a call comes to that sees pages as they are, or as they may have been
-  reads : (n : ℕ) (a b : Stage) → IsUnderWay numbers given old w (flight j a) → GoesOnAlone numbers given j old a w new b v → IsOnWay m w j n a → to_do (now new) j.tree.name ≡ to_do (now old) j.tree.name → Reads n b
-  reads n a b k l (inl fresh) same = elim (lands j old new numbers given w v is is_new l.stays j.tree.number k.named k.on_key (k.knows.2.key k.on_key) n a (Go b) k.knows.0 k.knows.1 k.halves fresh l.follows.is) [
+  reads : (n : ℕ) (a b : Stage) → IsUnderWay numbers given old w (flight j a) → GoesOnAlone numbers given j old a w new b v → (a ≡ stage.Root → is_up_to j.aim [] ≡ true) → IsOnWay m w j n a → to_do (now new) j.tree.name ≡ to_do (now old) j.tree.name → Reads n b
+  reads n a b k l low (inl fresh) same = elim (lands j old new numbers given w v is is_new l.stays j.tree.number k.named n a (Go b) low k.knows.0 k.knows.1 k.halves fresh l.follows.is) [
     | inl over ↦ absurd over
     | inr y ↦ elim y [
       | inl z ↦ (z.2.0, z.2.1, on_way_goes m' v j z.2.0 b (inl z.2.2), small_on_way m' v j z.2.0 b (inl z.2.2) (now new))
@@ -118,7 +125,7 @@ module _ (numbers : Tree → Option ℕ) (given : ℕ → Bool) (old new : Store
     where
       no : (x y : ℕ) → x + 1 ≤ y → x ≡ y → ⊥
       no x y l e = omega arith
-  reads n a b k l (inr adrift) same = elim (drift j old new numbers given w v is is_new j.tree.number k.named k.on_key n a (Go b) k.knows.0 k.halves adrift l.follows.is) [
+  reads n a b k l low (inr adrift) same = elim (drift j old new numbers given w v is is_new j.tree.number k.named n a (Go b) k.knows.0 k.halves adrift l.follows.is) [
     | inl over ↦ absurd over
     | inr y ↦ elim y [
       | inl z ↦ (z.2.0, z.2.1, on_way_goes m' v j z.2.0 b z.2.2, small_on_way m' v j z.2.0 b z.2.2 (now new))
@@ -129,11 +136,11 @@ module _ (numbers : Tree → Option ℕ) (given : ℕ → Bool) (old new : Store
       no : (x y : ℕ) → x + 1 ≤ y → x ≡ y → ⊥
       no x y l e = omega arith
 
-  calmly : (n : ℕ) (a b : Stage) → is_calm a → IsUnderWay numbers given old w (flight j a) → GoesOnAlone numbers given j old a w new b v → IsOnWay m w j n a → Outcome n a b
-  calmly n a b c k l on = elim (kind_of j old new numbers given w v is is_new j.tree.number k.named a b c k.knows.0 k.halves l.follows.is) [
-    | inl e ↦ inl (quiet n b e (reads n a b k l on (ap (λ (s : Store). to_do (now s) j.tree.name) e)))
+  calmly : (n : ℕ) (a b : Stage) → is_calm a → IsUnderWay numbers given old w (flight j a) → GoesOnAlone numbers given j old a w new b v → (a ≡ stage.Root → is_up_to j.aim [] ≡ true) → IsOnWay m w j n a → Outcome n a b
+  calmly n a b c k l low on = elim (kind_of j old new numbers given w v is is_new j.tree.number k.named a b c k.knows.0 k.halves l.follows.is) [
+    | inl e ↦ inl (quiet n b e (reads n a b k l low on (ap (λ (s : Store). to_do (now s) j.tree.name) e)))
     | inr y ↦ elim y [
-      | inl s ↦ inl (strays n b s (reads n a b k l on (same s)))
+      | inl s ↦ inl (strays n b s (reads n a b k l low on (same s)))
       | inr r ↦ inr (r.0, inl r.1)
     ]
   ]
@@ -159,14 +166,14 @@ module _ (numbers : Tree → Option ℕ) (given : ℕ → Bool) (old new : Store
           none : (x : Merge) → stage.Root ≡ stage.Intend x → ⊥
           none x e = cc
 
-  pub steps : (n : ℕ) (a b : Stage) → IsUnderWay numbers given old w (flight j a) → GoesOnAlone numbers given j old a w new b v → IsGoing m w j n a → Outcome n a b
-  steps n (stage.Intend a) b k l on = intends n a b k l on
-  steps n (stage.Give a) b k l on = absurd l.follows.is
-  steps n other b k l on = calmly n other b tt k l on
+  pub steps : (n : ℕ) (a b : Stage) → IsUnderWay numbers given old w (flight j a) → GoesOnAlone numbers given j old a w new b v → (a ≡ stage.Root → is_up_to j.aim [] ≡ true) → IsGoing m w j n a → Outcome n a b
+  steps n (stage.Intend a) b k l low on = intends n a b k l on
+  steps n (stage.Give a) b k l low on = absurd l.follows.is
+  steps n other b k l low on = calmly n other b tt k l low on
 
--- whatever its stage is, a call is one of these
-pub going_any : (numbers : Tree → Option ℕ) (given : ℕ → Bool) (s : Store) (w : Forest) → HasForest (snapshot_of s numbers given) w → (f : Flight) → IsUnderWay numbers given s w f → IsGoing (snapshot_of s numbers given) w f.course (4 * tree_pages (now s) f.course.tree.name + 8) f.stage
-going_any numbers given s w is f k = go f.stage k.knows.1
+-- whatever its stage is, a call on its way is one of these
+pub going_any : (numbers : Tree → Option ℕ) (given : ℕ → Bool) (s : Store) (w : Forest) → HasForest (snapshot_of s numbers given) w → (f : Flight) → IsUnderWay numbers given s w f → IsOnItsWay f.stage → IsGoing (snapshot_of s numbers given) w f.course (4 * tree_pages (now s) f.course.tree.name + 8) f.stage
+going_any numbers given s w is f k way = go f.stage way
   where
     root : (r : ℕ) × ((now s).roots f.course.tree.name ≡ Some r)
     root = is.rooted f.course.tree.name f.course.tree.number k.named
@@ -177,7 +184,7 @@ going_any numbers given s w is f k = go f.stage k.knows.1
     one : (p : ℕ) → (2 * p + 2) + 1 ≤ 4 * p + 8
     one p = omega arith
 
-    go : (a : Stage) → changes_at f.course a → IsGoing (snapshot_of s numbers given) w f.course (4 * tree_pages (now s) f.course.tree.name + 8) a
+    go : (a : Stage) → IsOnItsWay a → IsGoing (snapshot_of s numbers given) w f.course (4 * tree_pages (now s) f.course.tree.name + 8) a
     go (stage.Intend a) c = inr (one _)
-    go (stage.Give a) c = absurd (c k.on_key)
+    go (stage.Give a) c = absurd c
     go other c = adrift_any is f.course f.course.tree.number root.0 k.named root.1 (4 * tree_pages (now s) f.course.tree.name + 8) (most _) other tt

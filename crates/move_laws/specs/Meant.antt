@@ -2,9 +2,11 @@
 -- where a page grew after a call chose to merge it.
 use Rattle.std.specs.Prelude.{ℕ, ◌+◌, ◌-◌, ◌*◌, Bool, false, nat_eq, flat_map, sum_by, List, [], ◌∷◌, Option, Some, None, if◌then◌else◌}
 use Rattle.sled_nodes.specs.Node.{count}
+use Rattle.sled_nodes.specs.Ranges.{Range}
 use Rattle.sled_nodes.specs.declared.node.Node.{Node}
 use Rattle.sled_store.specs.State.{State, nodes_of}
 use Rattle.sled_store.specs.declared.page.Page.{Page}
+use Rattle.sled_model.specs.State.{range_of}
 use Rattle.sled_model.specs.declared.tree.Tree.{Tree}
 use Rattle.tree_laws.specs.Paths.{tree_pages}
 use Rattle.tree_laws.specs.declared.flight.Stage.{Stage}
@@ -52,7 +54,12 @@ repairs_left s fs t = 3 * to_do s t.name + sum_once (λ p. grown (nodes_of s p))
 abbrev pub all_left : State → List Flight → ℕ
 all_left s fs = sum_by (λ f. repairs_left s fs f.course.tree) fs
 
--- What they may do in a row without an end of any of them: between two repairs each reads the pages of its tree four times at most, and
--- every repair may bring a page more
+-- What a call in flight may do between two repairs, over so many pages: it reads each of them four times at most. A scan has every leaf
+-- ahead of it at most, and on its way to each reads every page twice
+abbrev pub between : Option Range → ℕ → ℕ
+between None pages = 4 * pages + 9
+between (Some range) pages = pages * (2 * pages + 3) + (4 * pages + 9)
+
+-- What they may do in a row without a reply or a pair of any of them: every repair may bring a page more
 abbrev pub moves_bound : State → List Flight → ℕ
-moves_bound s fs = (all_left s fs + 1) * sum_by (λ f. 4 * (tree_pages s f.course.tree.name + all_left s fs) + 9) fs
+moves_bound s fs = (all_left s fs + 1) * sum_by (λ f. between (range_of f.course.call) (tree_pages s f.course.tree.name + all_left s fs)) fs

@@ -17,7 +17,7 @@ use Rattle.tree_progress.specs.Steps.{HasHalves}
 use Rattle.tree_progress.specs.ToDo.{to_do}
 use Rattle.tree_progress.proofs.Fresh.{IsFresh}
 use Rattle.tree_progress.proofs.Halves.{halves_law}
-use Rattle.tree_progress.proofs.Landing.{lands}
+use Rattle.tree_progress.proofs.Landing.{aims_low, lands}
 
 -- what holds of a call that is alone, between two of its steps: the pages are well formed, and it sees them as they are
 pub record IsAlone (numbers : Tree → Option ℕ) (given : ℕ → Bool) (s : Store) (j : Course) (a : Stage) (n : ℕ) (w : Forest) : Type 0 where
@@ -36,7 +36,7 @@ FallsBy old new t n ahead = ((to_do (now new) t ≡ to_do (now old) t) × (tree_
 steps_on : (numbers : Tree → Option ℕ) (given : ℕ → Bool) (old new : Store) (j : Course) (a b : Stage) (n : ℕ) (w v : Forest) → IsAlone numbers given old j a n w → GoesOnAlone numbers given j old a w new b v
     → (ahead : ℕ) × IsAlone numbers given new j b ahead v × FallsBy old new j.tree.name n ahead
 steps_on numbers given old new j a b n w v k l =
-    let x = lands j old new numbers given w v k.formed l.formed l.stays j.tree.number k.named k.on_key (k.knows.2.key k.on_key) n a (Go b) k.knows.0 k.knows.1 k.halves k.fresh l.follows.is in
+    let x = lands j old new numbers given w v k.formed l.formed l.stays j.tree.number k.named n a (Go b) (λ e. aims_low j k.on_key k.knows.2) k.knows.0 k.knows.1 k.halves k.fresh l.follows.is in
     elim x [
       | inl over ↦ absurd over
       | inr y ↦ elim y [

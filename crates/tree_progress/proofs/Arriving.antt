@@ -5,6 +5,7 @@ use Rattle.sled_nodes.specs.Among.{is_up_to, IsPointer, IsPointerBefore, IsPoint
 use Rattle.sled_nodes.specs.Halves.{right_half}
 use Rattle.sled_nodes.specs.Node.{pointers, count, Within}
 use Rattle.sled_nodes.specs.Order.{Key, Below, UpTo}
+use Rattle.sled_nodes.specs.Ranges.{Range}
 use Rattle.sled_nodes.specs.declared.node.Data.{Data}
 use Rattle.sled_nodes.specs.declared.node.Data.TheVariants.{Leaf, Index}
 use Rattle.sled_nodes.specs.declared.node.Node.{Node}
@@ -12,7 +13,7 @@ use Rattle.sled_store.specs.In.{In}
 use Rattle.sled_store.specs.State.{State}
 use Rattle.sled_store.specs.declared.page.Page.{Page}
 use Rattle.sled_store.specs.declared.page.View.{View}
-use Rattle.sled_model.specs.State.{IsOnKey}
+use Rattle.sled_model.specs.State.{range_of}
 use Rattle.sled_model.specs.declared.reply.Reply.{Reply}
 use Rattle.tree_laws.specs.Forest.{Tree, Forest, Place, place, Holds, later}
 use Rattle.tree_laws.specs.Paths.{pages_below, IsAhead}
@@ -70,7 +71,7 @@ module _ {m : Snapshot} {w : Forest} (is : HasForest m w) (j : Course) where
           same : (x : ℕ) → x ≤ x
           same x = omega arith
 
-  module _ (on_key : IsOnKey j.call) (n : ℕ) (look : View) (now : IsUnchanged m.state look) where
+  module _ (n : ℕ) (look : View) (now : IsUnchanged m.state look) where
     abbrev node : Node
     node = look.node
 
@@ -132,10 +133,7 @@ module _ {m : Snapshot} {w : Forest} (is : HasForest m w) (j : Course) where
     -- what is to be done at a page that nothing is to be repaired at
     pub content : (h ahead : ℕ) → In look.pid (chain h) → IsAhead w t h look.pid ahead → 2 * ahead + 2 ≤ n → IsOpen node → LiesUnder j.aim node → (next : Sequel) → (d : Data) → node.content ≡ d → follows_content d j look next → toward m w j n next
     content h ahead i a few calm under next (Index es) e k = subst (λ z. toward m w j n z) (sym k.is) (lower h ahead i a few calm under es e k.found (subst (λ d. IsPointerFor j.aim (pointers d) k.found) e k.is_last))
-    content h ahead i a few calm under next (Leaf es) e k = elim (subst (λ o. follows_leaf_as o j look next) on_key k) [
-      | inl g ↦ subst (λ z. toward m w j n z) (sym g) (done (reply_at j.call node.content))
-      | inr g ↦ subst (λ z. toward m w j n z) (sym g) tt
-    ]
+    content h ahead i a few calm under next (Leaf es) e k = go (range_of j.call) k
       where
         some : 0 < n
         some = omega (arith, few)
@@ -144,7 +142,14 @@ module _ {m : Snapshot} {w : Forest} (is : HasForest m w) (j : Course) where
         done None = (0, some, now)
         done (Some reply) = tt
 
-  module _ (on_key : IsOnKey j.call) (n : ℕ) (look : View) (by : Reached) (now : IsUnchanged m.state look) (p : IsComing m w t j.aim n look.pid look.node by) where
+        go : (o : Option Range) → follows_leaf_as o j look next → toward m w j n next
+        go None k = elim k [
+          | inl g ↦ subst (λ z. toward m w j n z) (sym g) (done (reply_at j.call node.content))
+          | inr g ↦ subst (λ z. toward m w j n z) (sym g) tt
+        ]
+        go (Some range) k = subst (λ z. toward m w j n z) (sym k) (0, some, now)
+
+  module _ (n : ℕ) (look : View) (by : Reached) (now : IsUnchanged m.state look) (p : IsComing m w t j.aim n look.pid look.node by) where
     abbrev page : Node
     page = look.node
 
@@ -233,7 +238,7 @@ module _ {m : Snapshot} {w : Forest} (is : HasForest m w) (j : Course) where
     posted (reached.Next parent) r long calm = room parent r.0 long calm
 
     at_content : IsOpen page → LiesUnder j.aim page → (next : Sequel) → follows_content page.content j look next → toward m w j n next
-    at_content calm under next k = content on_key n look now p.height p.ahead p.here.chained p.is_ahead p.few calm under next page.content refl k
+    at_content calm under next k = content n look now p.height p.ahead p.here.chained p.is_ahead p.few calm under next page.content refl k
 
     -- a small page merges
     merges : (parent : View) → IsOverNow m w t p.height j.aim parent page.lo → In (page.lo, look.pid) (later (pointers parent.node.content)) → count page.content ≤ 3 → (o : Option ℕ) → IsPointerBefore look.pid (pointers parent.node.content) o → toward m w j n (begun parent look.pid o)

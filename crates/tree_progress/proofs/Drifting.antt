@@ -15,7 +15,6 @@ use Rattle.sled_store.specs.declared.page.Page.{Page}
 use Rattle.sled_store.specs.declared.page.View.{View}
 use Rattle.sled_model.specs.Answer.{key_of}
 use Rattle.sled_model.specs.Maps.{Merge as Operator}
-use Rattle.sled_model.specs.State.{IsOnKey}
 use Rattle.sled_model.specs.declared.decision.Effect.{Effect}
 use Rattle.sled_model.specs.declared.decision.Effect.TheVariants as effect
 use Rattle.tree_laws.specs.Forest.{Tree, Forest, Place, place}
@@ -193,8 +192,8 @@ module _ {m : Snapshot} {w : Forest} (is : HasForest m w) (j : Course) (number r
       more y = omega arith
 
   -- a page of a walk is read
-  pub walk_read : (on_key : IsOnKey j.call) (n : ℕ) (a : Walk) (look : View) (next : Sequel) → look.pid ≡ a.cursor → IsUnchanged m.state look → IsWalking m w t number j.aim a → root_steps m j + 1 ≤ n → is_near m w j n look.pid → follows_read j look a.reached next → on_way m w j n next
-  walk_read on_key n a look next at now k few near follows = elim follows [
+  pub walk_read : (n : ℕ) (a : Walk) (look : View) (next : Sequel) → look.pid ≡ a.cursor → IsUnchanged m.state look → IsWalking m w t number j.aim a → root_steps m j + 1 ≤ n → is_near m w j n look.pid → follows_read j look a.reached next → on_way m w j n next
+  walk_read n a look next at now k few near follows = elim follows [
     | inl e ↦ subst (λ z. on_way m w j n z) (sym e.1) home
     | inr b ↦ calm (calm_of look.node b.0) b.1
   ]
@@ -236,7 +235,7 @@ module _ {m : Snapshot} {w : Forest} (is : HasForest m w) (j : Course) (number r
               sum' u = omega (arith, room)
 
           on_content : IsOpen look.node → (under : LiesUnder j.aim look.node) → follows_content look.node.content j look next → on_way m w j n next
-          on_content unheld under r = as_fresh m w j n next (content is j on_key n look now k.height x i is_ahead (omega (arith, room)) unheld under next look.node.content refl r)
+          on_content unheld under r = as_fresh m w j n next (content is j n look now k.height x i is_ahead (omega (arith, room)) unheld under next look.node.content refl r)
 
           begins : (parent : View) → count look.node.content ≤ 3 → (o : Option ℕ) → on_way m w j n (begun parent look.pid o)
           begins parent few None = home
@@ -357,7 +356,7 @@ module _ {m : Snapshot} {w : Forest} (is : HasForest m w) (j : Course) (number r
             ]
           ]
 
-module _ (j : Course) (old new : Store) (numbers : Tree → Option ℕ) (given : ℕ → Bool) (w v : Forest) (is : HasForest (snapshot_of old numbers given) w) (is_new : HasForest (snapshot_of new numbers given) v) (number : ℕ) (named : numbers j.tree.name ≡ Some number) (on_key : IsOnKey j.call) where
+module _ (j : Course) (old new : Store) (numbers : Tree → Option ℕ) (given : ℕ → Bool) (w v : Forest) (is : HasForest (snapshot_of old numbers given) w) (is_new : HasForest (snapshot_of new numbers given) v) (number : ℕ) (named : numbers j.tree.name ≡ Some number) where
   abbrev tree : Tree
   tree = j.tree.name
 
@@ -435,7 +434,7 @@ module _ (j : Course) (old new : Store) (numbers : Tree → Option ℕ) (given :
 
   pub drift : (n : ℕ) (a : Stage) (next : Sequel) → IsStage m w tree number j.aim a → HasHalves (nodes_of (now old)) a → IsAdrift m w j n a → follows_as j old a next new → drifts m m' v j n next
   drift n stage.Root next k h f x = absurd f
-  drift n (stage.Walk a) next k h f x = read n a.cursor next x.0 (omega (arith, f.0)) (λ look at here found. walk_read is j number at_root.0 named at_root.1 on_key n a look next at here k f.0 (subst (λ z. is_near m w j n z) (sym at) f.1) found) x.1
+  drift n (stage.Walk a) next k h f x = read n a.cursor next x.0 (omega (arith, f.0)) (λ look at here found. walk_read is j number at_root.0 named at_root.1 n a look next at here k f.0 (subst (λ z. is_near m w j n z) (sym at) f.1) found) x.1
   drift n (stage.Act look) next k h f x = allowed n next (λ y. linked n look next (omega (arith, f)) y.operator y.is) x
   drift n (stage.Give a) next k h f x = absurd x
   drift n (stage.Split a) next k h f x = allowed n next go x

@@ -108,7 +108,7 @@ abbrev pub IsFresh : Snapshot → Forest → Course → ℕ → Stage → Type 0
 IsFresh m w j n stage.Root = 2 * tree_pages m.state j.tree.name + 2 ≤ n
 IsFresh m w j n (stage.Walk a) = (node : Node) × IsComing m w j.tree.name j.aim n a.cursor node a.reached
 IsFresh m w j n (stage.Act v) = IsUnchanged m.state v
-IsFresh m w j n (stage.Give a) = ⊥
+IsFresh m w j n (stage.Give a) = IsUnchanged m.state a.leaf
 IsFresh m w j n (stage.Split a) = (2 ≤ n) × IsUnchanged m.state a.page × (16 < count a.page.node.content) × IsOpen a.page.node × fresh_posting m.state j.tree.name a.page.pid (right_half a.page.node).lo a.posting
 IsFresh m w j n (stage.InstallLeft a) = IsUnchanged m.state a.page × fresh_posting m.state j.tree.name a.page.pid a.at a.posting
 IsFresh m w j n (stage.Post a) = IsUnchanged m.state a.parent × (takes_pointer a.at a.parent.node.content ≡ true)

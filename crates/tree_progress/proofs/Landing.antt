@@ -1,6 +1,5 @@
 -- A step of a call that sees pages as they are now: it reads one and goes on with fewer steps, or repairs one, and sees them so again.
 use Rattle.std.proofs.Common.{◌≡◌, ◌≢◌, ℕ, zero, suc, ◌+◌, ◌*◌, ◌≤◌, ◌<◌, Bool, true, false, not, [], length, Option, Some, None, Result, Ok, Err, MatchOption, option_map, sym, refl, ap, ◌∙◌, subst, inl, inr, ◌⊎◌, arith, le_refl}
-use Rattle.std.specs.declared.ops.Bound.TheVariants.{Included}
 use Rattle.sled_nodes.proofs.Basics.{some_is, true_false, same_or_not}
 use Rattle.sled_nodes.specs.Among.{is_up_to}
 use Rattle.sled_nodes.specs.Halves.{right_half, after_receiving}
@@ -38,7 +37,7 @@ use Rattle.tree_laws.proofs.Reading.{one_law}
 use Rattle.tree_laws.proofs.Replace.{not_both}
 use Rattle.sled_tree.proofs.Replying.{links_law}
 use Rattle.sled_tree.specs.Change.{link_of, decision_at}
-use Rattle.sled_tree.specs.Course.{Course}
+use Rattle.sled_tree.specs.Course.{Course, IsAimed}
 use Rattle.sled_tree.specs.Follows.{FollowsPage, TakesWay, OrRefused, links_by, after_install_left, after_swap_root, read_again, sought_again, follows_as, follows_root, follows_post, follows_split}
 use Rattle.sled_tree.specs.Passing.{IsUnchanged}
 use Rattle.sled_tree.specs.Stages.{changes_at}
@@ -76,6 +75,10 @@ abbrev pub goes : Snapshot → Snapshot → Forest → Course → ℕ → Sequel
 goes m m' v j n next = is_over next
     ⊎ (((to_do m'.state j.tree.name ≡ to_do m.state j.tree.name) × (tree_pages m'.state j.tree.name ≡ tree_pages m.state j.tree.name) × toward m' v j n next)
     ⊎ ((to_do m'.state j.tree.name + 1 ≤ to_do m.state j.tree.name) × (tree_pages m'.state j.tree.name ≤ tree_pages m.state j.tree.name + 1) × toward m' v j (2 * tree_pages m'.state j.tree.name + 4) next))
+
+-- a call on a key aims at or above the least key
+pub aims_low : (j : Course) → IsOnKey j.call → IsAimed j → is_up_to j.aim [] ≡ true
+aims_low j on_key aimed = ap (λ z. is_up_to z []) (aimed.key on_key) ∙ ap not (least (key_of j.call))
 
 -- a change of a page that stands as it was read is made
 made : {change : Node → Node} {pid version : ℕ} {old new : Store} {next : Sequel} {took : ℕ → Sequel} {late : Option ℕ → Sequel} (node : Node) → (now old).pages pid ≡ Some (record { version = version; node = node }) → TakesWay change pid version old new next took late
@@ -123,7 +126,7 @@ below_total {m} {w} is t root e h p i =
     sum x y u a b c = omega arith
 
 module _ (j : Course) (old new : Store) (numbers : Tree → Option ℕ) (given : ℕ → Bool) (w v : Forest) (is : HasForest (snapshot_of old numbers given) w) (is_new : HasForest (snapshot_of new numbers given) v) (stays : StayInTree (nodes_of (now new)) w v)
-    (number : ℕ) (named : numbers j.tree.name ≡ Some number) (on_key : IsOnKey j.call) (aimed : j.aim ≡ Included (key_of j.call)) where
+    (number : ℕ) (named : numbers j.tree.name ≡ Some number) where
   abbrev t : Tree
   t = j.tree.name
 
@@ -190,8 +193,8 @@ module _ (j : Course) (old new : Store) (numbers : Tree → Option ℕ) (given :
   under x = (omega arith, omega arith, omega arith, omega arith)
 
   -- the root is read
-  at_root : (n : ℕ) (next : Sequel) → 2 * tree_pages (now old) t + 2 ≤ n → new ≡ old → follows_root j old ((now old).roots t) next → goes m m' v j n next
-  at_root n next few e k =
+  at_root : (n : ℕ) (next : Sequel) → is_up_to j.aim [] ≡ true → 2 * tree_pages (now old) t + 2 ≤ n → new ≡ old → follows_root j old ((now old).roots t) next → goes m m' v j n next
+  at_root n next low few e k =
       let b = pages_law (now old) w is.formed is.below t root.0 root.1 in
       let c = root_in is.formed t root.0 root.1 in
       let g = as_page m root.0 c.1 c.3 in
@@ -200,13 +203,13 @@ module _ (j : Course) (old new : Store) (numbers : Tree → Option ℕ) (given :
       let coming : IsComing m w t j.aim n look.pid look.node reached.Root = record {
         height = b.0;
         here = record { chained = b.1; live = node_of m.state look g.1; awake = ap (λ (z : Node). z.merging) g.2 ∙ c.5 };
-        begins = ap (is_up_to j.aim) (ap (λ (z : Node). z.lo) g.2 ∙ c.4) ∙ ap (λ z. is_up_to z []) aimed ∙ ap not (least (key_of j.call));
+        begins = ap (is_up_to j.aim) (ap (λ (z : Node). z.lo) g.2 ∙ c.4) ∙ low;
         is_reached = root.1;
         ahead = a.0;
         is_ahead = a.1;
         few = less _ _ b.2 (ahead_few is.formed t b.0 root.0 a.0 a.1) few;
       } in
-      read_or_refused n next e (arrives is j on_key n look reached.Root g.1 coming next) (read_page g.0 g.1 (subst (λ o. follows_root j old o next) root.1 k))
+      read_or_refused n next e (arrives is j n look reached.Root g.1 coming next) (read_page g.0 g.1 (subst (λ o. follows_root j old o next) root.1 k))
     where
       less : (x y : ℕ) {z : ℕ} → y ≡ z → x ≤ z → 2 * y + 2 ≤ n → 2 * x + 2 ≤ n
       less x y e l u = omega arith
@@ -223,14 +226,14 @@ module _ (j : Course) (old new : Store) (numbers : Tree → Option ℕ) (given :
       go (effect.Set value) e key y = over (Set key value) y
       go effect.Remove e key y = over (Del key) y
 
-  pub lands : (n : ℕ) (a : Stage) (next : Sequel) → IsStage m w t number j.aim a → changes_at j a → HasHalves (nodes_of (now old)) a → IsFresh m w j n a → follows_as j old a next new → goes m m' v j n next
-  lands n stage.Root next k c h f x = at_root n next f x.0 x.1
-  lands n (stage.Walk a) next k c h f x =
+  pub lands : (n : ℕ) (a : Stage) (next : Sequel) → (a ≡ stage.Root → is_up_to j.aim [] ≡ true) → IsStage m w t number j.aim a → changes_at j a → HasHalves (nodes_of (now old)) a → IsFresh m w j n a → follows_as j old a next new → goes m m' v j n next
+  lands n stage.Root next low k c h f x = at_root n next (low refl) f x.0 x.1
+  lands n (stage.Walk a) next low k c h f x =
       let g = as_page m a.cursor f.0 f.1.here.live in
-      read_or_refused n next x.0 (arrives is j on_key n (record { pid = a.cursor; version = g.0.version; node = g.0.node }) a.reached g.1 (subst (λ (z : Node). IsComing m w t j.aim n a.cursor z a.reached) (sym g.2) f.1) next) (read_page g.0 g.1 x.1)
-  lands n (stage.Act look) next k c h f x = or_refused n next (λ y. linked n look next f c y.operator y.is) x
-  lands n (stage.Give a) next k c h f x = absurd x
-  lands n (stage.Split a) next k c h f x = or_refused n next go x
+      read_or_refused n next x.0 (arrives is j n (record { pid = a.cursor; version = g.0.version; node = g.0.node }) a.reached g.1 (subst (λ (z : Node). IsComing m w t j.aim n a.cursor z a.reached) (sym g.2) f.1) next) (read_page g.0 g.1 x.1)
+  lands n (stage.Act look) next low k c h f x = or_refused n next (λ y. linked n look next f c y.operator y.is) x
+  lands n (stage.Give a) next low k c h f x = absurd x
+  lands n (stage.Split a) next low k c h f x = or_refused n next go x
     where
       go : follows_split old new a next → goes m m' v j n next
       go (inr y) = absurd (y.0 (f.2, (f.3.not_merging, f.3.free)))
@@ -240,7 +243,7 @@ module _ (j : Course) (old new : Store) (numbers : Tree → Option ℕ) (given :
           let off = off_fresh q y.1.made.fresh_pid in
           passes n q _ next e (fresh_out is q y.1.made.fresh_pid)
           (subst (λ z. toward m' v j n z) (sym y.1.is) (1, f.0, (elsewhere (now old) (now new) q _ a.page e (off a.page f.1) f.1, posting_elsewhere q _ a.page.pid (right_half a.page.node).lo a.posting e off f.4)))
-  lands n (stage.InstallLeft a) next k c h f x = or_refused n next go x
+  lands n (stage.InstallLeft a) next low k c h f x = or_refused n next go x
     where
       go : TakesWay (λ _. a.left) a.page.pid a.page.version old new next (λ _. after_install_left a a.posting) (λ _. Go (stage.Free (record { pid = a.right; version = a.version }))) → goes m m' v j n next
       go y =
@@ -251,21 +254,21 @@ module _ (j : Course) (old new : Store) (numbers : Tree → Option ℕ) (given :
           on given e (posting.Parent parent) p = (1, (under _).2, (elsewhere (now old) (now new) a.page.pid _ parent e p.1 p.0, p.2))
           on given e posting.Root p = (2, (under _).3, (two, ap (λ (s : State). s.roots t) e ∙ p))
           on given e posting.Nowhere p = (2 * tree_pages (now new) t + 2, (under _).0, le_refl _)
-  lands n (stage.Post a) next k c h f x = or_refused n next go x
+  lands n (stage.Post a) next low k c h f x = or_refused n next go x
     where
       go : follows_post old new a next → goes m m' v j n next
       go (inr y) = absurd (y.0 f.1)
       go (inl y) =
           let d = made a.parent.node f.0 y.1 in
           repairs n 3 next _ d.1 (omega arith) (post_lowers m w t number a a.parent.node d.0 is named k f.0 y.0) (subst (λ z. toward m' v j (2 * tree_pages (now new) t + 4) z) (sym d.2) (2 * tree_pages (now new) t + 2, (under _).0, le_refl _))
-  lands n (stage.Hoist a) next k c h f x = or_refused n next (λ y. passes n y.root _ next (now_allocates y.node y.root y.version old new y.made) (fresh_out is y.root y.made.fresh_pid)
+  lands n (stage.Hoist a) next low k c h f x = or_refused n next (λ y. passes n y.root _ next (now_allocates y.node y.root y.version old new y.made) (fresh_out is y.root y.made.fresh_pid)
       (subst (λ z. toward m' v j n z) (sym y.is) (1, f.0, ap (λ (s : State). s.roots t) (now_allocates y.node y.root y.version old new y.made) ∙ f.1))) x
-  lands n (stage.SwapRoot a) next k c h f x = or_refused n next (λ y. go y.answer y.swaps.is y.is) x
+  lands n (stage.SwapRoot a) next low k c h f x = or_refused n next (λ y. go y.answer y.swaps.is y.is) x
     where
       go : (answer : Result (Unit {0}) (Option ℕ)) → swaps_as t (Some a.old) (Some a.new) old new answer → next ≡ after_swap_root a answer → goes m m' v j n next
       go (Err present) y e = absurd (y.2 (y.1 ∙ f))
       go (Ok done) y e = repairs n 4 next _ (ap now y.1 ∙ now_acted (RootBecomes t (Some a.new)) old) (omega arith) (swap_lowers m w t number a is named f k) (subst (λ z. toward m' v j (2 * tree_pages (now new) t + 4) z) (sym e) (2 * tree_pages (now new) t + 2, (under _).0, le_refl _))
-  lands n (stage.Free a) next k c h f x = or_refused n next (λ y. go y.answer y.frees.is y.is) x
+  lands n (stage.Free a) next low k c h f x = or_refused n next (λ y. go y.answer y.frees.is y.is) x
     where
       out : (z : Place) → ¬ (In a.pid (w.chain z))
       out z i = k.own.stray z (is.formed.homed z a.pid i)
@@ -278,7 +281,7 @@ module _ (j : Course) (old new : Store) (numbers : Tree → Option ℕ) (given :
       go (Ok done) y e =
           let s = ap now y.1 ∙ now_acted (PageBecomes a.pid None) old in
           passes n a.pid None next s out (subst (λ z. toward m' v j n z) (sym e) (2 * tree_pages (now new) t + 2, less _ _ (ap (λ z. tree_pages z t) s ∙ stray_counts (now old) w is.formed is.below a.pid None out t root.0 root.1) f, le_refl _))
-  lands n (stage.Intend a) next k c h f x = or_refused n next go x
+  lands n (stage.Intend a) next low k c h f x = or_refused n next go x
     where
       go : TakesWay (after_link (ParentMergeIntention a.child)) a.parent.pid a.parent.version old new next
           (λ given. Go (stage.Child (record { parent = record { pid = a.parent.pid; version = given; node = record (a.parent.node) { merging_child = Some a.child } }; child = a.child; before = a.before }))) (λ _. Go stage.Root) → goes m m' v j n next
@@ -297,11 +300,11 @@ module _ (j : Course) (old new : Store) (numbers : Tree → Option ℕ) (given :
         where
           fits : (x l y : ℕ) → l + x ≤ y → 2 * x + 3 < 2 * y + 4
           fits x l y u = omega arith
-  lands n (stage.Child a) next k c h f x =
+  lands n (stage.Child a) next low k c h f x =
       let d = child_at is j f.height a f.merging in
       let g = as_page m a.child d.2.node d.2.live in
       read_or_refused n next x.0 (reads_child is j n a f (record { pid = a.child; version = g.0.version; node = g.0.node }) next refl g.1) (read_page g.0 g.1 x.1)
-  lands n (stage.Cap a) next k c h f x = or_refused n next go x
+  lands n (stage.Cap a) next low k c h f x = or_refused n next go x
     where
       off : a.merge.parent.pid ≢ a.merge.child
       off e =
@@ -325,17 +328,17 @@ module _ (j : Course) (old new : Store) (numbers : Tree → Option ℕ) (given :
         where
           fits : (x l y : ℕ) → l + x ≤ y → 2 * x + 2 < 2 * y + 4
           fits x l y u = omega arith
-  lands n (stage.Seek a) next k c h f x =
+  lands n (stage.Seek a) next low k c h f x =
       let g = as_page m a.cursor f.0 f.1.here.live in
       read_or_refused n next x.0 (reads_before is j n a f.0 f.1 (record { pid = a.cursor; version = g.0.version; node = g.0.node }) next refl g.1) (read_page g.0 g.1 x.1)
-  lands n (stage.Receive a) next k c h f x = or_refused n next go x
+  lands n (stage.Receive a) next low k c h f x = or_refused n next go x
     where
       go : TakesWay (λ _. after_receiving a.left.node a.node) a.left.pid a.left.version old new next (λ _. Go (stage.Confirm (record { parent = a.merge.parent; child = a.merge.child; version = a.version }))) (sought_again a) → goes m m' v j n next
       go y =
           let d = made a.left.node f.0 y in
           repairs n 1 next _ d.1 (omega arith) (receiving_lowers m w t number a a.left.node d.0 is named k f.0)
           (subst (λ z. toward m' v j (2 * tree_pages (now new) t + 4) z) (sym d.2) (1, (under _).2, elsewhere (now old) (now new) a.left.pid _ a.merge.parent d.1 (λ e. f.2 (sym e)) f.1))
-  lands n (stage.Confirm a) next k c h f x = or_refused n next go x
+  lands n (stage.Confirm a) next low k c h f x = or_refused n next go x
     where
       go : TakesWay (after_link ParentMergeConfirm) a.parent.pid a.parent.version old new next (λ _. Go (stage.Free (record { pid = a.child; version = a.version }))) (λ _. Go stage.Root) → goes m m' v j n next
       go y =

@@ -27,7 +27,7 @@ use Rattle.tree_progress.proofs.Alone.{fewer_ahead, less_left}
 use Rattle.tree_progress.proofs.Drifting.{IsOnWay, is_calm, next_is_calm, adrift_any, drift}
 use Rattle.tree_progress.proofs.Halves.{halves_law}
 use Rattle.tree_progress.proofs.Intending.{intend_lowers}
-use Rattle.tree_progress.proofs.Landing.{lands}
+use Rattle.tree_progress.proofs.Landing.{aims_low, lands}
 
 record IsOn (numbers : Tree → Option ℕ) (given : ℕ → Bool) (s : Store) (j : Course) (a : Stage) (n : ℕ) (w : Forest) : Type 0 where
   formed : HasForest (snapshot_of s numbers given) w
@@ -58,14 +58,14 @@ module _ (numbers : Tree → Option ℕ) (given : ℕ → Bool) (j : Course) whe
 
   step : (old new : Store) (a b : Stage) (n : ℕ) (w v : Forest) → IsOn numbers given old j a n w → GoesOnAlone numbers given j old a w new b v → (ahead : ℕ) × IsOn numbers given new j b ahead v × Falls old new t n ahead
   step old new a b n w v k l = elim k.on [
-    | inl fresh ↦ elim (lands j old new numbers given w v k.formed l.formed l.stays j.tree.number k.named k.on_key (k.knows.2.key k.on_key) n a (Go b) k.knows.0 k.knows.1 k.halves fresh l.follows.is) [
+    | inl fresh ↦ elim (lands j old new numbers given w v k.formed l.formed l.stays j.tree.number k.named n a (Go b) (λ e. aims_low j k.on_key k.knows.2) k.knows.0 k.knows.1 k.halves fresh l.follows.is) [
       | inl over ↦ absurd over
       | inr y ↦ elim y [
         | inl z ↦ (z.2.0, is_on z.2.0 k.named k.on_key l (inl z.2.2), inl (z.0, z.1, z.2.1))
         | inr z ↦ (z.2.0, is_on z.2.0 k.named k.on_key l (inl z.2.2), inr (z.0, z.1, more z.2.0 _ z.2.1))
       ]
     ]
-    | inr adrift ↦ elim (drift j old new numbers given w v k.formed l.formed j.tree.number k.named k.on_key n a (Go b) k.knows.0 k.halves adrift l.follows.is) [
+    | inr adrift ↦ elim (drift j old new numbers given w v k.formed l.formed j.tree.number k.named n a (Go b) k.knows.0 k.halves adrift l.follows.is) [
       | inl over ↦ absurd over
       | inr y ↦ elim y [
         | inl z ↦ (z.2.0, is_on z.2.0 k.named k.on_key l z.2.2, inl (z.0, z.1, z.2.1))

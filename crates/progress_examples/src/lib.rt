@@ -1,0 +1,79 @@
+//! A caller that steps calls of a machine in turn, and knows within how many steps one of them tells something. It is proved from the
+//! public contracts of a machine and from the law of few moves alone (`law_moves` of `machine_laws`).
+#![tactic(auto)]
+
+ghost use Rattle.std.specs.Prelude.{◌≢◌, ◌≤◌, [], IfNone, IfSome};
+ghost use Rattle.sled_store.specs.Store.{now};
+ghost use Rattle.sled_model.specs.State.{IsOnKey};
+ghost use Rattle.sled_model.specs.declared.outcome.Outcome.TheVariants as outcome;
+ghost use Rattle.move_laws.specs.Meant.{moves_bound};
+ghost use Rattle.machine_laws.specs.Moves.{flights_of};
+ghost use Rattle.progress_examples.specs.Turns.{IsOfKeys};
+
+use machine_laws::law_moves;
+use sled::Db;
+use sled_calls::Machine;
+use sled_model::{Call, MergeOperator, Outcome, Slot, Tree};
+use sled_nodes::Result;
+use sled_store::Pages;
+
+/// A machine over a database, with no call in flight.
+///
+/// ```
+/// let mut machine = start(db);
+/// ```
+pub fn start<P: Pages, M: MergeOperator>(db: Db<P, M>) -> Machine<P, M>
+    ensures { IsOfKeys P.store P.flush_number M.meant result }
+{
+    let machine = Machine::new(db);
+    machine.audit();
+    machine
+}
+
+/// Begins a call on a key, or tells why it does not begin.
+///
+/// ```
+/// let slot = begin(&mut machine, &tree, Call::get(alloc, b"ulm")?)?;
+/// ```
+pub fn begin<P: Pages, M: MergeOperator>(
+    machine: &mut Machine<P, M>,
+    tree: &Tree,
+    call: Call,
+) -> Result<Slot>
+    requires key { IsOnKey call }
+    requires keys { IsOfKeys P.store P.flush_number M.meant machine.old }
+    ensures { IsOfKeys P.store P.flush_number M.meant machine.new }
+{
+    let begun = machine.begin(tree, call);
+    machine.audit();
+    begun
+}
+
+/// Steps the calls in these slots in turn, this often at most, until a step does not come out as `Moved`: how that one came out. It
+/// returns `None` only if it was to make no more steps than `moves_bound` of `move_laws` tells of the pages and the calls in flight.
+///
+/// ```
+/// let told = step_in_turn(&mut machine, &[one, other], 1_000_000);
+/// ```
+pub fn step_in_turn<P: Pages, M: MergeOperator>(
+    machine: &mut Machine<P, M>,
+    slots: &[Slot],
+    turns: usize,
+) -> Option<Outcome>
+    requires some { slots.now ≢ [] }
+    requires keys { IsOfKeys P.store P.flush_number M.meant machine.old }
+    ensures told { IfSome result (λ told. told ≢ outcome.Moved) }
+    ensures few { IfNone result (turns ≤ moves_bound (now (P.store machine.old.db.pages)) (flights_of machine.old)) }
+    ensures keys { IsOfKeys P.store P.flush_number M.meant machine.new }
+{
+    law_moves::<P, M>();
+    for turn in 0..turns {
+        let told = machine.step(slots[turn % slots.len()]);
+        machine.audit();
+        match told {
+            Outcome::Moved => {}
+            told => return Some(told),
+        }
+    }
+    None
+}
