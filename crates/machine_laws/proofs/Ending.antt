@@ -18,7 +18,7 @@ use Rattle.move_laws.specs.Meant.{moves_bound}
 use Rattle.sled.specs.Flights.{call_in_flight_of}
 use Rattle.sled_calls.specs.Step.{MachineStepContract}
 use Rattle.sled_calls.specs.Values.{MachineValue, kept_at, slots_of, configuration_of}
-use Rattle.machine_laws.specs.Moves.{flights_of, IsSound, IsReached, Steps, keeps_aim_as, KeepsAim, MovesInARow, Begins, Moves, IsEnding, Ends, EndsLaw}
+use Rattle.machine_laws.specs.Moves.{flights_of, IsSound, IsReached, Steps, MovesInARow, Begins, Moves, IsEnding, Ends, EndsLaw}
 use Rattle.machine_laws.proofs.Halving.{flying_there, reached_sound}
 use Rattle.machine_laws.proofs.Moving.{moves_law}
 
@@ -132,13 +132,10 @@ module _ {P M : Type 0} (store : P → Store) (number : P → ℕ) (meant : M �
   abbrev Ending : MachineValue P M → Type 0
   Ending m = IsEnding store number meant m
 
-  keeps : (a b : MachineValue P M) (slot : ℕ) (f : InFlight) → kept_at a.flights slot ≡ Some f → IsOnKey f.job.call → (h g : InFlight) → kept_at a.flights slot ≡ Some h → kept_at b.flights slot ≡ Some g → KeepsAim h g
-  keeps a b slot f there on_key h g here now = subst (λ o. keeps_aim_as o h g) (sym (ap (λ (z : InFlight). range_of z.job.call) (some_is (sym here ∙ there)) ∙ on_key)) tt
-
   -- so many moves are left
   rest : (c : ℕ) → ((b : MachineValue P M) → Reached b → calls b < c → Ending b) → (first : MachineValue P M) → Reached first → (left n : ℕ) (m : MachineValue P M) → MovesInARow store number meant first n m → Reached m → calls m < suc c → n + left ≡ bound_of first → Ending m
   rest c fewer first start zero n m row r l e = Ends (λ slot f o next there on_key k is. elim (comes m next slot f o (reached_sound store number meant m r) there on_key k) [
-    | inl moved ↦ absurd (none _ (moves_law store number meant first start (suc n) next (Moves row (keeps m next slot f there on_key) (subst (λ z. MachineStepContract store number meant m (step.Step slot) z next) moved.0 k) is)) e)
+    | inl moved ↦ absurd (none _ (moves_law store number meant first start (suc n) next (Moves row (subst (λ z. MachineStepContract store number meant m (step.Step slot) z next) moved.0 k) is)) e)
     | inr less ↦ fewer next (Steps r k is) (below _ _ less l)
   ])
     where
@@ -148,7 +145,7 @@ module _ {P M : Type 0} (store : P → Store) (number : P → ℕ) (meant : M �
       below : (x y : ℕ) → x + 1 ≡ y → y < suc c → x < c
       below x y e l = omega arith
   rest c fewer first start (suc left) n m row r l e = Ends (λ slot f o next there on_key k is. elim (comes m next slot f o (reached_sound store number meant m r) there on_key k) [
-    | inl moved ↦ rest c fewer first start left (suc n) next (Moves row (keeps m next slot f there on_key) (subst (λ z. MachineStepContract store number meant m (step.Step slot) z next) moved.0 k) is) (Steps r k is) (subst (λ z. z < suc c) (sym moved.1) l) (one_on _ e)
+    | inl moved ↦ rest c fewer first start left (suc n) next (Moves row (subst (λ z. MachineStepContract store number meant m (step.Step slot) z next) moved.0 k) is) (Steps r k is) (subst (λ z. z < suc c) (sym moved.1) l) (one_on _ e)
     | inr less ↦ fewer next (Steps r k is) (below _ _ less l)
   ])
     where

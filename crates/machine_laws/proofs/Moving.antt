@@ -36,7 +36,7 @@ use Rattle.sled.specs.Values.{db_state, named, numbers_of, given_to, snapshot_of
 use Rattle.sled_calls.specs.Step.{MachineStepContract, FollowsAt}
 use Rattle.sled_calls.specs.StepsInSlot.{flight_after}
 use Rattle.sled_calls.specs.Values.{MachineValue, kept_at, slots_of, configuration_of}
-use Rattle.machine_laws.specs.Moves.{has_number, is_live, KeepsAim, flights_in, flights_up_to, flights_of, IsSound, IsReached, MovesInARow, Begins, Moves, MovesLaw}
+use Rattle.machine_laws.specs.Moves.{has_number, is_live, flights_in, flights_up_to, flights_of, IsSound, IsReached, MovesInARow, Begins, Moves, MovesLaw}
 use Rattle.machine_laws.proofs.SettingOff.{flight_of, SetsOff, sets_off}
 use Rattle.machine_laws.proofs.Halving.{flying_there, reached_sound, machine_halves_law}
 
@@ -179,7 +179,7 @@ moved_is (Refused r) e = absurd (off e)
 
 module _ {P M : Type 0} (store : P → Store) (number : P → ℕ) (meant : M → Merge) where
   -- a step of the slot by which its call goes on
-  module _ (a b : MachineValue P M) (slot : ℕ) (k : MachineStepContract store number meant a (step.Step slot) outcome.Moved b) (x : IsSound store a) (y : IsSound store b) (keeps : (f g : InFlight) → kept_at a.flights slot ≡ Some f → kept_at b.flights slot ≡ Some g → KeepsAim f g) where
+  module _ (a b : MachineValue P M) (slot : ℕ) (k : MachineStepContract store number meant a (step.Step slot) outcome.Moved b) (x : IsSound store a) (y : IsSound store b) where
     move : Move (configuration_of store number meant a).state slot (configuration_of store number meant b).state
     move = k.step.step.is.0
 
@@ -218,7 +218,7 @@ module _ {P M : Type 0} (store : P → Store) (number : P → ℕ) (meant : M �
     same_call = ap (λ (z : CallInFlight). z.call) is_call ∙ ap (λ (z : CallInFlight). z.call) (sym flying.2)
 
     off : SetsOff (store a.db.pages) (store b.db.pages) f g
-    off = sets_off (store a.db.pages) (store b.db.pages) f g same_tree same_call (x.calls.known slot f flying.1).aimed (y.calls.known slot g now_there).aimed follows_at.went went_is (keeps f g flying.1 now_there) follows_at.follows
+    off = sets_off (store a.db.pages) (store b.db.pages) f g same_tree same_call (x.calls.known slot f flying.1).aimed (y.calls.known slot g now_there).aimed follows_at.went went_is follows_at.follows
 
     same_trees : numbers_of b.db.trees ≡ numbers_of a.db.trees
     same_trees = fun_ext (λ t. same_number _ _ _ _ (numbers_of b.db.trees t) (numbers_of a.db.trees t) (trees_of (now (store b.db.pages)) t) (trees_of (now (store a.db.pages)) t)
@@ -256,37 +256,37 @@ module _ {P M : Type 0} (store : P → Store) (number : P → ℕ) (meant : M �
     moment : (m : MachineValue P M) → numbers_of m.db.trees ≡ numbers → m.db.trees_given ≡ first.db.trees_given → snapshot_of_db store m.db ≡ snapshot_of (store m.db.pages) numbers given
     moment m trees count = ap (λ z. snapshot_of (store m.db.pages) z (given_to m.db.trees_given)) trees ∙ ap (λ z. snapshot_of (store m.db.pages) numbers (given_to z)) count
 
-    module _ (w : Forest) (a b : MachineValue P M) (i slot : ℕ) (r : IsAfter w a i) (keys : (f g : InFlight) → kept_at a.flights slot ≡ Some f → kept_at b.flights slot ≡ Some g → KeepsAim f g)
+    module _ (w : Forest) (a b : MachineValue P M) (i slot : ℕ) (r : IsAfter w a i)
         (k : MachineStepContract store number meant a (step.Step slot) outcome.Moved b) (y : IsSound store b) where
       abbrev was : InFlight
-      was = f a b slot k r.sound y keys
+      was = f a b slot k r.sound y
 
       abbrev is : InFlight
-      is = g a b slot k r.sound y keys
+      is = g a b slot k r.sound y
 
       there : kept_at a.flights slot ≡ Some was
-      there = (flying a b slot k r.sound y keys).1
+      there = (flying a b slot k r.sound y).1
 
       there_now : kept_at b.flights slot ≡ Some is
-      there_now = now_there a b slot k r.sound y keys
+      there_now = now_there a b slot k r.sound y
 
       has_name : numbers was.job.tree.name ≡ Some was.job.tree.number
-      has_name = subst (λ z. z was.job.tree.name ≡ Some was.job.tree.number) r.trees (is_named a b slot k r.sound y keys)
+      has_name = subst (λ z. z was.job.tree.name ≡ Some was.job.tree.number) r.trees (is_named a b slot k r.sound y)
 
       live : is_live numbers was ≡ true
       live = live_is _ _ has_name
 
       lives : is_live numbers is ≡ true
-      lives = live_is _ _ (subst (λ z. numbers z.name ≡ Some z.number) (sym (same_tree a b slot k r.sound y keys)) has_name)
+      lives = live_is _ _ (subst (λ z. numbers z.name ≡ Some z.number) (sym (same_tree a b slot k r.sound y)) has_name)
 
       other_slots : (q : ℕ) → q ≢ slot → kept_at b.flights q ≡ kept_at a.flights q
       other_slots q off = k.slots.others q (λ e. off (sym (some_is e)))
 
       trees_now : numbers_of b.db.trees ≡ numbers
-      trees_now = same_trees a b slot k r.sound y keys ∙ r.trees
+      trees_now = same_trees a b slot k r.sound y ∙ r.trees
 
       count_now : b.db.trees_given ≡ first.db.trees_given
-      count_now = same_given a b slot k r.sound y keys ∙ r.tree_count
+      count_now = same_given a b slot k r.sound y ∙ r.tree_count
 
       at_moment : snapshot_of_db store b.db ≡ snapshot_of (store b.db.pages) numbers given
       at_moment = moment b trees_now count_now
@@ -299,7 +299,7 @@ module _ {P M : Type 0} (store : P → Store) (number : P → ℕ) (meant : M �
       slots = beside numbers (kept_at a.flights) (kept_at b.flights) slot was is there there_now live lives other_slots first.slots_given (subst (λ z. slot ≤ z) r.slot_count (r.sound.calls.given slot was there))
 
       sets : SetsOff (store a.db.pages) (store b.db.pages) was is
-      sets = off a b slot k r.sound y keys
+      sets = off a b slot k r.sound y
 
       goes : GoesOnAlone numbers given sets.course (store a.db.pages) sets.was r.sound.db.forest (store b.db.pages) is.stage y.db.forest
       goes = record {
@@ -335,14 +335,14 @@ module _ {P M : Type 0} (store : P → Store) (number : P → ℕ) (meant : M �
       step_on = record {
         trees = trees_now;
         tree_count = count_now;
-        slot_count = same_count a b slot k r.sound y keys ∙ r.slot_count;
+        slot_count = same_count a b slot k r.sound y ∙ r.slot_count;
         sound = y;
         moves = OneMoved turned goes_among;
       }
 
     rows : (reached : IsReached store number meant first) (n : ℕ) (last : MachineValue P M) → MovesInARow store number meant first n last → IsAfter (reached_sound store number meant first reached).db.forest last n
     rows reached n last Begins = record { trees = refl; tree_count = refl; slot_count = refl; sound = reached_sound store number meant first reached; moves = NoneMoved }
-    rows reached n last (Moves {n = i} {slot = slot} {a = a} before keys k y) = step_on (reached_sound store number meant first reached).db.forest a last i slot (rows reached i a before) keys k y
+    rows reached n last (Moves {n = i} {slot = slot} {a = a} before k y) = step_on (reached_sound store number meant first reached).db.forest a last i slot (rows reached i a before) k y
 
     under_way : (reached : IsReached store number meant first) (x : Flight) → In x (flights first) → IsUnderWay numbers given (store first.db.pages) (reached_sound store number meant first reached).db.forest x
     under_way reached x i =

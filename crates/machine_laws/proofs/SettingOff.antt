@@ -34,8 +34,7 @@ use Rattle.tree_progress.proofs.Landing.{aims_low}
 use Rattle.move_laws.specs.Among.{bound_behind, SetsOut}
 use Rattle.move_laws.specs.Meant.{Flight, flight}
 use Rattle.tree_scans.specs.Scans.{ScanStep, Gives, Ends, GoesOn, Walks, Lacks, aim_behind, behind, range_from, range_up, range_down, rest_in, rest_of}
-use Rattle.sled.specs.Flights.{follows_as}
-use Rattle.machine_laws.specs.Moves.{aim_ahead, keeps_aim_as, KeepsAim}
+use Rattle.sled.specs.Flights.{WalksOn, follows_as, keeps_aim}
 
 abbrev pub flight_of : InFlight → Flight
 flight_of f = flight (course_of f) f.stage
@@ -106,10 +105,6 @@ behind_is : (j : Job) (n : Node) (back : Bool) → aim_of j (aim_behind n back) 
 behind_is j n true = refl
 behind_is j n false = refl
 
-ahead_same : (r : Range) (a : Stage) (aim : Aim) → IsOnItsWay a → aim_ahead r a aim ≡ aim
-ahead_same r (Give a) aim way = absurd way
-ahead_same r other aim way = refl
-
 module _ (old new : Store) (f g : InFlight) (same_tree : g.job.tree ≡ f.job.tree) (same_call : g.job.call ≡ f.job.call) where
   same_aim : (aim : Aim) → aim_of g.job aim ≡ aim_of f.job aim
   same_aim Own = ap first_aim same_call
@@ -133,8 +128,8 @@ module _ (old new : Store) (f g : InFlight) (same_tree : g.job.tree ≡ f.job.tr
   }
 
   -- .. or from the root, from behind its leaf
-  goes_behind : (a : Giving) (r : Range) → f.stage ≡ Give a → range_of f.job.call ≡ Some r → is_read (rest_of f) ≡ false → g.aim ≡ aim_ahead r f.stage f.aim → (went : Went) → went ≡ Moved → FollowsOn old (behind f a r) went new g → SetsOff old new f g
-  goes_behind a r at scans some aim went e k = record {
+  goes_behind : (a : Giving) (r : Range) → f.stage ≡ Give a → range_of f.job.call ≡ Some r → is_read (rest_of f) ≡ false → (went : Went) → went ≡ Moved → WalksOn old (behind f a r) went new g → SetsOff old new f g
+  goes_behind a r at scans some went e k = record {
     course = record { tree = f.job.tree; call = f.job.call; aim = bound_behind a.leaf.node r.back };
     was = Root;
     turns = λ fs before behind is. inr (record {
@@ -148,8 +143,8 @@ module _ (old new : Store) (f g : InFlight) (same_tree : g.job.tree ≡ f.job.tr
       from = is ∙ ap (λ z. before ++ flight (course_of f) z ∷ behind) at;
       to = refl;
     });
-    follows = subst (λ z. Follows (record { tree = f.job.tree; call = f.job.call; aim = z }) old Root (Go g.stage) new) (behind_is f.job a.leaf.node r.back) (subst (λ z. FollowsOn old (behind f a r) z new g) e k).is;
-    same = course_is (bound_behind a.leaf.node r.back) (ap (aim_of g.job) (aim ∙ ap (λ z. aim_ahead r z f.aim) at) ∙ behind_is g.job a.leaf.node r.back);
+    follows = subst (λ z. Follows (record { tree = f.job.tree; call = f.job.call; aim = z }) old Root (Go g.stage) new) (behind_is f.job a.leaf.node r.back) (subst (λ z. FollowsOn old (behind f a r) z new g) e k.follows).is;
+    same = course_is (bound_behind a.leaf.node r.back) (ap (aim_of g.job) (subst (λ z. keeps_aim z (behind f a r) g) e k.aims) ∙ behind_is g.job a.leaf.node r.back);
     begins = λ same. low.0;
   }
     where
@@ -159,32 +154,32 @@ module _ (old new : Store) (f g : InFlight) (same_tree : g.job.tree ≡ f.job.tr
           behind_low a.leaf.node (range_from f.aim r) r.back (subst (λ b. is_read (cond b (range_down a.leaf.node.lo (range_from f.aim r)) (range_up a.leaf.node.hi (range_from f.aim r))) ≡ false) (back_same f.aim r) rest)
 
 -- a step of a scan that goes on
-scanned : (r : Range) (old new : Store) (f g : InFlight) (went : Went) → g.job.tree ≡ f.job.tree → g.job.call ≡ f.job.call → IsAimed (course_of f) → IsAimed (course_of g) → range_of f.job.call ≡ Some r → g.aim ≡ aim_ahead r f.stage f.aim → went ≡ Moved → ScanStep FollowsOn old f went new g → SetsOff old new f g
-scanned r old new f g went tree call aimed aims scans aim e (Gives a key value more at waits) = absurd (off e)
+scanned : (r : Range) (old new : Store) (f g : InFlight) (went : Went) → g.job.tree ≡ f.job.tree → g.job.call ≡ f.job.call → IsAimed (course_of f) → IsAimed (course_of g) → range_of f.job.call ≡ Some r → went ≡ Moved → ScanStep WalksOn old f went new g → SetsOff old new f g
+scanned r old new f g went tree call aimed aims scans e (Gives a key value more at waits) = absurd (off e)
   where
     off : Yielded key value ≡ Moved → ⊥
     off e = cc
-scanned r old new f g went tree call aimed aims scans aim e (Ends x can none read) = absurd (off e)
+scanned r old new f g went tree call aimed aims scans e (Ends x can none read) = absurd (off e)
   where
     off : Decided End ≡ Moved → ⊥
     off e = cc
-scanned r old new f g went tree call aimed aims scans aim e (Lacks a x at) = absurd (off e)
+scanned r old new f g went tree call aimed aims scans e (Lacks a x at) = absurd (off e)
   where
     off : Refused NoMemory ≡ Moved → ⊥
     off e = cc
-scanned r old new f g went tree call aimed aims scans aim e (GoesOn a q x y z at range none some k) =
-    goes_behind old new f g tree call a r at scans some aim went e (subst (λ q. FollowsOn old (behind f a q) went new g) (some_is (sym range ∙ scans)) k)
-scanned r old new f g went tree call aimed aims scans aim e (Walks x y z way reads k) =
-    goes_on old new f g tree call (ap (aim_of g.job) (aim ∙ ahead_same r f.stage f.aim way) ∙ same_aim old new f g tree call f.aim) (λ root. root_low f r scans aimed (some (reads root) root)) went e k
+scanned r old new f g went tree call aimed aims scans e (GoesOn a q x y z at range none some k) =
+    goes_behind old new f g tree call a r at scans some went e (subst (λ q. WalksOn old (behind f a q) went new g) (some_is (sym range ∙ scans)) k)
+scanned r old new f g went tree call aimed aims scans e (Walks x y z way reads k) =
+    goes_on old new f g tree call (ap (aim_of g.job) (subst (λ z. keeps_aim z f g) e k.aims) ∙ same_aim old new f g tree call f.aim) (λ root. root_low f r scans aimed (some (reads root) root)) went e k.follows
   where
     some : is_read (rest_of f) ≡ false → f.stage ≡ Root → is_reversed (range_from f.aim r).lo (range_from f.aim r).hi ≡ false
     some e root = subst (λ z. is_read (rest_in Root f.aim z) ≡ false) scans (subst (λ z. is_read (rest_in z f.aim (range_of f.job.call)) ≡ false) root e)
 
-pub sets_off : (old new : Store) (f g : InFlight) → g.job.tree ≡ f.job.tree → g.job.call ≡ f.job.call → IsAimed (course_of f) → IsAimed (course_of g) → (went : Went) → went ≡ Moved → KeepsAim f g → follows_as (range_of f.job.call) old f went new g → SetsOff old new f g
-sets_off old new f g tree call aimed aims went e keeps k = go (range_of f.job.call) refl keeps k
+pub sets_off : (old new : Store) (f g : InFlight) → g.job.tree ≡ f.job.tree → g.job.call ≡ f.job.call → IsAimed (course_of f) → IsAimed (course_of g) → (went : Went) → went ≡ Moved → follows_as (range_of f.job.call) old f went new g → SetsOff old new f g
+sets_off old new f g tree call aimed aims went e k = go (range_of f.job.call) refl k
   where
-    go : (o : Option Range) → range_of f.job.call ≡ o → keeps_aim_as o f g → follows_as o old f went new g → SetsOff old new f g
-    go None on_key keeps k =
+    go : (o : Option Range) → range_of f.job.call ≡ o → follows_as o old f went new g → SetsOff old new f g
+    go None on_key k =
         let on_key_now : IsOnKey g.job.call = ap range_of call ∙ on_key in
         goes_on old new f g tree call (aims.key on_key_now ∙ ap (λ z. Included (key_of z)) call ∙ sym (aimed.key on_key)) (λ root. aims_low (course_of f) on_key aimed) went e k
-    go (Some r) scans keeps k = scanned r old new f g went tree call aimed aims scans keeps e k
+    go (Some r) scans k = scanned r old new f g went tree call aimed aims scans e k

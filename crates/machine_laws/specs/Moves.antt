@@ -12,13 +12,9 @@ use Rattle.sled_model.specs.declared.outcome.Outcome.TheVariants.{Moved}
 use Rattle.sled_model.specs.declared.outcome.Step.{Step}
 use Rattle.sled_model.specs.declared.outcome.Step.TheVariants as step
 use Rattle.sled_model.specs.declared.tree.Tree.{Tree}
-use Rattle.tree_laws.specs.declared.flight.Stage.{Stage}
-use Rattle.tree_laws.specs.declared.flight.Stage.TheVariants.{Give}
 use Rattle.sled_tree.specs.Course.{course_of}
-use Rattle.sled_tree.specs.declared.flight.Aim.{Aim}
 use Rattle.sled_tree.specs.declared.flight.InFlight.{InFlight}
 use Rattle.tree_progress.specs.Steps.{HasHalves}
-use Rattle.tree_scans.specs.Scans.{aim_behind}
 use Rattle.move_laws.specs.Meant.{Flight, flight, moves_bound}
 use Rattle.sled.specs.Sound.{IsDb}
 use Rattle.sled.specs.Values.{numbers_of, snapshot_of_db}
@@ -67,24 +63,10 @@ pub data IsReached {P M : Type 0} (store : P → Store) (flush_number : P → �
 abbrev pub MachineHalvesLaw : {P M : Type 0} → (P → Store) → (P → ℕ) → (M → Merge) → Type 0
 MachineHalvesLaw {P} {M} store flush_number meant = (m : MachineValue P M) → IsReached store flush_number meant m → (slot : ℕ) (f : InFlight) → kept_at m.flights slot ≡ Some f → HasHalves (nodes_of (now (store m.db.pages))) f.stage
 
--- where a scan goes on: behind its leaf, where it has one
-abbrev pub aim_ahead : Range → Stage → Aim → Aim
-aim_ahead r (Give a) aim = aim_behind a.leaf.node r.back
-aim_ahead r other aim = aim
-
--- A scan that goes on aims there: no other part of its range counts as read. Of a call on a key nothing is asked
-abbrev pub keeps_aim_as : Option Range → InFlight → InFlight → Type 0
-keeps_aim_as None f g = Unit {0}
-keeps_aim_as (Some r) f g = g.aim ≡ aim_ahead r f.stage f.aim
-
-abbrev pub KeepsAim : InFlight → InFlight → Type 0
-KeepsAim f g = keeps_aim_as (range_of f.job.call) f g
-
 -- So many steps in a row, of whichever slot each, that all come out as `Moved`
 pub data MovesInARow {P M : Type 0} (store : P → Store) (flush_number : P → ℕ) (meant : M → Merge) (first : MachineValue P M) : ℕ → MachineValue P M → Type 0 where
   Begins : MovesInARow store flush_number meant first 0 first
-  Moves : {n slot : ℕ} {a b : MachineValue P M} → MovesInARow store flush_number meant first n a → ((f g : InFlight) → kept_at a.flights slot ≡ Some f → kept_at b.flights slot ≡ Some g → KeepsAim f g)
-      → MachineStepContract store flush_number meant a (step.Step slot) Moved b → IsSound store b → MovesInARow store flush_number meant first (suc n) b
+  Moves : {n slot : ℕ} {a b : MachineValue P M} → MovesInARow store flush_number meant first n a → MachineStepContract store flush_number meant a (step.Step slot) Moved b → IsSound store b → MovesInARow store flush_number meant first (suc n) b
 
 -- Of such a machine no more steps come out as `Moved` in a row than the pages tell, whichever slots they are of
 abbrev pub MovesLaw : {P M : Type 0} → (P → Store) → (P → ℕ) → (M → Merge) → Type 0

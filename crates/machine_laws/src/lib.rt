@@ -9,10 +9,6 @@
 //! It is said of the calls together: one of them may be overtaken for ever by others that are decided, if new calls begin. Nothing is said
 //! of the time that a step takes.
 //!
-//! Of a scan's step in such a row it is asked that the scan aims where it aimed or, if it had a leaf, behind that (`KeepsAim`). It does so,
-//! and `advance` of `tree_scans` is proved to, but what a machine says of a step leaves it out (`follows_as` of `sled` has `FollowsOn`,
-//! which speaks of the stage that comes next and of no aim). A row without steps of scans needs nothing.
-//!
 //! Nothing is done here. The laws are concluded from the public contract of a step of a machine alone (`MachineStepContract` of
 //! `sled_calls`).
 #![tactic(auto)]
@@ -34,7 +30,7 @@ pub fn law_machine_halves<P: Pages, M: MergeOperator>()
 
 /// Does nothing. Of a machine that began with no call in flight no more steps come out as `Moved` in a row than `moves_bound` of
 /// `move_laws` tells of the pages and the calls in flight as the row begins. So it is whichever slot each step is of, however many calls
-/// there are, scans among them, at whatever stages, and whatever was left half done. Of a scan's step `KeepsAim` is asked.
+/// there are, scans among them, at whatever stages, and whatever was left half done.
 ///
 /// ```
 /// law_moves::<MemPages, Adds>(); // From here on a proof knows it.

@@ -1,7 +1,5 @@
-pub mod Turns
 pub use Rattle.sled_store.specs as sled_store
 pub use Rattle.sled_model.specs as sled_model
-pub use Rattle.sled_tree.specs as sled_tree
 pub use Rattle.move_laws.specs as move_laws
 pub use Rattle.sled.specs as sled
 pub use Rattle.sled_calls.specs as sled_calls

@@ -4,11 +4,9 @@
 
 ghost use Rattle.std.specs.Prelude.{◌≢◌, ◌≤◌, [], IfNone, IfSome};
 ghost use Rattle.sled_store.specs.Store.{now};
-ghost use Rattle.sled_model.specs.State.{IsOnKey};
 ghost use Rattle.sled_model.specs.declared.outcome.Outcome.TheVariants as outcome;
 ghost use Rattle.move_laws.specs.Meant.{moves_bound};
-ghost use Rattle.machine_laws.specs.Moves.{flights_of};
-ghost use Rattle.progress_examples.specs.Turns.{IsOfKeys};
+ghost use Rattle.machine_laws.specs.Moves.{IsReached, flights_of};
 
 use machine_laws::law_moves;
 use sled::Db;
@@ -23,14 +21,14 @@ use sled_store::Pages;
 /// let mut machine = start(db);
 /// ```
 pub fn start<P: Pages, M: MergeOperator>(db: Db<P, M>) -> Machine<P, M>
-    ensures { IsOfKeys P.store P.flush_number M.meant result }
+    ensures { IsReached P.store P.flush_number M.meant result }
 {
     let machine = Machine::new(db);
     machine.audit();
     machine
 }
 
-/// Begins a call on a key, or tells why it does not begin.
+/// Begins a call on a key or a scan, or returns why it does not begin.
 ///
 /// ```
 /// let slot = begin(&mut machine, &tree, Call::get(alloc, b"ulm")?)?;
@@ -40,17 +38,16 @@ pub fn begin<P: Pages, M: MergeOperator>(
     tree: &Tree,
     call: Call,
 ) -> Result<Slot>
-    requires key { IsOnKey call }
-    requires keys { IsOfKeys P.store P.flush_number M.meant machine.old }
-    ensures { IsOfKeys P.store P.flush_number M.meant machine.new }
+    requires { IsReached P.store P.flush_number M.meant machine.old }
+    ensures { IsReached P.store P.flush_number M.meant machine.new }
 {
     let begun = machine.begin(tree, call);
     machine.audit();
     begun
 }
 
-/// Steps the calls in these slots in turn, this often at most, until a step does not come out as `Moved`: how that one came out. It
-/// returns `None` only if it was to make no more steps than `moves_bound` of `move_laws` tells of the pages and the calls in flight.
+/// Steps the calls in these slots in turn, this often at most, until a step does not return `Moved`, and returns what that one did. It
+/// returns `None` only if `turns` is no more than `moves_bound` of `move_laws` is of the pages and the calls in flight.
 ///
 /// ```
 /// let told = step_in_turn(&mut machine, &[one, other], 1_000_000);
@@ -61,10 +58,10 @@ pub fn step_in_turn<P: Pages, M: MergeOperator>(
     turns: usize,
 ) -> Option<Outcome>
     requires some { slots.now ≢ [] }
-    requires keys { IsOfKeys P.store P.flush_number M.meant machine.old }
+    requires reached { IsReached P.store P.flush_number M.meant machine.old }
     ensures told { IfSome result (λ told. told ≢ outcome.Moved) }
     ensures few { IfNone result (turns ≤ moves_bound (now (P.store machine.old.db.pages)) (flights_of machine.old)) }
-    ensures keys { IsOfKeys P.store P.flush_number M.meant machine.new }
+    ensures reached { IsReached P.store P.flush_number M.meant machine.new }
 {
     law_moves::<P, M>();
     for turn in 0..turns {

@@ -3,5 +3,5 @@ use Rattle.progress_examples.proofs.begin.Goals as goal
 
 pub returns : goal.returns
 returns g c =
-    begins g.P.Pages.store g.P.Pages.flush_number g.M.MergeOperator.meant c.args.machine.now c.begin-begun.new.self c.args.tree.now c.args.call c.begin-begun.result c.requires.key c.requires.keys c.begin-begun.ensures.ok c.begin-begun.ensures.err
+    begins g.P.Pages.store g.P.Pages.flush_number g.M.MergeOperator.meant c.args.machine.now c.begin-begun.new.self c.args.tree.now c.args.call c.begin-begun.result c.requires c.begin-begun.ensures.ok c.begin-begun.ensures.err
     (record { db = c.audit.ensures.sound; calls = c.audit.ensures.known })

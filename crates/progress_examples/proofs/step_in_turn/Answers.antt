@@ -1,9 +1,10 @@
 use Rattle.std.proofs.Common.{◌≡◌, ℕ, suc, ◌+◌, subst, arith}
-use Rattle.progress_examples.proofs.Turning.{Turned, none_turned, one_more, stepped}
+use Rattle.machine_laws.specs.Moves.{Steps}
+use Rattle.progress_examples.proofs.Turning.{Turned, none_turned, one_more}
 use Rattle.progress_examples.proofs.step_in_turn.Goals as goal
 
 pub loop-turn-init : goal.loop-turn-init
-loop-turn-init g c = none_turned g.P.Pages.store g.P.Pages.flush_number g.M.MergeOperator.meant c.args.machine.now c.requires.keys
+loop-turn-init g c = none_turned g.P.Pages.store g.P.Pages.flush_number g.M.MergeOperator.meant c.args.machine.now c.requires.reached
 
 pub loop-turn-preserved : goal.loop-turn-preserved
 loop-turn-preserved g c =
@@ -31,7 +32,7 @@ pub returns-in_default : goal.returns-in_default
 returns-in_default g c = record {
   told = c.in_default.not-Moved;
   few = tt;
-  keys = stepped g.P.Pages.store g.P.Pages.flush_number g.M.MergeOperator.meant c.loop-turn.machine c.step-told.new.self _ c.step-told.result c.loop-turn.invariant.of_keys
+  reached = Steps c.loop-turn.invariant.reached
       (record {
         step = c.step-told.ensures.step;
         sound = c.step-told.ensures.sound;
