@@ -27,12 +27,22 @@ def can_count():
 
 def counted(words, lines=os.devnull):
     """How many instructions a run takes, with the lines of a file as its input."""
-    command = ["valgrind", "--tool=callgrind", "--callgrind-out-file=/dev/null", *map(str, words)]
+    return int(re.search(r"Collected : (\d+)", told(words, lines))[1])
+
+
+def mispredicted(words):
+    """How many branches of a run go another way than the processor that `valgrind` has in mind expects."""
+    return int(re.search(r"Mispredicts: +([\d,]+)", told(words, os.devnull, "--branch-sim=yes"))[1].replace(",", ""))
+
+
+def told(words, lines, *options):
+    """What `valgrind` says of a run that ends well, with the lines of a file as its input."""
+    command = ["valgrind", "--tool=callgrind", "--callgrind-out-file=/dev/null", *options, *map(str, words)]
     with open(lines, "rb") as given:
         ran = subprocess.run(command, stdin=given, stdout=subprocess.DEVNULL, stderr=subprocess.PIPE, text=True)
     if ran.returncode:
         raise SystemExit(f"{words} ended with the status {ran.returncode}: {ran.stderr[-500:]}")
-    return int(re.search(r"Collected : (\d+)", ran.stderr)[1])
+    return ran.stderr
 
 
 def differences(work, runs):

@@ -1,10 +1,11 @@
-//! One step of a call in flight, the outcome of a call at its key, and a search and a change of a leaf, each under the contract that it
-//! has. The edits in `must-fail` show what these contracts rule out: each does something to the store, the call or the leaf before that,
-//! or in its place, or gives another answer in some case.
+//! One step of a call in flight, the outcome of a call at its key, a search and a change of a leaf, and what subscribers get, each under the
+//! contract that it has. The edits in `must-fail` show what these contracts rule out: each does something to the store, the call, the leaf
+//! or the queues before that, or in its place, or gives another answer in some case.
 #![tactic(auto)]
 
 mod decision;
 mod entries;
+mod queues;
 
 ghost use Rattle.std.specs.Prelude.{◌<◌};
 ghost use Rattle.std.specs.Option.{option_map};
@@ -16,6 +17,7 @@ ghost use Rattle.sled_tree.specs.Stages.{IsOnItsWay};
 
 pub use decision::{at_link, at_read};
 pub use entries::{get, set};
+pub use queues::{cancel, commit, next, prepare};
 use sled_model::{MAX_LOOPS, MergeOperator};
 use sled_store::Pages;
 use sled_tree::{InFlight, Went, advance};
