@@ -38,7 +38,7 @@ use Rattle.sled_tree.specs.declared.flight.Went.TheVariants.{Moved, Yielded, Dec
 use Rattle.tree_scans.specs.Scans.{ScanStep, Gives, Ends, GoesOn, Walks, Lacks, behind}
 use Rattle.tree_progress.proofs.Halves.{halves_law}
 use Rattle.tree_progress.specs.Steps.{HasHalves}
-use Rattle.sled.specs.Flights.{call_in_flight_of, follows_as, HasMore}
+use Rattle.sled.specs.Flights.{call_in_flight_of, WalksOn, follows_as, HasMore}
 use Rattle.sled.specs.Values.{db_state, snapshot_of_db}
 use Rattle.sled_calls.specs.Finish.{steps_of, outcomes_of, RunsToEnd, Completes}
 use Rattle.sled_calls.specs.Run.{MachineSteps, NoCalls, OneCall}
@@ -86,11 +86,11 @@ went_on old new f g (Yielded key value) more k = absurd k.is
 went_on old new f g (Decided reply) more k = absurd more
 went_on old new f g (Refused e) more k = absurd more
 
-scanned : (old new : Store) (f g : InFlight) (went : Went) → HasMore went → ScanStep FollowsOn old f went new g → HasHalves (nodes_of (now new)) g.stage
+scanned : (old new : Store) (f g : InFlight) (went : Went) → HasMore went → ScanStep WalksOn old f went new g → HasHalves (nodes_of (now new)) g.stage
 scanned old new f g went more (Gives a key value rest e waits) = tt
 scanned old new f g went more (Ends x can none read) = absurd more
-scanned old new f g went more (GoesOn a r x y z e range none read k) = went_on old new (behind f a r) g went more k
-scanned old new f g went more (Walks x y z way reads k) = went_on old new f g went more k
+scanned old new f g went more (GoesOn a r x y z e range none read k) = went_on old new (behind f a r) g went more k.follows
+scanned old new f g went more (Walks x y z way reads k) = went_on old new f g went more k.follows
 scanned old new f g went more (Lacks a x e) = absurd more
 
 followed : (range : Option Range) (old new : Store) (f g : InFlight) (went : Went) → HasMore went → follows_as range old f went new g → HasHalves (nodes_of (now new)) g.stage

@@ -38,7 +38,7 @@ use Rattle.tree_laws.proofs.Crashing.{extends_same, extends_again}
 use Rattle.tree_laws.proofs.Known.{fresh_in}
 use Rattle.tree_laws.proofs.Reading.{range_law}
 use Rattle.sled_tree.specs.Course.{Course, course_of, course, start_of, first_aim, aim_of, IsAimed}
-use Rattle.sled_tree.specs.Follows.{Follows, FollowsOn}
+use Rattle.sled_tree.specs.Follows.{Follows}
 use Rattle.sled_tree.specs.Known.{IsKnown}
 use Rattle.sled_tree.specs.StageAction.{LeaksNoPage, leaks_no_page_as}
 use Rattle.sled_tree.specs.Stages.{Knows, IsOnItsWay}
@@ -58,7 +58,7 @@ use Rattle.tree_scans.specs.Scans.{ScanStep, CanEnd, Gives, Ends, GoesOn, Walks,
 use Rattle.tree_scans.proofs.Scanning as scanning
 use Rattle.sled.specs.Values.{DbValue, numbers_of, given_to, state_of, db_state, snapshot_of_db}
 use Rattle.sled.specs.Sound.{IsDb}
-use Rattle.sled.specs.Flights.{call_in_flight_of, sequel_of, follows_as, has_path, BringsEvent, DbStepContract}
+use Rattle.sled.specs.Flights.{call_in_flight_of, sequel_of, WalksOn, follows_as, has_path, BringsEvent, DbStepContract}
 use Rattle.tree_steps.specs.theory.Watched.{StepsOver, steps_over_as}
 use Rattle.sled.proofs.Flying.{at, is_db, calm_still, no_group, operator, tree_now, there, named_now, state_over, loses_acting, refuses_quietly, cause_is, touches_acting, told_now, done_state, flies_moved, moved_db, flies_refused, refused_db, flown}
 use Rattle.sled.proofs.Trees.{trees_put, maps_are}
@@ -112,6 +112,13 @@ ends_unowned stage.Root between = refl
 ends_unowned (stage.Give a) between = refl
 ends_unowned other between = absurd between
 
+-- a scan on its way aims where it aimed
+walks_on : (old new : Store) (f g : InFlight) (went : Went) → StepsBy None old f went new g → WalksOn old f went new g
+walks_on old new f g Moved s = record { follows = s.follows; aims = s.advances.is.1 }
+walks_on old new f g (Yielded key value) s = record { follows = s.follows; aims = tt }
+walks_on old new f g (Decided reply) s = record { follows = s.follows; aims = tt }
+walks_on old new f g (Refused e) s = record { follows = s.follows; aims = tt }
+
 module _ {P M : Type 0} (store : P → Store) (meant : M → Merge) (old : DbValue P M) (db : IsDb store old) (q : P) (queues : QueuesValue) (keeps : Becomes (queue_at old.queues) old.queues.given queues) where
   abbrev new : DbValue P M
   new = record old { pages = q; queues = queues }
@@ -123,7 +130,7 @@ module _ {P M : Type 0} (store : P → Store) (meant : M → Merge) (old : DbVal
     abbrev Flown : Went → InFlight → Type 0
     Flown went g = DbStepContract store meant old f went new g × IsDb store new
 
-    follows_scan : (went : Went) (g : InFlight) → ScanStep FollowsOn (store old.pages) f went (store q) g → follows_as (range_of f.job.call) (store old.pages) f went (store q) g
+    follows_scan : (went : Went) (g : InFlight) → ScanStep WalksOn (store old.pages) f went (store q) g → follows_as (range_of f.job.call) (store old.pages) f went (store q) g
     follows_scan went g s = subst (λ r. follows_as r (store old.pages) f went (store q) g) (sym scan) s
 
     -- the map now, and the range from where the scan goes on
@@ -170,7 +177,7 @@ module _ {P M : Type 0} (store : P → Store) (meant : M → Merge) (old : DbVal
         let moves : StageActionBy (Only (operator store meant old db f must)) (course_of f) (store old.pages) f.stage (sequel.Go g.stage) (store q) = goes_any a.3 in
         let m = a.3.is (numbers_of old.trees) (given_to old.trees_given) db.forest db.is (named_now store meant old db f must) (known.is db.forest db.is) in
         let reads = reads_way g way a.0 a.1 s.follows.is m.0 m.1.is m.2.0 m.2.1 in
-        let follows = follows_scan Moved g (Walks Moved (store q) g way begun s.follows) in (
+        let follows = follows_scan Moved g (Walks Moved (store q) g way begun (walks_on (store old.pages) (store q) f g Moved s)) in (
           flies_moved store meant old db f must q queues known fits g a.0 a.1 a.2 moves (λ path. s.passes) follows keeps reads,
           moved_db store meant old db f must q queues known fits g a.0 a.1 a.2 moves (λ path. s.passes) follows keeps reads,
         )
@@ -182,7 +189,7 @@ module _ {P M : Type 0} (store : P → Store) (meant : M → Merge) (old : DbVal
         let moves : StageActionBy (Only (operator store meant old db f must)) (course_of f) (store old.pages) f.stage (sequel.Refused e) (store q) = refuses_any s.advances.is in
         let quietly = refuses_quietly e (store old.pages) (store q) s.advances.is.touches in
         let cause = λ (slots : ℕ → Option CallInFlight) (given : ℕ). cause_is (state_of store meant old slots given) (call_in_flight_of f) e (store old.pages) (store q) s.advances.is.touches in
-        let follows = follows_scan (Refused e) g (Walks (Refused e) (store q) g way begun s.follows) in (
+        let follows = follows_scan (Refused e) g (Walks (Refused e) (store q) g way begun (walks_on (store old.pages) (store q) f g (Refused e) s)) in (
           flies_refused store meant old db f must q queues known fits g e moves quietly cause follows keeps,
           refused_db store meant old db f must q queues known fits g e moves quietly cause follows keeps,
         )
@@ -198,7 +205,7 @@ module _ {P M : Type 0} (store : P → Store) (meant : M → Merge) (old : DbVal
       left = rests.is (numbers_of old.trees) (given_to old.trees_given) db.forest db.is (named_now store meant old db f must) (known.is db.forest db.is)
 
       short_follows : (g : InFlight) (a : Giving) → f.stage ≡ stage.Give a → follows_as (range_of f.job.call) (store old.pages) f (Refused error.NoMemory) (store q) g
-      short_follows g a here = follows_scan (Refused error.NoMemory) g (subst (λ s. ScanStep FollowsOn (store old.pages) f (Refused error.NoMemory) s g) (sym same) (Lacks a g here))
+      short_follows g a here = follows_scan (Refused error.NoMemory) g (subst (λ s. ScanStep WalksOn (store old.pages) f (Refused error.NoMemory) s g) (sym same) (Lacks a g here))
 
       still_db : (g : InFlight) → follows_as (range_of f.job.call) (store old.pages) f (Refused error.NoMemory) (store q) g → IsDb store new
       still_db g follows = refused_db store meant old db f must q queues known fits g error.NoMemory rests same (λ slots given. tt) follows keeps
@@ -259,7 +266,7 @@ module _ {P M : Type 0} (store : P → Store) (meant : M → Merge) (old : DbVal
             };
             sound = record { keeps = λ d. still_db f (short_follows f a here) };
             does = record { does = same; quiet = λ k. absurd (apart k.reply k.decided); loud = λ event k. absurd (apart k.reply k.decided) };
-            follows = λ must fits. follows_scan (Yielded key value) gone_on (subst (λ s. ScanStep FollowsOn (store old.pages) f (Yielded key value) s gone_on) (sym same) (Gives a key value more here waits));
+            follows = λ must fits. follows_scan (Yielded key value) gone_on (subst (λ s. ScanStep WalksOn (store old.pages) f (Yielded key value) s gone_on) (sym same) (Gives a key value more here waits));
             passes = λ path. absurd (subst IsOnItsWay here (subst (λ r. has_path r f.stage) scan path));
             loses = loses_acting (at store meant old db) after db.forest left.0 db.is left.1;
             leaves = λ v is. no_pages v (stage.Give (record a { given = a.given + 1 })) none_owned;
@@ -289,7 +296,7 @@ module _ {P M : Type 0} (store : P → Store) (meant : M → Merge) (old : DbVal
             ∙ ap (λ (a : Answer). put_name (trees_of (now (store old.pages))) f.job.tree.name (Some a.map)) (sym quiet)
 
         follows_end : follows_as (range_of f.job.call) (store old.pages) f (Decided End) (store q) g
-        follows_end = follows_scan (Decided End) g (subst (λ s. ScanStep FollowsOn (store old.pages) f (Decided End) s g) (sym same) (Ends g between waits done))
+        follows_end = follows_scan (Decided End) g (subst (λ s. ScanStep WalksOn (store old.pages) f (Decided End) s g) (sym same) (Ends g between waits done))
 
         ends_db : IsDb store new
         ends_db = is_db store meant old db f must q queues known left.0 left.1 (subst IsCrashConsistent (sym same) db.safe) (ap (λ (s : Store). s.mark) same) (calm_still store meant old db f must q queues known keeps)
@@ -392,7 +399,7 @@ module _ {P M : Type 0} (store : P → Store) (meant : M → Merge) (old : DbVal
       } in
       let w = walked store meant old db q queues keeps (behind f a range) must k fits range scan went g tt (λ root. ap is_read (scanning.behind_rest f a range here scan more) ∙ more) steps in (
         from_behind store meant old (record old { pages = q; queues = queues }) f g went range scan a here waits more
-            (subst (λ o. follows_as o (store old.pages) f went (store q) g) (sym scan) (GoesOn a range went (store q) g here scan waits more steps.follows)) w.0,
+            (subst (λ o. follows_as o (store old.pages) f went (store q) g) (sym scan) (GoesOn a range went (store q) g here scan waits more (walks_on (store old.pages) (store q) (behind f a range) g went steps))) w.0,
         w.1,
       )
 

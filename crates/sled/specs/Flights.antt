@@ -115,10 +115,20 @@ pub record DbActs {P M : Type 0} (store : P → Store) (meant : M → Merge) (ol
   pub quiet : BringsEvent store meant old f went None → store new.pages ≡ store old.pages
   pub loud : (event : Event) → BringsEvent store meant old f went (Some event) → ActsOnce (store old.pages) (store new.pages)
 
+-- a scan that goes on aims where it aimed
+abbrev pub keeps_aim : Went → InFlight → InFlight → Type 0
+keeps_aim Moved f g = g.aim ≡ f.aim
+keeps_aim other f g = Unit {0}
+
+-- a scan on its way leads where its stage does, and aims where it aimed
+pub record WalksOn (old : Store) (f : InFlight) (went : Went) (new : Store) (g : InFlight) : Type 0 where
+  pub follows : FollowsOn old f went new g
+  pub aims : keeps_aim went f g
+
 -- a step of a call on a key leads where its stage does, and one of a scan where its range and its leaf do
 abbrev pub follows_as : Option Range → Store → InFlight → Went → Store → InFlight → Type 0
 follows_as None old f went new g = FollowsOn old f went new g
-follows_as (Some range) old f went new g = ScanStep FollowsOn old f went new g
+follows_as (Some range) old f went new g = ScanStep WalksOn old f went new g
 
 -- if the tests pass and a turn is left, the step does what the call's stage is to do, and leads where that leads
 abbrev pub DbFollows : {P M : Type 0} → (P → Store) → (M → Merge) → DbValue P M → InFlight → Went → DbValue P M → InFlight → Type 0
