@@ -51,6 +51,7 @@ use Rattle.sled_shared.specs.Crashes.{LeadsNoMore}
 use Rattle.sled_shared.specs.History.{IsLegal, NoEntries, MakesPoint, ids_made, maps_from}
 use Rattle.sled_shared.specs.Made.{MadeValue, PointMade, WholeMade}
 use Rattle.sled_shared.specs.Notes.{noted_in}
+use Rattle.sled_shared.specs.Moments.{LastMoment}
 use Rattle.sled_shared.specs.Sound.{CrashLeaves, maps_now}
 use Rattle.sled_shared.specs.WholeNotes.{noted_whole, noted_with}
 use Rattle.sled_shared.specs.Wholes as value
@@ -58,6 +59,7 @@ use Rattle.sled_shared.proofs.Fetching.{point_made}
 use Rattle.sled_shared.proofs.Ids.{longer_rises, none_risen, step_risen, begun_risen, abandoned_risen, came_risen, parts_ids}
 use Rattle.sled_shared.proofs.Legal.{maps_same}
 use Rattle.sled_shared.proofs.Opening.{opened}
+use Rattle.sled_shared.proofs.Moments.{GoesOn}
 use Rattle.sled_shared.proofs.Leading.{Ends, tested, adds, goes, matched, led, ends, still, rests, none_added, step_leaves, begun_leaves, unbegun_leaves, abandon_leaves, entry, decided_whole, group_stops, import_refused, refused_whole, legal_of}
 use Rattle.sled_shared.proofs.WholeMakes.{have_maps, writes, parts}
 use Rattle.sled_shared.proofs.WholeTests.{pass_each}
@@ -125,7 +127,7 @@ module _ {P M : Type 0} (store : P → Store) (number : P → ℕ) (meant : M �
 
     -- what a crash may leave, where nothing of before the opening is forgotten
     abbrev Along : MachineValue P M → List MadeValue → Type 0
-    Along b made = (c : CrashLeaves store b opening (owned made)) × (c.earlier ≡ r.crashes.earlier)
+    Along b made = (c : CrashLeaves store b opening (owned made)) × (c.earlier ≡ r.crashes.earlier) × GoesOn r.crashes.moments c.moments
 
     recorded : (b : MachineValue P M) (made : List MadeValue) → Along b (before ++ made) → RiseBetween 0 (ids_made (owned (before ++ made))) b.db.greatest_id → Records b made
     recorded b made c i = record { legal = legal_of c.0; crashes = c.0; begins = c.1 ∙ r.begins; ids = i }
@@ -311,6 +313,8 @@ module _ {P M : Type 0} (store : P → Store) (d : DbValue P M) (sound : IsDb st
       last = maps_from opening;
       left = earlier ++ maps_from opening ∷ [];
       leads = LeadsNoMore;
+      moments = maps_from opening ∷ [];
+      are = LastMoment;
       now = λ o. begins_now;
       leaves = record { is = subst (λ x. StutterEquivalent x (earlier ++ maps_from opening ∷ [])) (sym (before ∙ ap (λ x. earlier ++ x ∷ []) (sym in_pages))) (matches_same (earlier ++ maps_from opening ∷ [])) };
     };

@@ -32,7 +32,8 @@ use Rattle.sled_shared.specs.WholeNotes.{NotesWhole}
 use Rattle.sled_shared.specs.Wholes as value
 use Rattle.sled_shared.specs.theory.Transacting.{is_decided, is_undecided, GroupMade, GroupRefused, GroupUnmade}
 use Rattle.sled_shared.proofs.Ids.{came_risen, longer_rises, whole_risen}
-use Rattle.sled_shared.proofs.Leading.{adds, led, whole_leaves, legal_of, leads_of}
+use Rattle.sled_shared.proofs.Moments.{GoesOn}
+use Rattle.sled_shared.proofs.Leading.{GoesTo, adds, led, whole_leaves, legal_of, leads_of}
 use Rattle.sled_shared.proofs.Legal.{maps_same}
 use Rattle.sled_shared.proofs.WholeMakes.{makes}
 
@@ -55,8 +56,8 @@ module _ {P M : Type 0} (store : P → Store) (number : P → ℕ) (meant : M �
 
 module _ {P M : Type 0} (store : P → Store) (number : P → ℕ) (meant : M → Merge) (a b : MachineValue P M) (opening : List Content) (history longer : List EntryValue) (before after : ℕ) (h : IsState store a opening history before) (counted : length longer ≡ after) (n : ℕ) (group : Vec (Tree × Writes)) where
   -- where it was made
-  made_state : GroupMade store number meant a group b → longer ≡ history ++ entries_of n (transaction_made (maps_of (db_state store meant a.db)) group.items ∷ []) → IsState store b opening longer after
-  made_state g e = record { legal = legal_of crashes; leads = leads_of crashes; crashes = crashes; ids = ids; counted = counted }
+  made_state : GroupMade store number meant a group b → longer ≡ history ++ entries_of n (transaction_made (maps_of (db_state store meant a.db)) group.items ∷ []) → GoesTo h b longer after
+  made_state g e = (record { legal = legal_of crashes.0; leads = leads_of crashes.0; crashes = crashes.0; ids = ids; counted = counted }, crashes.2)
     where
       A : State
       A = (configuration_of store number meant a).state
@@ -77,8 +78,8 @@ module _ {P M : Type 0} (store : P → Store) (number : P → ℕ) (meant : M �
       left : AreCrashMaps (store b.db.pages) (h.crashes.left ++ maps_of B ∷ [])
       left = subst (λ x. AreCrashMaps (store b.db.pages) (h.crashes.left ++ x)) decides.added (g.step.step.keeps h.crashes.left h.crashes.leaves)
 
-      crashes : CrashLeaves store b opening longer
-      crashes = (adds store number meant a b opening history h.crashes longer n v (maps_of B) (maps_of B ∷ []) e made refl (λ o. maps_same store meant b number) left).0
+      crashes : (c : CrashLeaves store b opening longer) × (c.earlier ≡ h.crashes.earlier) × GoesOn h.crashes.moments c.moments
+      crashes = adds store number meant a b opening history h.crashes longer n v (maps_of B) (maps_of B ∷ []) e made refl (λ o. maps_same store meant b number) left
 
       ids : RiseBetween 0 (ids_made longer) b.db.greatest_id
       ids = longer_rises 0 a.db.greatest_id b.db.greatest_id history (entries_of n (v ∷ [])) longer e h.ids (came_risen store number meant a b n (Group group) (outcome.Decided g.reply) g.step.step.maps 0 decides)
@@ -89,20 +90,20 @@ module _ {P M : Type 0} (store : P → Store) (number : P → ℕ) (meant : M �
   refused_notes (outcome.Refused x) u s e = record { noted = []; comes = inl (record { step = s; number = 0; counts = record { is = refl }; notes = refl }); adds = e; adds_there = refl }
   refused_notes other u s e = absurd s.step.step.is
 
-  refused_state : (o : Outcome) → NotesWhole store number meant a history n [] (Group group) o b longer [] → IsState store b opening longer after
+  refused_state : (o : Outcome) → NotesWhole store number meant a history n [] (Group group) o b longer [] → GoesTo h b longer after
   refused_state o notes =
-      let crashes = (whole_leaves store number meant a b opening history h.crashes n longer [] [] (Group group) o notes).0 in
-      record { legal = legal_of crashes; leads = leads_of crashes; crashes = crashes; ids = whole_risen store number meant a b n history longer [] [] (Group group) o notes h.ids; counted = counted }
+      let crashes = whole_leaves store number meant a b opening history h.crashes n longer [] [] (Group group) o notes in
+      (record { legal = legal_of crashes.0; leads = leads_of crashes.0; crashes = crashes.0; ids = whole_risen store number meant a b n history longer [] [] (Group group) o notes h.ids; counted = counted }, crashes.2)
 
-  unmade_state : GroupUnmade store number meant a group b → longer ≡ history ++ [] → IsState store b opening longer after
-  unmade_state (inl same) e = record { legal = m.legal; leads = m.leads; crashes = m.crashes; ids = m.ids; counted = counted }
+  unmade_state : GroupUnmade store number meant a group b → longer ≡ history ++ [] → GoesTo h b longer after
+  unmade_state (inl same) e = (record { legal = m.0.legal; leads = m.0.leads; crashes = m.0.crashes; ids = m.0.ids; counted = counted }, m.1)
     where
-      m : IsState store b opening longer before
-      m = subst (λ l. IsState store b opening l before) (sym (e ∙ append-nil history)) (subst (λ (x : MachineValue P M). IsState store x opening history before) (sym same) h)
+      m : GoesTo h b longer before
+      m = subst (λ l. GoesTo h b l before) (sym (e ∙ append-nil history)) (subst (λ (x : MachineValue P M). GoesTo h x history before) (sym same) (h, λ i m there. there))
   unmade_state (inr g) e = refused_state g.outcome (refused_notes g.outcome g.undecided g.step e)
 
   -- a group, whether it was made or not
   pub grouped_state : (r : Result (Unit {0}) Error) (noted : List MadeValue) → OnOk r (GroupMade store number meant a group b) → OnOk r (noted ≡ transaction_made (maps_of (db_state store meant a.db)) group.items ∷ [])
-      → OnErr r (GroupUnmade store number meant a group b) → OnErr r (noted ≡ []) → longer ≡ history ++ entries_of n noted → IsState store b opening longer after
+      → OnErr r (GroupUnmade store number meant a group b) → OnErr r (noted ≡ []) → longer ≡ history ++ entries_of n noted → GoesTo h b longer after
   grouped_state (Ok x) noted made notes unmade none e = made_state made (e ∙ ap (λ m. history ++ entries_of n m) notes)
   grouped_state (Err x) noted made notes unmade none e = unmade_state unmade (e ∙ ap (λ m. history ++ entries_of n m) none)

@@ -50,6 +50,7 @@ use Rattle.sled_calls.specs.Values.{MachineValue, configuration_of, slots_of}
 use Rattle.sled_calls.proofs.Runs.{extended}
 use Rattle.sled_shared.specs.Crashes.{TakesThrough, TakesNoMore, TakesOneMore, MakesThrough, MakesNoMore, MakesOneMore, whole_through, through_as, left_by_whole, left_by, LeadsThrough, LeadsNoMore, LeadsOneMore}
 use Rattle.sled_shared.specs.History.{MakesPoint, makes_as, IsLegal, NoEntries, OneEntry, maps_from}
+use Rattle.sled_shared.specs.Moments.{AreMoments, LastMoment}
 use Rattle.sled_shared.specs.Made.{EntryValue, MadeValue, PointMade, WholeMade, PartsMade, ReadMade, TransactionMade, whole_value}
 use Rattle.sled_shared.specs.Notes.{entries_of, noted_as, noted_in}
 use Rattle.sled_shared.specs.Sound.{IsOpen, maps_now, Leads, CrashLeaves, IsState}
@@ -59,6 +60,7 @@ use Rattle.sled_shared.specs.Wholes.{WholeValue}
 use Rattle.sled_shared.specs.Wholes as value
 use Rattle.sled_shared.proofs.Ids.{begun_risen, abandoned_risen, none_risen}
 use Rattle.sled_shared.proofs.Opening.{opened}
+use Rattle.sled_shared.proofs.Moments.{GoesOn, moments_more, more_goes_on}
 use Rattle.sled_shared.proofs.Legal.{point, scan_keeps, put_same, maps_same}
 use Rattle.sled_shared.proofs.WholeMakes.{after_maps, there_map, makes, removes, removes_open, part, parts}
 
@@ -231,9 +233,9 @@ module _ {P M : Type 0} (store : P → Store) (number : P → ℕ) (meant : M �
   abbrev C : State
   C = state_of store meant b.db (slots_of a.flights) a.slots_given
 
-  -- .. and of the maps that a crash might have left before the opening none is forgotten
+  -- .. and of the maps that a crash might have left before the opening none is forgotten, nor of those at the moments so far
   abbrev Leaves : List EntryValue → Type 0
-  Leaves longer = (c : CrashLeaves store b opening longer) × (c.earlier ≡ l.earlier)
+  Leaves longer = (c : CrashLeaves store b opening longer) × (c.earlier ≡ l.earlier) × GoesOn l.moments c.moments
 
   abbrev Are : List Maps → Type 0
   Are maps = AreCrashMaps (store b.db.pages) maps
@@ -257,10 +259,13 @@ module _ {P M : Type 0} (store : P → Store) (number : P → ℕ) (meant : M �
       last = new;
       left = left_by v through l.left;
       leads = subst (λ es. LeadsThrough (maps_from opening) (l.earlier ++ maps_from opening ∷ []) es new (left_by v through l.left)) (sym e) (leads_more l.leads (record { by = n; made = v }) through made led);
+      moments = l.moments ++ new ∷ [];
+      are = subst (λ es. AreMoments (maps_from opening) es new (l.moments ++ new ∷ [])) (sym e) (moments_more l.are (record { by = n; made = v }) made);
       now = at;
       leaves = leaves;
     },
     refl,
+    more_goes_on l.moments (new ∷ []),
   )
 
   -- .. or none
@@ -271,10 +276,13 @@ module _ {P M : Type 0} (store : P → Store) (number : P → ℕ) (meant : M �
       last = l.last;
       left = l.left;
       leads = subst (λ es. LeadsThrough (maps_from opening) (l.earlier ++ maps_from opening ∷ []) es l.last l.left) (sym (e ∙ append-nil history)) l.leads;
+      moments = l.moments;
+      are = subst (λ es. AreMoments (maps_from opening) es l.last l.moments) (sym (e ∙ append-nil history)) l.are;
       now = at;
       leaves = leaves;
     },
     refl,
+    λ i m there. there,
   )
 
   -- where no map changes
@@ -515,23 +523,27 @@ legal_of {opening = opening} {history = history} c o = subst (λ m. IsLegal (map
 pub leads_of : {P M : Type 0} {store : P → Store} {m : MachineValue P M} {opening : List Content} {history : List EntryValue} → CrashLeaves store m opening history → Leads opening history
 leads_of c = record { last = c.last; legal = leads_legal c.leads }
 
+-- it holds of the state after, whose moments go on from those before
+abbrev pub GoesTo : {P M : Type 0} {store : P → Store} {a : MachineValue P M} {opening : List Content} {history : List EntryValue} {before : ℕ} → IsState store a opening history before → MachineValue P M → List EntryValue → ℕ → Type 0
+GoesTo {store = store} {opening = opening} h b longer after = (n : IsState store b opening longer after) × GoesOn h.crashes.moments n.crashes.moments
+
 -- what holds of a state after a begin, and after a call was given up
 module _ {P M : Type 0} (store : P → Store) (number : P → ℕ) (meant : M → Merge) (a b : MachineValue P M) where
   pub begin_state : (opening : List Content) (history : List EntryValue) (total : ℕ) (tree : Tree) (call : Call) (r : Result ℕ Error)
       → IfOk r (λ slot. MachineStepContract store number meant a (step.Begin tree call) (outcome.Begun slot) b) → IfErr r (λ e. MachineStepContract store number meant a (step.Begin tree call) (outcome.Refused e) b)
-      → IsState store a opening history total → IsState store b opening history total
+      → (h : IsState store a opening history total) → GoesTo h b history total
   begin_state opening history total tree call (Ok slot) ok err h =
-      let crashes = (begun_leaves store number meant a b opening history h.crashes tree call slot ok.step).0 in
-      record { legal = legal_of crashes; leads = leads_of crashes; crashes = crashes; ids = begun_risen store number meant a b tree call (outcome.Begun slot) ok.step.maps history ok.step.step.is h.ids; counted = h.counted }
+      let c = begun_leaves store number meant a b opening history h.crashes tree call slot ok.step in
+      (record { legal = legal_of c.0; leads = leads_of c.0; crashes = c.0; ids = begun_risen store number meant a b tree call (outcome.Begun slot) ok.step.maps history ok.step.step.is h.ids; counted = h.counted }, c.2)
   begin_state opening history total tree call (Err x) ok err h =
-      let crashes = (unbegun_leaves store number meant a b opening history h.crashes tree call x err.step).0 in
-      record { legal = legal_of crashes; leads = leads_of crashes; crashes = crashes; ids = begun_risen store number meant a b tree call (outcome.Refused x) err.step.maps history err.step.step.is h.ids; counted = h.counted }
+      let c = unbegun_leaves store number meant a b opening history h.crashes tree call x err.step in
+      (record { legal = legal_of c.0; leads = leads_of c.0; crashes = c.0; ids = begun_risen store number meant a b tree call (outcome.Refused x) err.step.maps history err.step.step.is h.ids; counted = h.counted }, c.2)
 
   pub abandon_state : (opening : List Content) (history : List EntryValue) (total slot : ℕ) (o : Outcome)
-      → MachineStepContract store number meant a (step.Abandon slot) o b → IsState store a opening history total → IsState store b opening history total
+      → MachineStepContract store number meant a (step.Abandon slot) o b → (h : IsState store a opening history total) → GoesTo h b history total
   abandon_state opening history total slot o c h =
-      let crashes = (abandon_leaves store number meant a b opening history h.crashes slot o c.step).0 in
-      record { legal = legal_of crashes; leads = leads_of crashes; crashes = crashes; ids = abandoned_risen store number meant a b slot o c.step.maps history c.step.step.is h.ids; counted = h.counted }
+      let l = abandon_leaves store number meant a b opening history h.crashes slot o c.step in
+      (record { legal = legal_of l.0; leads = leads_of l.0; crashes = l.0; ids = abandoned_risen store number meant a b slot o c.step.maps history c.step.step.is h.ids; counted = h.counted }, l.2)
 
 -- ---- the beginning
 
@@ -545,6 +557,8 @@ first_leaves store m opening history opens same pages none =
       last = maps_from opening;
       left = map trees_of before.0 ++ maps_from opening ∷ [];
       leads = subst (λ es. LeadsThrough (maps_from opening) (map trees_of before.0 ++ maps_from opening ∷ []) es (maps_from opening) (map trees_of before.0 ++ maps_from opening ∷ [])) (sym none) LeadsNoMore;
+      moments = maps_from opening ∷ [];
+      are = subst (λ es. AreMoments (maps_from opening) es (maps_from opening) (maps_from opening ∷ [])) (sym none) LastMoment;
       now = λ o. same;
       leaves = record {
         is = subst (λ x. StutterEquivalent x (map trees_of before.0 ++ maps_from opening ∷ []))

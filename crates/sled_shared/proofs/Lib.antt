@@ -6,6 +6,7 @@ pub mod Once
 pub mod Equal
 pub mod WholeMakes
 pub mod WholeTests
+pub mod Moments
 pub mod Leading
 pub mod WholeAdds
 pub mod Fetching
@@ -21,3 +22,7 @@ pub mod ReadMakes
 pub mod Replying
 pub mod Scanning
 pub mod Copied
+pub mod UnderWay
+pub mod Gave
+pub mod ScanSteps
+pub mod ScanStates

@@ -30,7 +30,8 @@ use Rattle.sled_shared.specs.declared.read.Read.{Read}
 use Rattle.sled_shared.specs.declared.read.Read.TheVariants as read
 use Rattle.sled_shared.specs.theory.Reading.{NotesRead, ReadsNow}
 use Rattle.sled_shared.proofs.Ids.{longer_rises}
-use Rattle.sled_shared.proofs.Leading.{adds, rests, once_more, legal_of, leads_of}
+use Rattle.sled_shared.proofs.Moments.{GoesOn}
+use Rattle.sled_shared.proofs.Leading.{GoesTo, adds, rests, once_more, legal_of, leads_of}
 use Rattle.sled_shared.proofs.Legal.{maps_same}
 use Rattle.sled_shared.proofs.Opening.{opened}
 use Rattle.sled_shared.proofs.Parts.{page_part}
@@ -97,36 +98,36 @@ notes_read store m reads x noted r e = inr (reads x, e, r)
 -- ---- states
 
 module _ {P M : Type 0} (store : P → Store) (number : P → ℕ) (meant : M → Merge) (m : MachineValue P M) (opening : List Content) (history longer : List EntryValue) (before after : ℕ) (h : IsState store m opening history before) (counted : length longer ≡ after) where
-  crashes_read : (n : ℕ) (it : Read) → ReadsNow store m it → longer ≡ history ++ entries_of n (ReadMade it ∷ []) → CrashLeaves store m opening longer
+  crashes_read : (n : ℕ) (it : Read) → ReadsNow store m it → longer ≡ history ++ entries_of n (ReadMade it ∷ []) → (c : CrashLeaves store m opening longer) × (c.earlier ≡ h.crashes.earlier) × GoesOn h.crashes.moments c.moments
   crashes_read n it r e =
       let l = h.crashes in
-      (adds store number meant m m opening history l longer n (ReadMade it) l.last (l.last ∷ []) e
+      adds store number meant m m opening history l longer n (ReadMade it) l.last (l.last ∷ []) e
       (subst (λ maps. reads_as maps it) (sym (l.now r.opens)) r.tells, refl)
       refl
       l.now
-      (once_more store number meant m m opening history l l.last refl l.leaves)).0
+      (once_more store number meant m m opening history l l.last refl l.leaves)
 
-  crashes_none : longer ≡ history ++ [] → CrashLeaves store m opening longer
-  crashes_none e = (rests store number meant m m opening history h.crashes longer e h.crashes.now h.crashes.leaves).0
+  crashes_none : longer ≡ history ++ [] → (c : CrashLeaves store m opening longer) × (c.earlier ≡ h.crashes.earlier) × GoesOn h.crashes.moments c.moments
+  crashes_none e = rests store number meant m m opening history h.crashes longer e h.crashes.now h.crashes.leaves
 
   -- after a read, whether it was noted or not
-  pub read_state : (n : ℕ) (noted : List MadeValue) → NotesRead store m noted → longer ≡ history ++ entries_of n noted → IsState store m opening longer after
+  pub read_state : (n : ℕ) (noted : List MadeValue) → NotesRead store m noted → longer ≡ history ++ entries_of n noted → GoesTo h m longer after
   read_state n noted (inl none) e =
       let crashes = crashes_none (e ∙ ap (λ l. history ++ entries_of n l) none) in
-      record {
-        legal = legal_of crashes;
-        leads = leads_of crashes;
-        crashes = crashes;
+      (record {
+        legal = legal_of crashes.0;
+        leads = leads_of crashes.0;
+        crashes = crashes.0;
         ids = longer_rises 0 m.db.greatest_id m.db.greatest_id history [] longer (e ∙ ap (λ l. history ++ entries_of n l) none) h.ids (at_most _ _ refl);
         counted = counted;
-      }
+      }, crashes.2)
   read_state n noted (inr r) e =
       let longer_is = e ∙ ap (λ l. history ++ entries_of n l) r.1 in
       let crashes = crashes_read n r.0 r.2 longer_is in
-      record {
-        legal = legal_of crashes;
-        leads = leads_of crashes;
-        crashes = crashes;
+      (record {
+        legal = legal_of crashes.0;
+        leads = leads_of crashes.0;
+        crashes = crashes.0;
         ids = longer_rises 0 m.db.greatest_id m.db.greatest_id history (entries_of n (ReadMade r.0 ∷ [])) longer longer_is h.ids (at_most _ _ refl);
         counted = counted;
-      }
+      }, crashes.2)

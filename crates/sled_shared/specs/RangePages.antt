@@ -4,6 +4,8 @@ use Rattle.std.specs.Option.{option_map}
 use Rattle.std.specs.declared.ops.Bound.{Bound}
 use Rattle.std.specs.declared.ops.Bound.TheVariants.{Excluded}
 use Rattle.sled_nodes.specs.Order.{Key, Below}
+use Rattle.sled_nodes.specs.declared.error.Error.{Error}
+use Rattle.sled_nodes.specs.declared.error.Error.TheVariants.{NoMemory}
 use Rattle.sled_shared.specs.Made.{MadeValue, ReadMade}
 use Rattle.sled_shared.specs.Reads.{IsPart, is_within}
 use Rattle.sled_shared.specs.declared.range_pages.RangePages.{RangePages}
@@ -45,7 +47,15 @@ pub record GivesPage (old : RangePages) (pairs : List (Key × Key)) (new : Range
   pub rest : new ≡ behind old pairs
   pub adds : more ≡ made ++ page_made old pairs ∷ []
 
--- It is refused, and is next still. Where that is for want of memory after it was read, it comes to the list
-pub record RefusesPage (old new : RangePages) (made more : List MadeValue) : Type 0 where
+-- A page was read, as a part of what was left of the range, and there was no memory to go behind it
+pub record LacksMemory (old : RangePages) (made more : List MadeValue) (e : Error) : Type 0 where
+  pub cause : e ≡ NoMemory
+  pub pairs : List (Key × Key)
+  pub part : IsPart old.lo old.hi old.back old.most pairs
+  pub adds : more ≡ made ++ page_made old pairs ∷ []
+
+-- Before the range has ended a page is refused, and is next still. Nothing comes to the list, but what was read before memory was wanting
+pub record RefusesPage (old new : RangePages) (made more : List MadeValue) (e : Error) : Type 0 where
+  pub unended : old.ended ≡ false
   pub same : new ≡ old
-  pub adds : (more ≡ made) ⊎ ((pairs : List (Key × Key)) × (more ≡ made ++ page_made old pairs ∷ []))
+  pub adds : (more ≡ made) ⊎ LacksMemory old made more e

@@ -11,6 +11,8 @@ use Rattle.sled_calls.specs.Values.{MachineValue}
 use Rattle.sled_shared.specs.Made.{EntryValue}
 use Rattle.sled_shared.specs.Crashes.{LeadsThrough}
 use Rattle.sled_shared.specs.History.{IsLegal, maps_from, ids_made}
+use Rattle.sled_shared.specs.Moments.{AreMoments}
+use Rattle.sled_shared.specs.Scanned.{AreScanned}
 use Rattle.sled_shared.specs.Values.{StateValue}
 
 -- the database is open
@@ -34,6 +36,9 @@ pub record CrashLeaves {P M : Type 0} (store : P → Store) (m : MachineValue P 
   pub last : Maps
   pub left : List Maps
   pub leads : LeadsThrough (maps_from opening) (earlier ++ maps_from opening ∷ []) history last left
+  -- the maps at each moment of the history
+  pub moments : List Maps
+  pub are : AreMoments (maps_from opening) history last moments
   pub now : IsOpen store m → last ≡ maps_now store m
   pub leaves : AreCrashMaps (store m.db.pages) left
 
@@ -57,6 +62,15 @@ HasHistory s = Leads s.opening s.history
 -- .. and what a crash may leave of its database goes along with it
 abbrev pub HasCrashMaps : {P M : Type 0} → (P → Store) → StateValue P M → Type 0
 HasCrashMaps store s = CrashLeaves store s.machine s.opening s.history
+
+-- .. and by the maps at each moment of its history, the last of which are the maps now while the database is open, each scan whose begin was noted
+-- gave what scans give
+pub record HasScans {P M : Type 0} (store : P → Store) (s : StateValue P M) : Type 0 where
+  pub moments : List Maps
+  pub last : Maps
+  pub are : AreMoments (maps_from s.opening) s.history last moments
+  pub now : IsOpen store s.machine → last ≡ maps_now store s.machine
+  pub gave : AreScanned moments s.scans.notes
 
 -- the ids in its history rise, up to the greatest that the database gave
 abbrev pub HasRisingIds : {P M : Type 0} → StateValue P M → Type 0

@@ -58,6 +58,7 @@ impl<P: Pages, L: Ledger, M: MergeOperator> State<P, L, M> {
         ensures left { IfSome result.1 (λ left. left ≡ jobs) }
         ensures ended { IfNone result.1 (IsEnd result.0) }
     {
+        self.machine.audit();
         let Caller {
             number,
             made,

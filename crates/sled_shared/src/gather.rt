@@ -1,7 +1,7 @@
 //! The state, out of its lock.
 ghost use Rattle.std.specs.Prelude.{◌≡◌, ◌+◌, true, All, IfOk, IfErr, IfSome, length, vec_len};
 ghost use Rattle.sled_model.specs.Collections.{contents_of};
-ghost use Rattle.sled_shared.specs.Sound.{HasCrashMaps, HasHistory, HasLegalHistory, HasRisingIds};
+ghost use Rattle.sled_shared.specs.Sound.{HasCrashMaps, HasHistory, HasLegalHistory, HasRisingIds, HasScans};
 ghost use Rattle.sled_shared.specs.Gathered.{EachOnceBehind, IsMadeIn, IsOfGiven};
 
 use crate::compare::{all_agree, are_all, are_same_collections, has_no_others};
@@ -64,6 +64,7 @@ impl<P: Pages, L: Ledger, M: MergeOperator> Db<P, L, M> {
         ensures legal { IfOk result (HasLegalHistory P.store) }
         ensures leads { IfOk result HasHistory }
         ensures crashes { IfOk result (HasCrashMaps P.store) }
+        ensures scans { IfOk result (HasScans P.store) }
         ensures ids { IfOk result HasRisingIds }
         ensures err { IfErr result (λ e. (e.0 ≡ self) × (e.1 ≡ handles)) }
     {
@@ -93,6 +94,7 @@ impl<P: Pages, L: Ledger, M: MergeOperator> Db<P, L, M> {
         ensures legal { IfOk result (HasLegalHistory P.store) }
         ensures leads { IfOk result HasHistory }
         ensures crashes { IfOk result (HasCrashMaps P.store) }
+        ensures scans { IfOk result (HasScans P.store) }
         ensures ids { IfOk result HasRisingIds }
         ensures err { IfErr result (λ d. d ≡ self) }
     {

@@ -241,6 +241,7 @@ impl<P: Pages, L: Ledger, M: MergeOperator> State<P, L, M> {
         ensures err { OnErr result (me.new.made ≡ me.old.made) }
         ensures number { me.new.number ≡ me.old.number }
     {
+        self.machine.audit();
         let Caller {
             number,
             made,

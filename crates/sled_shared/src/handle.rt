@@ -10,6 +10,7 @@ ghost use Rattle.sled_shared.specs.Fetches.{Fetches};
 ghost use Rattle.sled_shared.specs.Made.{made_values};
 ghost use Rattle.sled_shared.specs.Notes.{AddsStep, IsEnd, IsGivenUp, noted_of};
 ghost use Rattle.sled_shared.specs.Replies.{RepliesTo};
+ghost use Rattle.sled_shared.specs.Steps.{StepsUnderLock};
 ghost use Rattle.sled_shared.specs.WholeNotes.{AddsWhole};
 
 use crate::called::{Stepped, begin_on, step_on};
@@ -100,7 +101,8 @@ impl<P: Pages, L: Ledger, M: MergeOperator> Handle<P, L, M> {
         begun
     }
 
-    /// One step of the call in the slot, whoever began it. A call on a key that it decides becomes this caller's.
+    /// One step of the call in the slot, whoever began it. A call on a key that it decides becomes this caller's. Where it gives a pair of a
+    /// scan, and scans are noted, the pair was in the tree's map at some moment since the scan began.
     ///
     /// ```
     /// let outcome = handle.step(rt, slot);
@@ -108,6 +110,7 @@ impl<P: Pages, L: Ledger, M: MergeOperator> Handle<P, L, M> {
     pub fn step(&mut self, rt: &impl Wait, slot: Slot) -> Outcome
         ensures made { AddsStep result self.old.made self.new.made }
         ensures number { self.new.number ≡ self.old.number }
+        ensures steps { StepsUnderLock P.store P.flush_number M.meant self.old.number slot result }
     {
         let mut guard = self.lock.lock(rt);
         let outcome = step_adding(&mut *guard, &mut self.me, slot);

@@ -1,6 +1,7 @@
 //! Pages of a range, one after the other, each a read of its own.
-ghost use Rattle.std.specs.Prelude.{◌≡◌, false, true, IfOk, IfNone, IfSome, OnOk, OnErr};
+ghost use Rattle.std.specs.Prelude.{◌≡◌, false, true, IfOk, IfErr, IfNone, IfSome, OnOk};
 ghost use Rattle.sled_nodes.specs.Among.{bound_of};
+ghost use Rattle.sled_nodes.specs.declared.error.Error.TheVariants.{NoMemory};
 ghost use Rattle.sled_shared.specs.declared.read.Question.TheVariants as asks;
 
 use crate::handle::Handle;
@@ -47,7 +48,8 @@ impl RangePages {
         back: bool,
         most: usize,
     ) -> Result<RangePages>
-        ensures { IfOk result (λ pages. pages ≡ record { tree = tree.now; lo = bound_of lo.entry; hi = bound_of hi.entry; back = back; most = most; ended = false }) }
+        ensures ok { IfOk result (λ pages. pages ≡ record { tree = tree.now; lo = bound_of lo.entry; hi = bound_of hi.entry; back = back; most = most; ended = false }) }
+        ensures err { IfErr result (λ e. e ≡ NoMemory) }
     {
         let tree = tree.clone()?;
         let lo = match own_bound(alloc, lo) {
@@ -83,7 +85,8 @@ impl RangePages {
 
     // The key of the last pair, if there is one.
     fn key_of_last(pairs: &[(IVec, IVec)]) -> Result<Option<IVec>>
-        ensures { IfOk result (λ key. key ≡ last_key pairs.now) }
+        ensures ok { IfOk result (λ key. key ≡ last_key pairs.now) }
+        ensures err { IfErr result (λ e. e ≡ NoMemory) }
     {
         match pairs.last() {
             Some(pair) => Ok(Some(pair.0.clone()?)),
@@ -110,7 +113,7 @@ impl RangePages {
     // Goes behind the pairs of a page.
     fn pass(&mut self, pairs: &Pairs) -> Result<()>
         ensures ok { OnOk result (self.new ≡ behind self.old pairs.now) }
-        ensures err { OnErr result (self.new ≡ self.old) }
+        ensures err { IfErr result (λ e. (e ≡ NoMemory) × (self.new ≡ self.old)) }
     {
         let pairs = pairs.as_slice();
         let key = RangePages::key_of_last(pairs)?;
@@ -126,7 +129,7 @@ impl RangePages {
     ) -> Result<Pairs>
         requires { self.old.ended ≡ false }
         ensures ok { IfOk result (λ pairs. GivesPage self.old pairs self.new handle.old.made handle.new.made) }
-        ensures err { OnErr result (RefusesPage self.old self.new handle.old.made handle.new.made) }
+        ensures err { IfErr result (RefusesPage self.old self.new handle.old.made handle.new.made) }
         ensures number { handle.new.number ≡ handle.old.number }
     {
         let question = match self.question() {
@@ -147,9 +150,11 @@ impl RangePages {
     }
 
     /// The next page, in one step under the lock, or `None` where the last one was given: one of fewer pairs than there may be, or of none. It
-    /// comes to the end of the handle's list as a read, and begins behind the last key of the page before.
+    /// comes to the end of the handle's list as a read, and begins behind the last key of the page before. After the last page there is only
+    /// `None`.
     ///
-    /// Refused as a read is, and may be asked for again; where there is no memory to go behind it, what was read is in the list all the same.
+    /// Refused as a read is, and may be asked for again. Where there is no memory to go behind it (`NoMemory`), what was read is in the list all
+    /// the same.
     ///
     /// ```
     /// let mut pages = RangePages::new(alloc, &tree, Bound::Unbounded, Bound::Unbounded, false, 10)?;
@@ -167,7 +172,7 @@ impl RangePages {
     ) -> Option<Result<Pairs>>
         ensures none { IfNone result ((self.old.ended ≡ true) × (self.new ≡ self.old) × (handle.new ≡ handle.old)) }
         ensures ok { IfSome result (λ page. IfOk page (λ pairs. GivesPage self.old pairs self.new handle.old.made handle.new.made)) }
-        ensures err { IfSome result (λ page. OnErr page (RefusesPage self.old self.new handle.old.made handle.new.made)) }
+        ensures err { IfSome result (λ page. IfErr page (RefusesPage self.old self.new handle.old.made handle.new.made)) }
         ensures number { handle.new.number ≡ handle.old.number }
     {
         if self.ended {

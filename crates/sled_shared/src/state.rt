@@ -34,13 +34,14 @@ impl<P: Pages, L: Ledger, M> Model for State<P, L, M> {
 
     ghost use Rattle.std.specs.Prelude.{length};
     ghost use Rattle.sled_shared.specs.Scans.{AreInOrder};
+    ghost use Rattle.sled_shared.specs.UnderWay.{MachineScans};
 
-    ghost invariant = { λ s. IsState P.store s.machine (contents_of s.opening.value.items) (entry_values s.history.items) s.calls.total × AreInOrder 0 s.scans.notes (length s.history.items) };
+    ghost invariant = { λ s. (is : IsState P.store s.machine (contents_of s.opening.value.items) (entry_values s.history.items) s.calls.total) × AreInOrder 0 s.scans.notes (length s.history.items) × MachineScans P.store s.machine is.crashes.moments (length (entry_values s.history.items)) s.scans };
 }
 
 impl<P: Pages, L: Ledger, M: MergeOperator> State<P, L, M> {
     ghost use Rattle.std.specs.Prelude.{◌≡◌, ◌<◌};
-    ghost use Rattle.sled_shared.specs.Sound.{HasCrashMaps, HasHistory, HasLegalHistory, HasRisingIds};
+    ghost use Rattle.sled_shared.specs.Sound.{HasCrashMaps, HasHistory, HasLegalHistory, HasRisingIds, HasScans};
 
     /// The machine, lent: its database, its pages and its calls in flight. So whoever holds a state can ask whether its database is open.
     ///
@@ -63,6 +64,7 @@ impl<P: Pages, L: Ledger, M: MergeOperator> State<P, L, M> {
         ensures legal { HasLegalHistory P.store self }
         ensures leads { HasHistory self }
         ensures crashes { HasCrashMaps P.store self }
+        ensures scans { HasScans P.store self }
         ensures ids { HasRisingIds self }
     {
         let Self {

@@ -25,6 +25,7 @@ impl<P: Pages, L: Ledger, M: MergeOperator> State<P, L, M> {
         ensures machine { self.new.machine ≡ self.old.machine }
         ensures scans { self.new.scans ≡ self.old.scans }
     {
+        self.machine.audit();
         let Caller {
             number,
             made,
@@ -50,6 +51,7 @@ impl<P: Pages, L: Ledger, M: MergeOperator> State<P, L, M> {
         ensures machine { self.new.machine ≡ self.old.machine }
         ensures scans { self.new.scans ≡ self.old.scans }
     {
+        self.machine.audit();
         let Caller {
             number,
             made,
@@ -75,6 +77,7 @@ impl<P: Pages, L: Ledger, M: MergeOperator> State<P, L, M> {
         ensures machine { self.new.machine ≡ self.old.machine }
         ensures scans { self.new.scans ≡ self.old.scans }
     {
+        self.machine.audit();
         let Caller {
             number,
             made,

@@ -11,8 +11,8 @@ ghost use Rattle.sled_shared.specs.Made.{entry_values};
 ghost use Rattle.sled_shared.specs.Notes.{AddsStep, IsGivenUp, entries_of, noted_in};
 ghost use Rattle.sled_shared.specs.Replies.{RepliesTo};
 ghost use Rattle.sled_shared.specs.Scans.{AreInOrder, NotesScan, begun_of, noted_at, scanned_of};
-ghost use Rattle.sled_shared.specs.Sound.{HasCrashMaps, HasHistory, HasLegalHistory, HasRisingIds};
-ghost use Rattle.sled_shared.specs.Steps.{SlotStep};
+ghost use Rattle.sled_shared.specs.Sound.{HasCrashMaps, HasHistory, HasLegalHistory, HasRisingIds, HasScans};
+ghost use Rattle.sled_shared.specs.Steps.{SlotStep, StepsUnderLock};
 ghost use Rattle.sled_shared.specs.theory.Fetching.{StaysStill, SwapsNow};
 ghost use Rattle.sled_shared.specs.theory.Noting.{job_pair};
 ghost use Rattle.sled_shared.specs.WholeNotes.{AddsWhole, NotesWhole};
@@ -67,6 +67,7 @@ impl<P: Pages, L: Ledger, M: MergeOperator> State<P, L, M> {
         ensures scans { IfOk result (λ slot. NotesScan self.old.scans (noted_at slot (length self.old.history) (begun_of tree.now call)) self.new.scans) }
         ensures same_scans { OnErr result (self.new.scans ≡ self.old.scans) }
     {
+        self.machine.audit();
         let did = self.scans.begun(tree, &call);
         let begun = self.machine.begin(tree, call);
         self.scans
@@ -92,6 +93,7 @@ impl<P: Pages, L: Ledger, M: MergeOperator> State<P, L, M> {
         ensures opening { self.new.opening ≡ self.old.opening }
         ensures scans { NotesScan self.old.scans (noted_at slot (length self.old.history) (scanned_of result)) self.new.scans }
     {
+        self.machine.audit();
         let at = self.history.len() as u64;
         let Caller {
             number,
@@ -122,6 +124,7 @@ impl<P: Pages, L: Ledger, M: MergeOperator> State<P, L, M> {
         ensures opening { self.new.opening ≡ self.old.opening }
         ensures scans { self.new.scans ≡ self.old.scans }
     {
+        self.machine.audit();
         self.machine.abandon(slot)
     }
 
@@ -141,6 +144,7 @@ impl<P: Pages, L: Ledger, M: MergeOperator> State<P, L, M> {
         ensures opening { self.new.opening ≡ self.old.opening }
         ensures scans { self.new.scans ≡ self.old.scans }
     {
+        self.machine.audit();
         let Caller {
             number,
             made,
@@ -178,6 +182,7 @@ impl<P: Pages, L: Ledger, M: MergeOperator> State<P, L, M> {
         ensures same { self.new.machine ≡ record (self.old.machine) { db = self.new.machine.db } }
         ensures scans { self.new.scans ≡ self.old.scans }
     {
+        self.machine.audit();
         let Caller {
             number,
             made,
@@ -191,6 +196,7 @@ impl<P: Pages, L: Ledger, M: MergeOperator> State<P, L, M> {
             key,
             f,
         );
+        self.machine.audit();
         note_and_count(
             &mut self.history,
             &mut self.calls,
@@ -238,6 +244,7 @@ impl<P: Pages, L: Ledger, M: MergeOperator> State<P, L, M> {
     pub fn scans(&self) -> &[ScanNote]
         ensures notes { result.now ≡ self.now.scans.notes }
         ensures order { AreInOrder 0 result.now (length self.now.history) }
+        ensures gave { HasScans P.store self.now }
     {
         self.scans.notes.as_slice()
     }
@@ -266,6 +273,7 @@ impl<P: Pages, L: Ledger, M: MergeOperator> State<P, L, M> {
         ensures legal { HasLegalHistory P.store self.now }
         ensures leads { HasHistory self.now }
         ensures crashes { HasCrashMaps P.store self.now }
+        ensures scans { HasScans P.store self.now }
         ensures ids { HasRisingIds self.now }
     {
         let _history = &self.history;
@@ -298,10 +306,15 @@ pub(crate) fn step_adding<P: Pages, L: Ledger, M: MergeOperator>(
 ) -> Outcome
     ensures made { AddsStep result me.old.made me.new.made }
     ensures number { me.new.number ≡ me.old.number }
+    ensures steps { StepsUnderLock P.store P.flush_number M.meant me.old.number slot result }
 {
     match held {
         None => Outcome::Refused(Error::Closed),
-        Some(state) => state.step(me, slot),
+        Some(state) => {
+            let outcome = state.step(me, slot);
+            state.audit();
+            outcome
+        }
     }
 }
 
