@@ -17,13 +17,9 @@ use Rattle.sled_tree.specs.declared.flight.InFlight.{InFlight}
 use Rattle.sled.specs.Flights.{call_in_flight_of}
 use Rattle.sled_calls.specs.Step.{MachineStepContract}
 use Rattle.sled_calls.specs.Values.{MachineValue, kept_at, slots_of, configuration_of}
+use Rattle.machine_laws.proofs.Halving.{flying_there}
 use Rattle.machine_laws.specs.Moves.{IsSound, BeginsEmpty, Steps, keeps_aim_as, KeepsAim, MovesInARow, Begins, Moves}
 use Rattle.progress_examples.specs.Turns.{IsOfKeys}
-
--- the call that the model has in a slot is one in flight
-flying_there : (o : Option InFlight) (x : CallInFlight) → option_map call_in_flight_of o ≡ Some x → (f : InFlight) × (o ≡ Some f) × (call_in_flight_of f ≡ x)
-flying_there None x e = none_some e
-flying_there (Some f) x e = (f, refl, some_is e)
 
 module _ {P M : Type 0} (store : P → Store) (number : P → ℕ) (meant : M → Merge) where
   abbrev Keys : MachineValue P M → Type 0
