@@ -33,6 +33,7 @@ use Rattle.sled_tree.specs.declared.flight.Went.TheVariants.{Moved, Yielded, Dec
 use Rattle.tree_progress.proofs.Landing.{aims_low}
 use Rattle.move_laws.specs.Among.{bound_behind, SetsOut}
 use Rattle.move_laws.specs.Meant.{Flight, flight}
+use Rattle.tree_scans.proofs.Stepping.{same_way}
 use Rattle.tree_scans.specs.Scans.{ScanStep, Gives, Ends, GoesOn, Walks, Lacks, aim_behind, behind, range_from, range_up, range_down, rest_in, rest_of}
 use Rattle.sled.specs.Flights.{WalksOn, follows_as, keeps_aim}
 
@@ -49,19 +50,19 @@ pub record SetsOff (old new : Store) (f g : InFlight) : Type 0 where
   pub begins : was ≡ Root → is_up_to course.aim [] ≡ true
 
 -- bounds that give something have the least key below their end
-not_false : (b : Bool) → not b ≡ false → b ≡ true
-not_false true e = refl
-not_false false e = true_false e
-
 above_least : (a b : Key) → not (is_lt (key_cmp a b)) ≡ false → is_lt (key_cmp [] b) ≡ true
-above_least a b e = ap is_lt (upto_below-trans [] a b (least a) (is_less (key_cmp a b) (not_false _ e)))
+above_least a b e = ap is_lt (upto_below-trans [] a b (least a) (is_less (key_cmp a b) (on (is_lt (key_cmp a b)) e)))
+  where
+    on : (t : Bool) → not t ≡ false → t ≡ true
+    on true e = refl
+    on false e = true_false e
 
 low_of : (lo hi : Bound Key) → is_reversed lo hi ≡ false → is_up_to hi [] ≡ true
 low_of lo Unbounded e = refl
 low_of lo (Included b) e = ap not (least b)
 low_of (Included a) (Excluded b) e = above_least a b e
 low_of (Excluded a) (Excluded b) e = above_least a b e
-low_of Unbounded (Excluded b) e = not_false _ e
+low_of Unbounded (Excluded b) e = above_least [] b e
 
 -- where something is left to read behind a leaf
 down_low : (lo : Key) (q : Range) → is_read (range_down lo q) ≡ false → is_up_to (Excluded lo) [] ≡ true
@@ -75,14 +76,6 @@ up_more (b ∷ bs) q e none = cc
 behind_low : (n : Node) (q : Range) (back : Bool) → is_read (cond back (range_down n.lo q) (range_up n.hi q)) ≡ false → (is_up_to (bound_behind n back) [] ≡ true) × (back ≡ false → n.hi ≢ [])
 behind_low n q true e = (down_low n.lo q e, λ off. true_false off)
 behind_low n q false e = (ap not (least n.hi), λ same. up_more n.hi q e)
-
-back_same : (aim : Aim) (r : Range) → (range_from aim r).back ≡ r.back
-back_same Own r = refl
-back_same (At bound) r = go r.back
-  where
-    go : (b : Bool) → (cond b (record r { hi = bound }) (record r { lo = bound })).back ≡ r.back
-    go true = refl
-    go false = refl
 
 -- a scan that reads the root aims at the least key or above it
 first_hi : (call : Call) (r : Range) → range_of call ≡ Some r → r.back ≡ true → first_aim call ≡ r.hi
@@ -151,7 +144,7 @@ module _ (old new : Store) (f g : InFlight) (same_tree : g.job.tree ≡ f.job.tr
       low : (is_up_to (bound_behind a.leaf.node r.back) [] ≡ true) × (r.back ≡ false → a.leaf.node.hi ≢ [])
       low =
           let rest = subst (λ z. is_read (rest_in (Give a) f.aim z) ≡ false) scans (subst (λ z. is_read (rest_in z f.aim (range_of f.job.call)) ≡ false) at some) in
-          behind_low a.leaf.node (range_from f.aim r) r.back (subst (λ b. is_read (cond b (range_down a.leaf.node.lo (range_from f.aim r)) (range_up a.leaf.node.hi (range_from f.aim r))) ≡ false) (back_same f.aim r) rest)
+          behind_low a.leaf.node (range_from f.aim r) r.back (subst (λ b. is_read (cond b (range_down a.leaf.node.lo (range_from f.aim r)) (range_up a.leaf.node.hi (range_from f.aim r))) ≡ false) (same_way f.aim r) rest)
 
 -- a step of a scan that goes on
 scanned : (r : Range) (old new : Store) (f g : InFlight) (went : Went) → g.job.tree ≡ f.job.tree → g.job.call ≡ f.job.call → IsAimed (course_of f) → IsAimed (course_of g) → range_of f.job.call ≡ Some r → went ≡ Moved → ScanStep WalksOn old f went new g → SetsOff old new f g
