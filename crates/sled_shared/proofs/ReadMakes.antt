@@ -113,21 +113,25 @@ module _ {P M : Type 0} (store : P → Store) (number : P → ℕ) (meant : M �
   -- after a read, whether it was noted or not
   pub read_state : (n : ℕ) (noted : List MadeValue) → NotesRead store m noted → longer ≡ history ++ entries_of n noted → GoesTo h m longer after
   read_state n noted (inl none) e =
-      let crashes = crashes_none (e ∙ ap (λ l. history ++ entries_of n l) none) in
-      (record {
-        legal = legal_of crashes.0;
-        leads = leads_of crashes.0;
-        crashes = crashes.0;
-        ids = longer_rises 0 m.db.greatest_id m.db.greatest_id history [] longer (e ∙ ap (λ l. history ++ entries_of n l) none) h.ids (at_most _ _ refl);
-        counted = counted;
-      }, crashes.2)
+      let crashes = crashes_none (e ∙ ap (λ l. history ++ entries_of n l) none) in (
+        record {
+          legal = legal_of crashes.0;
+          leads = leads_of crashes.0;
+          crashes = crashes.0;
+          ids = longer_rises 0 m.db.greatest_id m.db.greatest_id history [] longer (e ∙ ap (λ l. history ++ entries_of n l) none) h.ids (at_most _ _ refl);
+          counted = counted;
+        },
+        crashes.2,
+      )
   read_state n noted (inr r) e =
       let longer_is = e ∙ ap (λ l. history ++ entries_of n l) r.1 in
-      let crashes = crashes_read n r.0 r.2 longer_is in
-      (record {
-        legal = legal_of crashes.0;
-        leads = leads_of crashes.0;
-        crashes = crashes.0;
-        ids = longer_rises 0 m.db.greatest_id m.db.greatest_id history (entries_of n (ReadMade r.0 ∷ [])) longer longer_is h.ids (at_most _ _ refl);
-        counted = counted;
-      }, crashes.2)
+      let crashes = crashes_read n r.0 r.2 longer_is in (
+        record {
+          legal = legal_of crashes.0;
+          leads = leads_of crashes.0;
+          crashes = crashes.0;
+          ids = longer_rises 0 m.db.greatest_id m.db.greatest_id history (entries_of n (ReadMade r.0 ∷ [])) longer longer_is h.ids (at_most _ _ refl);
+          counted = counted;
+        },
+        crashes.2,
+      )

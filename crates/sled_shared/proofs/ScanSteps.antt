@@ -91,7 +91,6 @@ KnownOf A = ScansAre A.state.is_open A.state.slots A.state.slots_given
 
 module _ (A B : Configuration) (moments after : List Maps) (to later : ℕ) (goes : GoesOn moments after) (more : to ≤ later) (at_a : AtLast A moments to) (at_b : AtLast B after later)
     (scans : ScansValue) (h : KnownOf A moments to scans) (ascend : Ascend A.state) where
-
   bounded_later : A.state.slots_given ≤ B.state.slots_given → (n : ScanNote) → In n scans.notes → (n.slot ≤ B.state.slots_given) × (n.at ≤ later)
   bounded_later given n i = let x = h.bounded n i in (le_trans x.0 given, le_trans x.1 more)
 
