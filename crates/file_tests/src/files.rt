@@ -39,6 +39,14 @@ fn files(
     Ok(TwoFiles::new(alloc, first, second, false, gate, 0, generation))
 }
 
+// Two files of which the second was begun anew, and then added to.
+fn begun_anew(alloc: Global) -> Result<TwoFiles<MemoryDisk>> {
+    let mut files = files(alloc, 1, 0, 0)?;
+    files.rewrite(&[5])?;
+    files.append(&[6])?;
+    Ok(files)
+}
+
 // Prints how long the log is after each of some calls, and whether a disk refused one.
 fn tell_calls(report: &Report, words: &str, files: Result<TwoFiles<MemoryDisk>>) {
     match files {
@@ -89,7 +97,8 @@ pub fn tell(report: &Report) {
     show_disk(report, "its block is not there", begun(alloc, 3));
     tell_calls(report, "two files", files(alloc, 1, 0, 0));
     tell_calls(report, "a block is refused", files(alloc, 1, 7, 0));
-    tell_calls(report, "a file is refused", files(alloc, 1, 0, 4));
+    tell_calls(report, "a file is refused", files(alloc, 1, 0, 5));
     tell_calls(report, "the last generation", files(alloc, u64::MAX, 0, 0));
     tell_disks(report, "the disks", files(alloc, 258, 0, 0));
+    tell_disks(report, "the older is emptied", begun_anew(alloc));
 }

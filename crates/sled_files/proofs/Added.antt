@@ -52,7 +52,7 @@ pends_raised {limits} {s} {d} pids versions more further p = record { base = p.b
 module _ {D : Type 0} {seen : D → List ℕ} {may_leave : D → List ℕ → Type 0} where
   -- what is kept of a store that was opened
   pub sound_new : (pages : MemPages) (files : Files D) (limits : Limits) (pending : List ℕ) (mark : ℕ) → pending ≡ [] → mark ≡ (store_of pages).mark → Stands seen may_leave limits (store_of pages) files [] → AreWithin limits (store_of pages)
-      → IsSound seen may_leave (record { pages = pages; files = files; pending = pending; mark = mark; limits = limits; asked = None; faults = 0 })
+      → IsSound seen may_leave (record { pages = pages; files = files; pending = pending; mark = mark; limits = limits; asked = None; faults = 0; longest = 4000000; missed = 0 })
   sound_new pages files limits pending mark none same st within =
       let later = stands_same seen may_leave (over mark 0 (store_of pages)) pending st refl refl same none in
       record {

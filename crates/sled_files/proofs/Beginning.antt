@@ -1,7 +1,7 @@
 -- What a crash leaves of a file that is begun anew.
 use Rattle.std.proofs.Common.{◌≡◌, inl, inr, ⊎_elim, ℕ, ◌+◌, ◌<◌, ◌≤◌, List, [], ◌∷◌, ◌++◌, length, take, drop, refl, sym, ◌∙◌, ap, subst, arith, length-append, length-take, length-drop}
 use Rattle.std.specs.Prelude.{Result, Ok, Err, OnOk}
-use Rattle.sled_disk.specs.Disk.{written, Torn}
+use Rattle.sled_disk.specs.Disk.{written, Torn, Shortened}
 use Rattle.sled_log.specs.Digest.{digest}
 use Rattle.sled_log.specs.Log.{closed, opened, log_of, IsLog}
 use Rattle.sled_log.specs.Append.{IsBlockFor, IsBeforeOrAfter}
@@ -10,7 +10,7 @@ use Rattle.sled_bytes.specs.declared.change.Change.{Change}
 use Rattle.sled_files.specs.Change.{Durable, changed_all, nothing_yet}
 use Rattle.sled_files.specs.Header.{header}
 use Rattle.sled_files.specs.Standing.{StandsFor, StandsWith, IsBlank, IsBegun}
-use Rattle.sled_files.specs.theory.Begun.{IsFirstBlock}
+use Rattle.sled_files.specs.theory.Begun.{IsFirstBlock, IsEmptied}
 use Rattle.sled_files.specs.Laws.{NewStoreLasts}
 use Rattle.sled_files.proofs.Adding.{alone}
 
@@ -19,9 +19,20 @@ gate_first : (file : List ℕ) → IsLog digest (written 0 (closed ∷ []) file)
 gate_first file = record { fit = tt; rest = drop 1 file; file_is = refl; gate_is = refl }
 
 -- what a crash leaves while that gate is written
+pub closed_or_blank : (file c : List ℕ) → Torn 0 (closed ∷ []) file c → IsEmptied file c
+closed_or_blank [] c torn = inr (inl (omega (arith, torn.no_longer)))
+closed_or_blank (x ∷ rest) c torn = ⊎_elim (λ is. inl is) (λ is. inr (inr (ap (log_of digest) is ∙ log_read digest_small (gate_first (x ∷ rest))))) (torn.single refl (omega arith))
+
 pub closed_or_not : (file c : List ℕ) (generation : ℕ) (d : Durable) → Torn 0 (closed ∷ []) file c → IsBegun file generation d c
-closed_or_not [] c generation d torn = inr (inl (inl (omega (arith, torn.no_longer))))
-closed_or_not (x ∷ rest) c generation d torn = ⊎_elim (λ is. inl is) (λ is. inr (inl (inr (ap (log_of digest) is ∙ log_read digest_small (gate_first (x ∷ rest)))))) (torn.single refl (omega arith))
+closed_or_not file c generation d torn = ⊎_elim (λ is. inl is) (λ blank. inr (inl blank)) (closed_or_blank file c torn)
+
+-- and what it leaves while all behind that gate is cut off
+pub cut_blank : (file c : List ℕ) → Shortened 1 (written 0 (closed ∷ []) file) c → IsBlank c
+cut_blank file [] cut = inl (omega arith)
+cut_blank file (x ∷ rest) cut = inr (log_read digest_small (cut_log cut.front))
+  where
+    cut_log : x ∷ rest ≡ closed ∷ take (length rest) (drop 1 file) → IsLog digest (x ∷ rest) [] 0
+    cut_log is = record { fit = tt; rest = take (length rest) (drop 1 file); file_is = is; gate_is = refl }
 
 module _ {block payload : List ℕ} {generation : ℕ} {changes : List Change} (first : IsFirstBlock block payload generation changes) where
   abbrev stands_new : (c : List ℕ) → log_of digest c ≡ Ok ((header generation ++ payload) ∷ []) → StandsFor c generation (changed_all changes nothing_yet)

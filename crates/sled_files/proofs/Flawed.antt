@@ -169,7 +169,7 @@ flaws_same first second d e (inr (inr one)) (inr (inr two)) = together_same firs
 -- what is wrong is told, or a disk refused a call
 pub told : (first second : List ℕ) (flaw e : OpenError) → is_flaw flaw first second → is_why_closed e first second → IsTold flaw e
 told first second flaw NoMemory is why = inr tt
-told first second flaw (Disk e) is why = inr tt
+told first second flaw (Disk e) is why = inr why
 told first second flaw NotAStore is why = inl (flaws_same first second NotAStore flaw why.1 is)
 told first second flaw (OtherFormat other) is why = inl (flaws_same first second (OtherFormat other) flaw why.1 is)
 told first second flaw (Decayed place) is why = inl (flaws_same first second (Decayed place) flaw why.1 is)

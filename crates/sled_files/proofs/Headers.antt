@@ -1,8 +1,11 @@
 -- The header that a payload begins with.
-use Rattle.std.proofs.Common.{◌≡◌, ℕ, ◌≤◌, List, ◌++◌, length, take, drop, sym, ◌∙◌, ap, subst, arith, length-take}
+use Rattle.std.proofs.Common.{◌≡◌, ℕ, ◌+◌, ◌≤◌, List, [], ◌∷◌, ◌++◌, length, take, drop, refl, sym, ◌∙◌, ap, subst, arith, length-take, length-append}
 use Rattle.std.specs.Int.{w32, w64, to_le_bytes, from_le_bytes}
 use Rattle.std.proofs.lemmas.List.{take-append-drop, length-take-le}
 use Rattle.std.proofs.lemmas.Nat.{le_bytes_4, le_bytes_8}
+use Rattle.sled_log.specs.Digest.{digest}
+use Rattle.sled_log.specs.Log.{closed}
+use Rattle.sled_log.specs.Append.{behind_gate}
 use Rattle.sled_log.proofs.ReadingLemmas.{AreBytes, bytes-take, bytes-drop}
 use Rattle.sled_files.specs.Header.{magic, format, header}
 
@@ -47,3 +50,18 @@ header_long payload first generation is = let l = ap length is in omega (arith, 
 pub header_format : (payload first : List ℕ) (generation : ℕ) → payload ≡ header generation ++ first → from_le_bytes w32 (take 4 (drop 8 payload)) ≡ format
 unfolding header
 header_format payload first generation is = ap (λ (l : List ℕ). from_le_bytes w32 (take 4 (drop 8 l))) is
+
+-- how long a block is behind its gate, with the closed gate that ends the log
+pub block_length : (payload : List ℕ) → length (behind_gate digest payload) ≡ 17 + length payload
+block_length payload =
+    let front = to_le_bytes w64 (length payload) ++ to_le_bytes w64 (digest payload) in
+    let sixteen : length (to_le_bytes w64 (length payload) ++ to_le_bytes w64 (digest payload)) ≡ 16 = refl in
+    omega (arith, sixteen, length-append (front ++ payload) (closed ∷ []), length-append front payload)
+
+header_length : (generation : ℕ) → length (header generation) ≡ 20
+unfolding header
+header_length generation = refl
+
+-- and the first of a file, whose payload begins with a header
+pub first_length : (generation : ℕ) (payload bytes block : List ℕ) → bytes ≡ header generation ++ payload → block ≡ behind_gate digest bytes → length block ≡ length payload + 37
+first_length generation payload bytes block is block_is = omega (arith, ap length is, length-append (header generation) payload, header_length generation, ap length block_is, block_length bytes)

@@ -9,6 +9,9 @@ pub mod Adding
 pub mod Choosing
 pub mod Flawed
 pub mod Beginning
+pub mod Emptying
+pub mod Counted
+pub mod Coding
 pub mod Pairs
 pub mod Grows
 pub mod Over

@@ -1,5 +1,5 @@
 -- What a crash leaves of two files, by what it leaves of each.
-use Rattle.std.proofs.Common.{◌≡◌, inl, inr, ⊎_elim, ℕ, ◌<◌, ◌^◌, List, length, refl, sym, subst}
+use Rattle.std.proofs.Common.{◌≡◌, inl, inr, ⊎_elim, ℕ, ◌≤◌, ◌<◌, ◌^◌, List, length, refl, sym, subst}
 use Rattle.std.specs.Prelude.{Bool, true, false, not, ◌⊎◌}
 use Rattle.sled_disk.specs.Disk.{Only, LeavesOnly}
 use Rattle.sled_log.specs.Digest.{digest}
@@ -9,7 +9,9 @@ use Rattle.sled_bytes.specs.declared.change.Change.{Change}
 use Rattle.sled_files.specs.Change.{Durable, changed_all, AreAdded}
 use Rattle.sled_files.specs.Standing.{OfGeneration, StandsFor, StandsAt, IsBlank, IsOlder, IsBegun, AreFor}
 use Rattle.sled_files.specs.Pending.{Spells}
+use Rattle.sled_files.specs.theory.Begun.{IsEmptied}
 use Rattle.sled_files.proofs.Adding.{block_for, before_or_after, of_generation}
+use Rattle.sled_files.proofs.Emptying.{behind_still}
 use Rattle.sled_files.specs.Files.{Files, picked, one_of, other_of, IsReady, KeepsTime, LeavesPairs, AreForEither}
 
 -- it does not matter which of two files is the first
@@ -84,15 +86,15 @@ module _ {D : Type 0} (seen : D → List ℕ) (moment : D → ℕ) (left_since :
       (λ a b is that. inl (same_for f d ready a b is that))
       (either_swapped d e)
 
-  -- while a block is added to the file that counts
-  pub while_added : (old new : Files D) (d : Durable) → IsTimed old.first → IsTimed old.second → IsTimed new.first → IsTimed new.second → (ready : IsReady seen may_leave old d) {payload : List ℕ} {changes : List Change} (spells : Spells payload changes) (added : AreAdded changes d) (few : length payload < 2 ^ 64) (block : List ℕ) (block_is : block ≡ behind_gate digest payload)
+  -- while a block is added to the file that counts, and the other is emptied
+  pub while_added : (old new : Files D) (d : Durable) → IsTimed new.first → IsTimed new.second → (ready : IsReady seen may_leave old d) {payload : List ℕ} {changes : List Change} (spells : Spells payload changes) (added : AreAdded changes d) (few : length payload < 2 ^ 64) (block : List ℕ) (block_is : block ≡ behind_gate digest payload)
       → LeavesOnly moment left_since (one_of old) (picked old.is_second new.first new.second) (IsBeforeOrAfter (block_for ready.stands spells added few block block_is))
-      → picked old.is_second new.second new.first ≡ other_of old → LeavesPairs moment left_since may_leave old new (AreForEither d (changed_all changes d))
-  while_added old new d old_first old_second new_first new_second ready {payload} {changes} spells added few block block_is run same =
-      by_file moment left_since may_leave old.is_second old new (IsBeforeOrAfter (block_for ready.stands spells added few block block_is)) (λ b. b ≡ seen (other_of old)) (AreForEither d (changed_all changes d)) new_first new_second
+      → LeavesOnly moment left_since (other_of old) (picked old.is_second new.second new.first) (IsEmptied (seen (other_of old))) → LeavesPairs moment left_since may_leave old new (AreForEither d (changed_all changes d))
+  while_added old new d new_first new_second ready {payload} {changes} spells added few block block_is run emptied =
+      by_file moment left_since may_leave old.is_second old new (IsBeforeOrAfter (block_for ready.stands spells added few block block_is)) (IsEmptied (seen (other_of old))) (AreForEither d (changed_all changes d)) new_first new_second
       run
-      (unmoved (other_of old) (picked old.is_second new.second new.first) (picked_has IsTimed old.is_second old.second old.first old_second old_first) (other_only old d ready) same)
-      (λ a b either is. before_or_after ready.stands spells added few block block_is a b (subst (λ (c : List ℕ). IsBlank c ⊎ IsOlder old.generation c) (sym is) ready.behind) either)
+      emptied
+      (λ a b either is. before_or_after ready.stands spells added few block block_is a b (behind_still ready.behind is) either)
       (either_swapped d (changed_all changes d))
 
   -- while the other file is begun anew
@@ -120,15 +122,10 @@ module _ {D : Type 0} (seen : D → List ℕ) (moment : D → ℕ) (left_since :
   with_turned true first second gate snapshot generation e at begins = (at, begins)
   with_turned false first second gate snapshot generation e at begins = (at, begins)
 
-  -- once a block was added to the file that counts
-  pub once_added : (old : Files D) (first second : D) (gate : ℕ) (d e : Durable) → IsReady seen may_leave old d → picked old.is_second second first ≡ other_of old → IsSteady (picked old.is_second first second) → (at : StandsAt (seen (picked old.is_second first second)) gate old.generation e) → length at.stands.has.first ≡ old.snapshot
+  -- once a block was added to the file that counts, and the other was emptied
+  pub once_added : (old : Files D) (first second : D) (gate : ℕ) (e : Durable) → IsSteady (picked old.is_second second first) → length (seen (picked old.is_second second first)) ≤ 1 → IsSteady (picked old.is_second first second) → (at : StandsAt (seen (picked old.is_second first second)) gate old.generation e) → length at.stands.has.first ≡ old.snapshot
       → IsReady seen may_leave (record { first = first; second = second; is_second = old.is_second; gate = gate; snapshot = old.snapshot; generation = old.generation; failed = false }) e
-  once_added old first second gate d e ready same steady at begins =
-      of_parts old.is_second first second gate old.snapshot old.generation e steady
-      (subst IsSteady (sym same) (other_only old d ready))
-      at
-      begins
-      (subst (λ (x : D). IsBlank (seen x) ⊎ IsOlder old.generation (seen x)) (sym same) ready.behind)
+  once_added old first second gate e other short steady at begins = of_parts old.is_second first second gate old.snapshot old.generation e steady other at begins (inl (inl short))
 
   -- once the other file was begun anew
   pub once_begun : (old : Files D) (first second : D) (gate snapshot next : ℕ) (d e : Durable) → IsReady seen may_leave old d → old.generation < next → picked old.is_second first second ≡ one_of old → IsSteady (picked old.is_second second first) → (at : StandsAt (seen (picked old.is_second second first)) gate next e) → length at.stands.has.first ≡ snapshot

@@ -1,7 +1,8 @@
 -- What a flush that raises the limits in its block makes of the files of a store, against the store.
-use Rattle.std.proofs.Common.{take, length, ◌≤◌, ◌<◌, ◌^◌, ◌≡◌, inl, arith, ℕ, true, false, List, [], ◌∷◌, ◌++◌, refl, sym, ◌∙◌, ap, subst}
+use Rattle.std.proofs.Common.{take, length, length-append, ◌+◌, ◌≤◌, ◌<◌, ◌^◌, ◌≡◌, inl, arith, ℕ, true, false, List, [], ◌∷◌, ◌++◌, refl, sym, ◌∙◌, ap, subst}
 use Rattle.std.specs.Prelude.{Result, Ok, Err, OnOk}
 use Rattle.std.proofs.lemmas.List.{append-nil}
+use Rattle.std.specs.List.{flat_map}
 use Rattle.std.proofs.lemmas.List.Elements.{All-nil, All-cons, All-append}
 use Rattle.std.proofs.Math.Seq.{take-append_seam}
 use Rattle.sled_store.specs.In.{In}
@@ -11,8 +12,8 @@ use Rattle.sled_store.specs.Crash.{crash_states}
 use Rattle.sled_pages.specs.declared.memory.MemPages.{MemPages}
 use Rattle.sled_pages.specs.Memory.{store_of}
 use Rattle.sled_bytes.specs.declared.change.Change.{Change}
-use Rattle.sled_bytes.specs.declared.change.Change.TheVariants.{Limited}
-use Rattle.sled_bytes.specs.Spelling.{change_bytes, FitsChange}
+use Rattle.sled_bytes.specs.declared.change.Change.TheVariants.{Limited, Marked}
+use Rattle.sled_bytes.specs.Spelling.{number, change_bytes, FitsChange}
 use Rattle.sled_files.specs.Change.{Durable, changed_all, IsWithin, AreOfStore, AreAdded}
 use Rattle.sled_files.specs.Files.{Files, IsReady, KeepsTime, LeavesPairs, AreForEither}
 use Rattle.sled_files.specs.Lasting.{Limits, AreLimits, IsRight, IsLasting, AreNoLower}
@@ -30,10 +31,20 @@ use Rattle.sled_files.proofs.Moments.{lasts_ready, moments_either, moments_none}
 pub no_lower : {limits raised : Limits} → raised ≡ limits → AreNoLower limits raised
 no_lower {limits} {raised} is = record { pids = omega (arith, ap (λ (l : Limits). l.pids) is); versions = omega (arith, ap (λ (l : Limits). l.versions) is) }
 
+-- limits are spelled by 17 bytes, and a mark by 9
+limited_short : (pids versions : ℕ) → length (change_bytes (Limited pids versions)) ≤ 17
+unfolding number
+limited_short pids versions = let e : length (change_bytes (Limited pids versions)) ≡ 17 = refl in omega (arith, e)
+
+pub marked_short : {bytes : List ℕ} {upto : ℕ} → Spells bytes (Marked upto ∷ []) → length bytes ≤ 9
+unfolding number
+marked_short {bytes} {upto} s = let e : length (flat_map change_bytes (Marked upto ∷ [])) ≡ 9 = refl in omega (arith, e, ap length s.spelled)
+
 pub ahead_none : (limits raised : Limits) {before after : List ℕ} → raised.pids ≡ limits.pids → raised.versions ≡ limits.versions → after ≡ before → IsAhead limits raised before after
 ahead_none limits raised {before} pids versions is = record {
   rest = [];
   bytes = is ∙ sym (append-nil before);
+  short = omega arith;
   more = [];
   spells = λ changes s. subst (λ (l : List ℕ). Spells l (changes ++ [])) (sym is) (subst (λ (l : List Change). Spells before l) (sym (append-nil changes)) s);
   state = λ d. refl;
@@ -47,6 +58,7 @@ pub ahead_more : (limits : Limits) (pids versions : ℕ) {before after : List �
 ahead_more limits pids versions fits is = record {
   rest = change_bytes (Limited pids versions);
   bytes = is;
+  short = limited_short pids versions;
   more = Limited pids versions ∷ [];
   spells = λ changes s. subst (λ (l : List ℕ). Spells l (changes ++ Limited pids versions ∷ [])) (sym is) (spells_more s (Limited pids versions) fits);
   state = λ d. refl;
@@ -60,6 +72,10 @@ ahead_more limits pids versions fits is = record {
 pub ahead_done : {E : Type 0} (limits : Limits) (pids versions : ℕ) (before after : List ℕ) (r : Result (Unit {0}) E) → OnOk r (FitsChange (Limited pids versions)) → OnOk r (after ≡ before ++ change_bytes (Limited pids versions)) → OnOk r (IsAhead limits (record { pids = pids; versions = versions }) before after)
 ahead_done limits pids versions before after (Ok x) fits is = ahead_more limits pids versions fits is
 ahead_done limits pids versions before after (Err e) fits is = tt
+
+-- the bytes are few more
+pub ahead_short : {limits raised : Limits} {before after : List ℕ} → IsAhead limits raised before after → length after ≤ length before + 17
+ahead_short {limits} {raised} {before} {after} a = omega (arith, ap length a.bytes, length-append before a.rest, a.short)
 
 -- and taken out again
 pub taken_out : {limits raised : Limits} {before after : List ℕ} (n : ℕ) → IsAhead limits raised before after → n ≡ length before → take n after ≡ before

@@ -6,7 +6,7 @@ use Rattle.sled_files.specs.Opening.{is_why_unopened, is_why_closed, is_refusal}
 
 pub refusal_closed : (e : OpenError) (first second : List ℕ) → is_refusal e → is_why_closed e first second
 refusal_closed NoMemory first second is = tt
-refusal_closed (Disk e) first second is = tt
+refusal_closed (Disk e) first second is = is
 refusal_closed NotAStore first second is = absurd is
 refusal_closed (OtherFormat other) first second is = absurd is
 refusal_closed (Decayed place) first second is = absurd is

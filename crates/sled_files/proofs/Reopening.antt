@@ -13,7 +13,7 @@ use Rattle.sled_files.specs.declared.found.OpenError.TheVariants.{NoMemory, NotA
 use Rattle.sled_files.specs.Change.{Durable, nothing_yet, IsWithin}
 use Rattle.sled_files.specs.Standing.{AreFor, AreBlank, IsBegun}
 use Rattle.sled_files.specs.Files.{Files, IsReady}
-use Rattle.sled_files.specs.Lasting.{Limits, IsLasting, EachPair}
+use Rattle.sled_files.specs.Lasting.{Limits, AreLimits, IsLasting, EachPair}
 use Rattle.sled_files.specs.Stored.{Stored, stored_as, over, AreWithin, Stands}
 use Rattle.sled_files.specs.Laws.{OpenedGoesOn, OpensAgain}
 use Rattle.sled_files.specs.Opening.{AreOpenable, AreOfNone, IsReopened, OpensTo, LeavesWhileOpened, is_why_closed, is_refusal}
@@ -21,12 +21,12 @@ use Rattle.sled_files.specs.theory.Reopened.{Opens}
 use Rattle.sled_files.proofs.Choosing.{blanks_or_store}
 use Rattle.sled_files.proofs.Grows.{spells_none}
 
-abbrev limits_in : Made → Limits
+abbrev pub limits_in : Made → Limits
 limits_in m = record { pids = m.pids; versions = m.versions }
 
 -- the store as it is opened
 abbrev opened_with : {D : Type 0} → Files D → Made → Stored D
-opened_with files m = record { pages = m.pages; files = files; pending = []; mark = (store_of m.pages).mark; limits = limits_in m; asked = None; faults = 0 }
+opened_with files m = record { pages = m.pages; files = files; pending = []; mark = (store_of m.pages).mark; limits = limits_in m; asked = None; faults = 0; longest = 4000000; missed = 0 }
 
 below_limit : (p limit : ℕ) → (nat_lt 0 p && nat_lt p limit) ≡ true → p < limit
 below_limit p limit is = grind arith
@@ -106,6 +106,11 @@ module _ {D : Type 0} (seen : D → List ℕ) (may_leave : D → List ℕ → Ty
   begins_new (inl o) blanks = absurd (blanks_or_store blanks o.stand)
   begins_new (inr n) blanks = (n.ready, n.empty)
 
+-- its limits are those that the files have
+pub limits_opened : {D : Type 0} (seen : D → List ℕ) (may_leave : D → List ℕ → Type 0) (first second : List ℕ) (files : Files D) (store : Made) → Opens seen may_leave first second files store → (d : Durable) → AreFor first second d → AreLimits (limits_in store) d
+limits_opened seen may_leave first second files store (inl o) d a = record { pids = ap (λ (x : Durable). x.pids) (o.alone d a) ∙ sym o.pids; versions = ap (λ (x : Durable). x.versions) (o.alone d a) ∙ sym o.versions }
+limits_opened seen may_leave first second files store (inr n) d a = absurd (blanks_or_store n.blanks a)
+
 -- a store that is opened of what is right for one
 
 given_below : (p limit low : ℕ) → 0 < p → p < low → low ≤ limit → (nat_lt 0 p && nat_lt p limit) ≡ true
@@ -139,7 +144,7 @@ refused_openable first second NoMemory why are = tt
 refused_openable first second NotAStore why are = absurd (none_or_one why.0 are)
 refused_openable first second (OtherFormat other) why are = absurd (none_or_one why.0 are)
 refused_openable first second (Decayed place) why are = absurd (none_or_one why.0 are)
-refused_openable first second (Disk e) why are = tt
+refused_openable first second (Disk e) why are = why
 
 pub opens_again : OpensAgain
 opens_again asked limits s first second l e why = refused_openable first second e why (inr (l.durable, l.stands))

@@ -73,3 +73,16 @@ pub record IsKept {D : Type 0} (seen : D → List ℕ) (may_leave : D → List �
   pub first_only : f.failed ≡ false → Only (seen f.first) (may_leave f.first)
   pub second_only : f.failed ≡ false → Only (seen f.second) (may_leave f.second)
   pub place : f.failed ≡ false → f.gate < length (seen (one_of f))
+
+-- a file was begun anew, with a snapshot alone, and counts from then on; the one that counted is the other
+pub record IsRenewed {D : Type 0} (old new : Files D) : Type 0 where
+  pub other : other_of new ≡ one_of old
+  pub generation : new.generation ≡ old.generation + 1
+  pub bytes : new.gate ≡ new.snapshot + 37
+
+-- the log that counts has a block more, and the other file is emptied; or nothing was added
+pub record IsGrown {D : Type 0} (seen : D → List ℕ) (old new : Files D) : Type 0 where
+  pub snapshot : new.snapshot ≡ old.snapshot
+  pub generation : new.generation ≡ old.generation
+  pub bytes : old.gate ≤ new.gate
+  pub other : (new ≡ old) ⊎ (length (seen (other_of new)) ≤ 1)

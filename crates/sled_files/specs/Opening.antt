@@ -1,7 +1,8 @@
 -- What the two files of a store are found to be, and the store that is opened of them.
-use Rattle.std.specs.Prelude.{◌≡◌, ◌⊎◌, ◌+◌, ℕ, true, ◌&&◌, nat_lt, List, []}
+use Rattle.std.specs.Prelude.{◌≡◌, ◌⊎◌, ◌+◌, ℕ, true, ◌&&◌, nat_lt, List, [], None}
 use Rattle.sled_store.specs.Store.{Store}
 use Rattle.sled_disk.specs.Disk.{Only}
+use Rattle.sled_disk.specs.declared.disk.DiskError.{DiskError}
 use Rattle.sled_disk.specs.declared.disk.DiskError.TheVariants as full
 use Rattle.sled_pages.specs.Memory.{empty_store}
 use Rattle.sled_files.specs.declared.found.OpenError.{OpenError}
@@ -10,6 +11,7 @@ use Rattle.sled_files.specs.Change.{Durable, nothing_yet}
 use Rattle.sled_files.specs.Flaws.{is_flaw}
 use Rattle.sled_files.specs.Standing.{AreFor, AreBlank, IsBegun}
 use Rattle.sled_files.specs.Files.{Files, IsReady}
+use Rattle.sled_files.specs.Stored.{Stored}
 
 -- two files are those of a store, or of one that is still to be made
 abbrev pub AreOpenable : List ℕ → List ℕ → Type 0
@@ -39,15 +41,20 @@ is_why_unopened NoMemory first second = Unit {0}
 is_why_unopened (Disk e) first second = ⊥
 is_why_unopened e first second = AreOfNone first second × is_flaw e first second
 
+-- a fault of a disk: want of memory is told by its own name
+abbrev pub is_fault : DiskError → Type 0
+is_fault full.NoMemory = ⊥
+is_fault e = Unit {0}
+
 -- a disk refused a call, for memory or for a fault
 abbrev pub is_refusal : OpenError → Type 0
 is_refusal NoMemory = Unit {0}
-is_refusal (Disk e) = Unit {0}
+is_refusal (Disk e) = is_fault e
 is_refusal _ = ⊥
 
--- why no store was opened: a disk refused a call, or as the two files are of none
+-- why no store was opened: a disk refused a call for a fault, or as the two files are of none
 abbrev pub is_why_closed : OpenError → List ℕ → List ℕ → Type 0
-is_why_closed (Disk e) first second = Unit {0}
+is_why_closed (Disk e) first second = is_fault e
 is_why_closed e first second = is_why_unopened e first second
 
 -- what an opening told of two files, where this is wrong with them: it, or that a disk refused a call
@@ -70,6 +77,17 @@ pub record StayAsTheyWere {D : Type 0} (seen : D → List ℕ) (may_leave : D �
   pub second_stays : seen second_then ≡ seen second
   pub first_only : Only (seen first) (may_leave first_then)
   pub second_only : Only (seen second) (may_leave second_then)
+
+-- a read of two disks returns what it did. Where both were blank, the first may have what begins a store
+abbrev pub AreSeenAsBefore : {D : Type 0} → (D → List ℕ) → D → D → D → D → Type 0
+AreSeenAsBefore seen first second first_then second_then = ((seen first_then ≡ seen first) ⊎ AreBlank (seen first) (seen second)) × (seen second_then ≡ seen second)
+
+-- of a store that was just opened no mark was refused, nothing is to be added to its files, and no snapshot was missed
+pub record IsFresh {D : Type 0} (f : Stored D) : Type 0 where
+  pub asked : f.asked ≡ None
+  pub pending : f.pending ≡ []
+  pub longest : f.longest ≡ 4000000
+  pub missed : f.missed ≡ 0
 
 -- a refusal of a disk, but for want of memory, is counted as its fault, and no other refusal is
 abbrev pub is_counted : ℕ → ℕ → OpenError → Type 0

@@ -1,5 +1,5 @@
 -- A store in two files as code holds it.
-use Rattle.std.specs.Prelude.{◌≡◌, ◌⊎◌, ◌+◌, ◌<◌, ℕ, true, false, List, [], ◌∷◌, Option, Some, None}
+use Rattle.std.specs.Prelude.{◌≡◌, ◌⊎◌, ◌+◌, ◌/◌, ◌<◌, ◌&&◌, not, nat_lt, ℕ, Bool, true, false, List, [], ◌∷◌, Option, Some, None}
 use Rattle.sled_pages.specs.declared.memory.MemPages.{MemPages}
 use Rattle.sled_pages.specs.Memory.{store_of, flush_number_of}
 use Rattle.sled_store.specs.Store.{Store}
@@ -8,8 +8,9 @@ use Rattle.sled_files.specs.Files.{Files, IsReady}
 use Rattle.sled_files.specs.Lasting.{Limits, IsLasting, EachPair}
 use Rattle.sled_files.specs.Pending.{IsPending}
 
--- The pages in memory, the files, the bytes that the next flush adds to them, the mark, and the limits. A mark that may be in the
--- files though it was refused, and how many calls were refused for a fault of the files
+-- The pages in memory, the files, the bytes that the next flush adds to them, the mark, the limits, and a mark that may be in the files
+-- though it was refused. How many calls were refused for a fault of the files, the length of the log above which a flush begins it
+-- anew, and how many flushes found no memory for that
 pub record Stored (D : Type 0) : Type 0 where
   pub pages : MemPages
   pub files : Files D
@@ -18,6 +19,8 @@ pub record Stored (D : Type 0) : Type 0 where
   pub limits : Limits
   pub asked : Option ℕ
   pub faults : ℕ
+  pub longest : ℕ
+  pub missed : ℕ
 
 -- what it means: what the pages in memory mean, but for the mark, and with the faults of the files
 abbrev pub over : ℕ → ℕ → Store → Store
@@ -61,6 +64,17 @@ pub record KeepsFiles {D : Type 0} (old new : Stored D) : Type 0 where
   pub files : new.files ≡ old.files
   pub limits : new.limits ≡ old.limits
   pub asked : new.asked ≡ old.asked
+  pub longest : new.longest ≡ old.longest
+  pub missed : new.missed ≡ old.missed
+
+-- what decides when a log is begun anew stays, and the count of those that were missed
+pub record KeepsRule {D : Type 0} (old new : Stored D) : Type 0 where
+  pub longest : new.longest ≡ old.longest
+  pub missed : new.missed ≡ old.missed
+
+-- a flush is to begin the log anew: no disk refused a call, and it is longer than was set, and than twice its snapshot
+abbrev pub is_due : {D : Type 0} → Stored D → Bool
+is_due f = not f.files.failed && (nat_lt f.longest f.files.gate && nat_lt f.files.snapshot (f.files.gate / 2))
 
 -- a refused mark is asked for where a disk refused it just now, and no other is then
 pub record AsksFor {D : Type 0} (upto : ℕ) (old new : Stored D) : Type 0 where

@@ -1,5 +1,5 @@
 //! A file of a store is begun anew.
-ghost use Rattle.std.specs.Prelude.{◌≡◌, ◌<◌, ◌++◌, ℕ, List, length, IfOk, IfErr, OnOk};
+ghost use Rattle.std.specs.Prelude.{◌≡◌, ◌+◌, ◌≤◌, ◌<◌, ◌++◌, ℕ, List, length, IfOk, IfErr, OnOk};
 ghost use Rattle.sled_disk.specs.Disk.{Only, LeavesOnly, HasCause};
 ghost use Rattle.sled_disk.specs.declared.disk.DiskError.TheVariants.{NoMemory};
 ghost use Rattle.sled_bytes.specs.declared.change.Change.{Change};
@@ -7,10 +7,10 @@ ghost use Rattle.sled_files.specs.Change.{nothing_yet, changed_all, AreOfStore};
 ghost use Rattle.sled_files.specs.Header.{header};
 ghost use Rattle.sled_files.specs.Standing.{StandsWith, IsBegun};
 ghost use Rattle.sled_files.specs.Pending.{Spells};
-ghost use Rattle.sled_files.specs.theory.Begun.{IsFirstBlock};
+ghost use Rattle.sled_files.specs.theory.Begun.{IsFirstBlock, IsEmptied};
 
 use sled_disk::{Disk, Result, law_only_now};
-use sled_log::{append, block_of, write_through};
+use sled_log::{append, block_of, cut_through, write_through};
 use std::alloc::Global;
 
 const MAGIC: [u8; 8] = *b"donnavek";
@@ -35,6 +35,8 @@ fn first_payload(alloc: Global, generation: u64, payload: &[u8]) -> Result<Vec<u
 // The block of the first payload, as a log takes it.
 pub(crate) fn first_block(alloc: Global, generation: u64, payload: &[u8]) -> Result<Vec<u8>>
     ensures ok { IfOk result (λ block. (changes : List Change) → Spells payload.now changes → AreOfStore changes (changed_all changes nothing_yet) → IsFirstBlock block.items payload.now generation changes) }
+    // 8 bytes of the length, 8 of the digest, 20 of the header, and the closed gate.
+    ensures len { IfOk result (λ block. length block.items ≡ length payload.now + 37) }
     ensures err { IfErr result (λ e. e ≡ NoMemory) }
 {
     let bytes = first_payload(alloc, generation, payload)?;
@@ -52,6 +54,23 @@ pub(crate) fn begin_with<D: Disk>(disk: &mut D, block: &[u8]) -> Result<()>
 {
     write_through(disk, 0, &[CLOSED])?;
     append(disk, 0, block)
+}
+
+// Leaves at most a byte of a file: first a closed gate at its front is brought to the disk, so that nothing counts from then on.
+pub(crate) fn empty<D: Disk>(disk: &mut D) -> Result<()>
+    requires on_disk { Only (D.seen disk.old) (D.may_leave disk.old) }
+    ensures short { OnOk result (length (D.seen disk.new) ≤ 1) }
+    ensures durable { OnOk result (Only (D.seen disk.new) (D.may_leave disk.new)) }
+    ensures any_moment { LeavesOnly D.moment D.left_since disk.old disk.new (IsEmptied (D.seen disk.old)) }
+    ensures cause { HasCause (D.faults disk.old) (D.faults disk.new) result }
+{
+    law_only_now(disk);
+    let len = disk.len()?;
+    if len <= 1 {
+        return Ok(());
+    }
+    write_through(disk, 0, &[CLOSED])?;
+    cut_through(disk, 1)
 }
 
 /// Makes of a file one of this generation that stands for these changes, and for nothing that it had before, and answers the place of

@@ -1,12 +1,12 @@
 //! A store of pages in two files.
-ghost use Rattle.std.specs.Prelude.{◌/◌, nat_lt, nat_le, ℕ, OnErr, IfSome, ◌≡◌, ◌≤◌, ◌<◌, ◌∷◌, [], None, Some, IfOk, IfErr, OnOk, length, true, false, ◌&&◌, not, if◌then◌else◌};
+ghost use Rattle.std.specs.Prelude.{◌/◌, ◌+◌, ◌-◌, ◌^◌, ◌⊎◌, min, nat_lt, nat_le, ℕ, OnErr, IfSome, ◌≡◌, ◌≤◌, ◌<◌, ◌∷◌, [], None, Some, IfOk, IfErr, OnOk, length, true, false, ◌&&◌, not, if◌then◌else◌};
 ghost use Rattle.sled_nodes.specs.declared.error.Error.TheVariants.{NoMemory};
 ghost use Rattle.sled_nodes.specs.Node.{after_link};
 ghost use Rattle.sled_store.specs.State.{GroupBegins, GroupEnds};
 ghost use Rattle.sled_store.specs.Store.{now, after_action, after_flush, Allocates, IsRefused, Changes, Frees, SwapsRoot};
 ghost use Rattle.sled_pages.specs.Memory.{store_of};
 ghost use Rattle.sled_files.specs.Lasting.{EachPair, IsLasting, AreNoLower};
-ghost use Rattle.sled_files.specs.Stored.{asked_of, stored_as, AreWithin};
+ghost use Rattle.sled_files.specs.Stored.{asked_of, stored_as, is_due, AreWithin};
 
 use crate::snapshot::snapshot;
 use crate::spelled::{
@@ -38,6 +38,8 @@ pub struct FileStats {
     pub snapshot: usize,
     /// The generation of its file: one more each time that a file is begun anew.
     pub generation: u64,
+    /// How many flushes since the opening should have begun a file anew, and found no memory for the snapshot.
+    pub missed: u64,
 }
 
 /// A store of pages in two files. Its pages are in memory too, where they are read. The changing calls change them there, and note what
@@ -60,6 +62,8 @@ pub struct FilePages<D: Disk> {
     faults: u64,
     // the length of the log above which it is begun anew
     longest: usize,
+    // how many flushes found no memory for that
+    missed: u64,
 }
 
 impl<D: Disk> Model for FilePages<D> {
@@ -71,9 +75,9 @@ impl<D: Disk> Model for FilePages<D> {
 
     ghost coded = { Prim.hlevel (codes, m.the_row.coded) };
 
-    ghost view = { λ f. record { pages = f.pages; files = f.files; pending = f.pending.items; mark = f.mark; limits = record { pids = f.limit_pids; versions = f.limit_versions }; asked = f.asked; faults = f.faults } };
+    ghost view = { λ f. record { pages = f.pages; files = f.files; pending = f.pending.items; mark = f.mark; limits = record { pids = f.limit_pids; versions = f.limit_versions }; asked = f.asked; faults = f.faults; longest = f.longest; missed = f.missed } };
 
-    ghost invariant = { λ f. IsSound D.seen D.may_leave (record { pages = f.pages; files = f.files; pending = f.pending.items; mark = f.mark; limits = record { pids = f.limit_pids; versions = f.limit_versions }; asked = f.asked; faults = f.faults }) };
+    ghost invariant = { λ f. IsSound D.seen D.may_leave (record { pages = f.pages; files = f.files; pending = f.pending.items; mark = f.mark; limits = record { pids = f.limit_pids; versions = f.limit_versions }; asked = f.asked; faults = f.faults; longest = f.longest; missed = f.missed }) };
 }
 
 // By hand, so that whoever lets go of a store cites this, and need not prove again how each of its parts goes.
@@ -102,7 +106,7 @@ impl<D: Disk> FilePages<D> {
     ) -> FilePages<D>
         requires stands { Stands D.seen D.may_leave (record { pids = pids; versions = versions }) (store_of pages) files [] }
         requires within { AreWithin (record { pids = pids; versions = versions }) (store_of pages) }
-        ensures { result ≡ record { pages = pages; files = files; pending = []; mark = (store_of pages).mark; limits = record { pids = pids; versions = versions }; asked = None; faults = 0 } }
+        ensures { result ≡ record { pages = pages; files = files; pending = []; mark = (store_of pages).mark; limits = record { pids = pids; versions = versions }; asked = None; faults = 0; longest = 4000000; missed = 0 } }
     {
         FilePages {
             alloc,
@@ -115,6 +119,7 @@ impl<D: Disk> FilePages<D> {
             asked: None,
             faults: 0,
             longest: LONGEST,
+            missed: 0,
         }
     }
 }
@@ -135,6 +140,7 @@ impl<D: Disk> FilePages<D> {
             asked: _,
             faults: _,
             longest: _,
+            missed: _,
         } = self;
         drop(pages);
         drop(pending);
@@ -231,6 +237,7 @@ impl<D: Disk> FilePages<D> {
         ensures version { OnOk result (version < self.new.limits.versions) }
         ensures same { OnOk result (stored_as self.new ≡ stored_as self.old) }
         ensures err { IfErr result (λ e. IsRefused e (stored_as self.old) (stored_as self.new)) }
+        ensures over { self.old.files.failed ≡ true → self.new.files ≡ self.old.files }
         ensures pages { KeepsPages self.old self.new }
         ensures any_moment { LeavesPairs D.moment D.left_since D.may_leave self.old.files self.new.files (IsLasting (asked_of self.old.asked) self.old.limits (stored_as self.old)) }
     {
@@ -259,6 +266,7 @@ impl<D: Disk> FilePages<D> {
         ensures version { IfOk result (λ next. next.1 < self.new.limits.versions) }
         ensures same { OnOk result (stored_as self.new ≡ stored_as self.old) }
         ensures err { IfErr result (λ e. IsRefused e (stored_as self.old) (stored_as self.new)) }
+        ensures over { self.old.files.failed ≡ true → self.new.files ≡ self.old.files }
         ensures pages { KeepsPages self.old self.new }
         ensures any_moment { LeavesPairs D.moment D.left_since D.may_leave self.old.files self.new.files (IsLasting (asked_of self.old.asked) self.old.limits (stored_as self.old)) }
     {
@@ -277,9 +285,10 @@ impl<D: Disk> FilePages<D> {
 }
 
 impl<D: Disk> FilePages<D> {
-    ghost use Rattle.sled_files.specs.Stored.{stored_as, asked_of};
+    ghost use Rattle.sled_files.specs.Stored.{stored_as, asked_of, KeepsRule};
+    ghost use Rattle.sled_files.specs.Codes.{IsUnstored, LacksRoom, IsLast};
     ghost use Rattle.sled_files.specs.theory.Snapshot.{Makes, durable_now};
-    ghost use Rattle.sled_files.specs.Files.{LeavesPairs, one_of, other_of};
+    ghost use Rattle.sled_files.specs.Files.{LeavesPairs, IsRenewed, IsGrown};
     ghost use Rattle.sled_files.specs.Lasting.{IsLasting};
 
     /// Flushes, and begins the other file anew with a snapshot of all that the store is, which counts from then on. At any moment a crash
@@ -293,9 +302,14 @@ impl<D: Disk> FilePages<D> {
         ensures open { (now (stored_as self.old)).in_group ≡ true → (self.new ≡ self.old) × OnErr result ⊥ }
         ensures ok { (now (stored_as self.old)).in_group ≡ false → OnOk result (stored_as self.new ≡ after_flush (stored_as self.old)) }
         // The file that counted is the other one now.
-        ensures one { (now (stored_as self.old)).in_group ≡ false → OnOk result (other_of self.new.files ≡ one_of self.old.files) }
+        ensures renewed { (now (stored_as self.old)).in_group ≡ false → OnOk result (IsRenewed self.old.files self.new.files) }
+        ensures up { (now (stored_as self.old)).in_group ≡ false → OnOk result ((self.old.files.failed ≡ false) × (self.new.files.failed ≡ false)) }
         ensures err { IfErr result (λ e. IsRefused e (stored_as self.old) (stored_as self.new)) }
+        ensures cause { IfErr result (λ e. IsUnstored D.faults (IsLast self.old) self.old.files self.new.files self.old.faults e) }
+        // Once a disk refused a call, it is refused.
+        ensures over { self.old.files.failed ≡ true → self.new.files ≡ self.old.files }
         ensures asked { self.new.asked ≡ self.old.asked }
+        ensures rule { KeepsRule self.old self.new }
         ensures limits { AreNoLower self.old.limits self.new.limits }
         ensures any_moment { LeavesPairs D.moment D.left_since D.may_leave self.old.files self.new.files (IsLasting (asked_of self.old.asked) self.old.limits (stored_as self.old)) }
     {
@@ -303,14 +317,7 @@ impl<D: Disk> FilePages<D> {
         if self.pages.in_group() {
             return Ok(());
         }
-        let (pids, versions) = self.ahead(false);
-        let whole = match self.whole_with(pids, versions) {
-            Ok(whole) => whole,
-            Err(e) => return Err(e),
-        };
-        let flushed = self.flush_anew(&whole, pids, versions);
-        drop(whole);
-        match flushed {
+        match self.flush_whole() {
             Ok(_) => Ok(()),
             Err(e) => Err(e),
         }
@@ -323,12 +330,12 @@ impl<D: Disk> FilePages<D> {
     /// store.compact_from(1000);
     /// ```
     pub fn compact_from(&mut self, len: usize)
-        ensures { self.new ≡ self.old }
+        ensures { self.new ≡ record self.old { longest = len } }
     {
         self.longest = len;
     }
 
-    /// Whether a disk refused a call, so that each flush, mark and raise is refused from then on.
+    /// Whether a disk refused a call that adds to the files. From then on each flush, mark, raise and `compact` is refused.
     ///
     /// ```
     /// let is_over = store.failed(); // Open the disks of `into_disks` again.
@@ -339,7 +346,8 @@ impl<D: Disk> FilePages<D> {
         self.files.failed()
     }
 
-    /// How many page numbers were given, and how long the log is, its snapshot, and of which generation.
+    /// How many page numbers were given, how long the log is and its snapshot, of which generation it is, and how many snapshots were
+    /// missed.
     ///
     /// ```
     /// let generation = store.stats().generation;
@@ -349,6 +357,7 @@ impl<D: Disk> FilePages<D> {
         ensures bytes { result.bytes ≡ self.now.files.gate }
         ensures snapshot { result.snapshot ≡ self.now.files.snapshot }
         ensures generation { result.generation ≡ self.now.files.generation }
+        ensures missed { result.missed ≡ self.now.missed }
     {
         let (greatest, _) = self.pages.numbers_given();
         FileStats {
@@ -356,6 +365,7 @@ impl<D: Disk> FilePages<D> {
             bytes: self.files.len(),
             snapshot: self.files.snapshot(),
             generation: self.files.generation(),
+            missed: self.missed,
         }
     }
 
@@ -378,20 +388,18 @@ impl<D: Disk> FilePages<D> {
         }
     }
 
-    // The same, where the log has grown long, and there is memory for it.
-    fn whole(&self, pids: u64, versions: u64) -> Option<Vec<u8>>
-        ensures { IfSome result (λ bytes. Makes (store_of self.now.pages) bytes.items (durable_now (stored_as self.now) self.now.mark pids versions)) }
+    // Whether a flush is to begin the log anew.
+    fn is_due(&self) -> bool
+        ensures { result ≡ is_due self.now }
     {
-        if self.files.failed() || !is_long(self.files.len(), self.longest, self.files.snapshot()) {
-            return None;
-        }
-        match self.whole_with(pids, versions) {
-            Ok(bytes) => Some(bytes),
-            Err(e) => {
-                drop(e);
-                None
-            }
-        }
+        !self.files.failed() && is_long(self.files.len(), self.longest, self.files.snapshot())
+    }
+
+    // Counts a snapshot that there was no memory for.
+    fn miss(&mut self)
+        ensures { self.new ≡ record self.old { missed = min (self.old.missed + 1) (2 ^ 64 - 1) } }
+    {
+        self.missed = self.missed.saturating_add(1);
     }
 
     // Flushes by a block more.
@@ -399,8 +407,13 @@ impl<D: Disk> FilePages<D> {
         requires { (now (stored_as self.old)).in_group ≡ false }
         ensures ok { OnOk result (stored_as self.new ≡ after_flush (stored_as self.old)) }
         ensures number { IfOk result (λ n. n ≡ length (stored_as self.old).recent) }
+        ensures grown { OnOk result (IsGrown D.seen self.old.files self.new.files) }
+        ensures up { OnOk result ((self.old.files.failed ≡ false) × (self.new.files.failed ≡ false)) }
         ensures err { IfErr result (λ e. IsRefused e (stored_as self.old) (stored_as self.new)) }
+        ensures cause { IfErr result (λ e. IsUnstored D.faults (LacksRoom self.old) self.old.files self.new.files self.old.faults e) }
+        ensures over { self.old.files.failed ≡ true → self.new.files ≡ self.old.files }
         ensures asked { self.new.asked ≡ self.old.asked }
+        ensures rule { KeepsRule self.old self.new }
         ensures limits { AreNoLower self.old.limits self.new.limits }
         ensures any_moment { LeavesPairs D.moment D.left_since D.may_leave self.old.files self.new.files (IsLasting (asked_of self.old.asked) self.old.limits (stored_as self.old)) }
     {
@@ -434,10 +447,14 @@ impl<D: Disk> FilePages<D> {
         requires versions { self.old.limits.versions ≤ versions }
         ensures ok { OnOk result (stored_as self.new ≡ after_flush (stored_as self.old)) }
         ensures number { IfOk result (λ n. n ≡ length (stored_as self.old).recent) }
-        ensures one { OnOk result (other_of self.new.files ≡ one_of self.old.files) }
+        ensures renewed { OnOk result (IsRenewed self.old.files self.new.files) }
+        ensures up { OnOk result ((self.old.files.failed ≡ false) × (self.new.files.failed ≡ false)) }
         ensures err { IfErr result (λ e. IsRefused e (stored_as self.old) (stored_as self.new)) }
+        ensures cause { IfErr result (λ e. IsUnstored D.faults (IsLast self.old) self.old.files self.new.files self.old.faults e) }
+        ensures over { self.old.files.failed ≡ true → self.new.files ≡ self.old.files }
         ensures stays { IfErr result (λ e. e ≡ NoMemory → self.new.files.failed ≡ false → self.new ≡ self.old) }
         ensures asked { self.new.asked ≡ self.old.asked }
+        ensures rule { KeepsRule self.old self.new }
         ensures limits { AreNoLower self.old.limits self.new.limits }
         ensures any_moment { LeavesPairs D.moment D.left_since D.may_leave self.old.files self.new.files (IsLasting (asked_of self.old.asked) self.old.limits (stored_as self.old)) }
     {
@@ -449,11 +466,39 @@ impl<D: Disk> FilePages<D> {
         self.limit_versions = versions;
         Ok(self.pages.flush_uncounted())
     }
+
+    // Flushes by a file that is begun anew with all that the store is.
+    fn flush_whole(&mut self) -> Result<usize>
+        requires { (now (stored_as self.old)).in_group ≡ false }
+        ensures ok { OnOk result (stored_as self.new ≡ after_flush (stored_as self.old)) }
+        ensures number { IfOk result (λ n. n ≡ length (stored_as self.old).recent) }
+        ensures renewed { OnOk result (IsRenewed self.old.files self.new.files) }
+        ensures up { OnOk result ((self.old.files.failed ≡ false) × (self.new.files.failed ≡ false)) }
+        ensures err { IfErr result (λ e. IsRefused e (stored_as self.old) (stored_as self.new)) }
+        ensures cause { IfErr result (λ e. IsUnstored D.faults (IsLast self.old) self.old.files self.new.files self.old.faults e) }
+        ensures over { self.old.files.failed ≡ true → self.new.files ≡ self.old.files }
+        ensures stays { IfErr result (λ e. e ≡ NoMemory → self.new.files.failed ≡ false → self.new ≡ self.old) }
+        ensures asked { self.new.asked ≡ self.old.asked }
+        ensures rule { KeepsRule self.old self.new }
+        ensures limits { AreNoLower self.old.limits self.new.limits }
+        ensures any_moment { LeavesPairs D.moment D.left_since D.may_leave self.old.files self.new.files (IsLasting (asked_of self.old.asked) self.old.limits (stored_as self.old)) }
+    {
+        self.files.law_time();
+        let (pids, versions) = self.ahead(false);
+        let whole = match self.whole_with(pids, versions) {
+            Ok(whole) => whole,
+            Err(e) => return Err(e),
+        };
+        let flushed = self.flush_anew(&whole, pids, versions);
+        drop(whole);
+        flushed
+    }
 }
 
 impl<D: Disk + Send> Pages for FilePages<D> {
-    ghost use Rattle.sled_files.specs.Stored.{stored_as, asked_of, flush_number_in, KeepsFiles, AsksFor};
-    ghost use Rattle.sled_files.specs.Files.{LeavesPairs};
+    ghost use Rattle.sled_files.specs.Stored.{stored_as, asked_of, flush_number_in, KeepsFiles, KeepsRule, AsksFor};
+    ghost use Rattle.sled_files.specs.Codes.{IsUnstored, LacksRoom, IsLast};
+    ghost use Rattle.sled_files.specs.Files.{LeavesPairs, IsRenewed, IsGrown};
     ghost use Rattle.sled_files.specs.Lasting.{IsLasting};
 
     ghost store = { stored_as };
@@ -476,6 +521,8 @@ impl<D: Disk + Send> Pages for FilePages<D> {
         ensures ok { IfOk result (λ given. Allocates node given.0 given.1 (stored_as self.old) (stored_as self.new)) }
         ensures err { IfErr result (λ e. IsRefused e (stored_as self.old) (stored_as self.new)) }
         ensures asked { self.new.asked ≡ self.old.asked }
+        ensures over { self.old.files.failed ≡ true → self.new.files ≡ self.old.files }
+        ensures rule { KeepsRule self.old self.new }
         ensures any_moment { LeavesPairs D.moment D.left_since D.may_leave self.old.files self.new.files (IsLasting (asked_of self.old.asked) self.old.limits (stored_as self.old)) }
     {
         match self.reach() {
@@ -498,6 +545,8 @@ impl<D: Disk + Send> Pages for FilePages<D> {
         ensures ok { IfOk result (Changes (after_link new) pid version (stored_as self.old) (stored_as self.new)) }
         ensures err { IfErr result (λ e. IsRefused e (stored_as self.old) (stored_as self.new)) }
         ensures asked { self.new.asked ≡ self.old.asked }
+        ensures over { self.old.files.failed ≡ true → self.new.files ≡ self.old.files }
+        ensures rule { KeepsRule self.old self.new }
         ensures any_moment { LeavesPairs D.moment D.left_since D.may_leave self.old.files self.new.files (IsLasting (asked_of self.old.asked) self.old.limits (stored_as self.old)) }
     {
         match self.reach() {
@@ -518,6 +567,8 @@ impl<D: Disk + Send> Pages for FilePages<D> {
         ensures ok { IfOk result (Changes (λ _. node) pid version (stored_as self.old) (stored_as self.new)) }
         ensures err { IfErr result (λ e. IsRefused e (stored_as self.old) (stored_as self.new)) }
         ensures asked { self.new.asked ≡ self.old.asked }
+        ensures over { self.old.files.failed ≡ true → self.new.files ≡ self.old.files }
+        ensures rule { KeepsRule self.old self.new }
         ensures any_moment { LeavesPairs D.moment D.left_since D.may_leave self.old.files self.new.files (IsLasting (asked_of self.old.asked) self.old.limits (stored_as self.old)) }
     {
         match self.reach() {
@@ -579,26 +630,35 @@ impl<D: Disk + Send> Pages for FilePages<D> {
     }
 
     /// Makes all that was done durable. The number is that of the changing actions since the last flush. At any moment a crash leaves
-    /// files that are right for the store before. Once the log is longer than 4 MB and than twice the last snapshot, the other file is
-    /// begun anew with a snapshot, if there is memory for it, and counts from then on.
+    /// files that are right for the store before. Once the log is longer than 4 MB (or than `compact_from` set) and than twice the last
+    /// snapshot, the other file is begun anew with a snapshot, and counts from then on. If there is no memory for it, the log grows.
     fn flush(&mut self) -> Result<usize>
         requires { (now (stored_as self.old)).in_group ≡ false }
         ensures ok { OnOk result (stored_as self.new ≡ after_flush (stored_as self.old)) }
         ensures number { IfOk result (λ n. n ≡ length (stored_as self.old).recent) }
+        // The log has a block more, or a snapshot that was due is counted as missed.
+        ensures grown { OnOk result (is_due self.old ≡ false → IsGrown D.seen self.old.files self.new.files) }
+        ensures renewed { OnOk result (is_due self.old ≡ true → (IsRenewed self.old.files self.new.files × (self.new.missed ≡ self.old.missed)) ⊎ (IsGrown D.seen self.old.files self.new.files × (self.new.missed ≡ min (self.old.missed + 1) (2 ^ 64 - 1)))) }
+        ensures calm { is_due self.old ≡ false → self.new.missed ≡ self.old.missed }
+        ensures longest { self.new.longest ≡ self.old.longest }
+        // Once a disk refused a call, it is refused, until the disks are opened again.
+        ensures up { OnOk result ((self.old.files.failed ≡ false) × (self.new.files.failed ≡ false)) }
+        ensures over { self.old.files.failed ≡ true → self.new.files ≡ self.old.files }
         ensures err { IfErr result (λ e. IsRefused e (stored_as self.old) (stored_as self.new)) }
+        ensures cause { IfErr result (λ e. IsUnstored D.faults (LacksRoom self.old ⊎ IsLast self.old) self.old.files self.new.files self.old.faults e) }
         ensures asked { self.new.asked ≡ self.old.asked }
         ensures limits { AreNoLower self.old.limits self.new.limits }
         ensures any_moment { LeavesPairs D.moment D.left_since D.may_leave self.old.files self.new.files (IsLasting (asked_of self.old.asked) self.old.limits (stored_as self.old)) }
     {
-        let (pids, versions) = self.ahead(false);
-        let Some(whole) = self.whole(pids, versions) else {
+        if !self.is_due() {
             return self.flush_on();
-        };
-        let flushed = self.flush_anew(&whole, pids, versions);
-        drop(whole);
-        match flushed {
+        }
+        match self.flush_whole() {
             Ok(count) => Ok(count),
-            Err(Error::NoMemory) if !self.files.failed() => self.flush_on(),
+            Err(Error::NoMemory) if !self.files.failed() => {
+                self.miss();
+                self.flush_on()
+            }
             Err(e) => Err(e),
         }
     }
@@ -611,6 +671,11 @@ impl<D: Disk + Send> Pages for FilePages<D> {
         ensures err { IfErr result (λ e. IsRefused e (stored_as self.old) (stored_as self.new)) }
         ensures asked { OnOk result (self.new.asked ≡ self.old.asked) }
         ensures asks { OnErr result (AsksFor upto self.old self.new) }
+        // Once a disk refused a call, it is refused, until the disks are opened again.
+        ensures up { OnOk result ((self.old.files.failed ≡ false) × (self.new.files.failed ≡ false)) }
+        ensures over { self.old.files.failed ≡ true → self.new.files ≡ self.old.files }
+        ensures cause { IfErr result (λ e. IsUnstored D.faults (LacksRoom self.old) self.old.files self.new.files self.old.faults e) }
+        ensures rule { KeepsRule self.old self.new }
         ensures limits { self.new.limits ≡ self.old.limits }
         ensures any_moment { LeavesPairs D.moment D.left_since D.may_leave self.old.files self.new.files (IsLasting (upto ∷ asked_of self.old.asked) self.old.limits (stored_as self.old)) }
     {

@@ -7,7 +7,7 @@ ghost use Rattle.sled_files.specs.Standing.{IsBlank, IsBegun};
 ghost use Rattle.sled_files.specs.Files.{picked, faults_in, IsReady};
 ghost use Rattle.sled_files.specs.theory.Chosen.{IsOpened};
 ghost use Rattle.sled_files.specs.theory.Reopened.{Opens, OpensStore};
-ghost use Rattle.sled_files.specs.Opening.{LeavesWhileOpened, StayAsTheyWere, is_counted, is_why_closed, is_refusal};
+ghost use Rattle.sled_files.specs.Opening.{LeavesWhileOpened, StayAsTheyWere, AreSeenAsBefore, is_counted, is_why_closed, is_refusal};
 
 use crate::begin::begin_file;
 use crate::found::OpenError;
@@ -54,7 +54,7 @@ fn refusal_of(e: DiskError) -> OpenError
 // Brings all of a file to the disk, and reads it.
 fn settle<D: Disk>(alloc: Global, disk: &mut D) -> Result<Vec<u8>, OpenError>
     ensures bytes { IfOk result (λ bytes. bytes.items ≡ D.seen disk.old) }
-    ensures seen { IfOk result (λ _. D.seen disk.new ≡ D.seen disk.old) }
+    ensures seen { D.seen disk.new ≡ D.seen disk.old }
     ensures durable { IfOk result (λ _. Only (D.seen disk.new) (D.may_leave disk.new)) }
     ensures crash { NoMore (D.may_leave disk.old) (D.may_leave disk.new) }
     ensures any_moment { LeavesOnly D.moment D.left_since disk.old disk.new (D.may_leave disk.old) }
@@ -80,6 +80,8 @@ fn settle_both<D: Disk>(
 ) -> Result<(Vec<u8>, Vec<u8>), OpenError>
     ensures first_bytes { IfOk result (λ read. read.0.items ≡ D.seen first.old) }
     ensures second_bytes { IfOk result (λ read. read.1.items ≡ D.seen second.old) }
+    ensures first_seen { D.seen first.new ≡ D.seen first.old }
+    ensures second_seen { D.seen second.new ≡ D.seen second.old }
     ensures stay { OnOk result (StayAsTheyWere D.seen D.may_leave first.old second.old first.new second.new) }
     ensures first_run { LeavesOnly D.moment D.left_since first.old first.new (D.may_leave first.old) }
     ensures second_run { LeavesOnly D.moment D.left_since second.old second.new (D.may_leave second.old) }
@@ -177,6 +179,7 @@ pub fn open_files<D: Disk>(
     ensures calm { IfOk result (λ x. faults_in D.faults x.0 ≡ D.faults first + D.faults second) }
     ensures err { IfErr result (λ x. is_why_closed x.error (D.seen first) (D.seen second)) }
     ensures refused { IfErr result (λ x. LeavesWhileOpened D.seen D.moment D.left_since D.may_leave first second x.first x.second) }
+    ensures seen { IfErr result (λ x. AreSeenAsBefore D.seen first second x.first x.second) }
     ensures stay { IfErr result (λ x. (is_refusal x.error → ⊥) → StayAsTheyWere D.seen D.may_leave first second x.first x.second) }
     ensures cause { IfErr result (λ x. is_counted (D.faults first + D.faults second) (D.faults x.first + D.faults x.second) x.error) }
 {

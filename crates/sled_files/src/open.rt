@@ -7,8 +7,8 @@ ghost use Rattle.sled_files.specs.Standing.{AreFor, AreBlank};
 ghost use Rattle.sled_files.specs.declared.found.OpenError.{OpenError};
 ghost use Rattle.sled_files.specs.Flaws.{is_flaw};
 ghost use Rattle.sled_files.specs.Files.{IsReady, faults_in};
-ghost use Rattle.sled_files.specs.Lasting.{Limits, IsLasting, EachPair};
-ghost use Rattle.sled_files.specs.Opening.{IsReopened, OpensTo, AreOpenable, IsTold, LeavesWhileOpened, StayAsTheyWere, is_counted, is_why_closed, is_refusal};
+ghost use Rattle.sled_files.specs.Lasting.{Limits, AreLimits, IsLasting, EachPair};
+ghost use Rattle.sled_files.specs.Opening.{IsReopened, OpensTo, AreOpenable, IsTold, LeavesWhileOpened, StayAsTheyWere, AreSeenAsBefore, IsFresh, is_counted, is_why_closed, is_refusal};
 
 use crate::file_pages::FilePages;
 use crate::files::{NotOpened, open_files};
@@ -21,8 +21,8 @@ impl<D: Disk> FilePages<D> {
 
     /// Opens a store in two files: the one that they stand for, as a crash or a drop left it, or a new one where both are blank. What
     /// the files have is brought to the disks first. Refused where they are of none (`NotAStore`, `OtherFormat`, `Decayed`), for want
-    /// of memory, or by a disk. Then the disks are handed back: a crash leaves what it might have left before. Where both were blank,
-    /// it may also leave a part of a new store.
+    /// of memory, or by a disk. Then the disks are handed back: a read returns what it did, and a crash leaves what it might have left
+    /// before. Where both were blank, the first may have a part of a new store.
     ///
     /// ```
     /// match FilePages::open(alloc, first, second) {
@@ -36,6 +36,9 @@ impl<D: Disk> FilePages<D> {
         ensures begins { IfOk result (λ f. AreBlank (D.seen first) (D.seen second) → IsReady D.seen D.may_leave f.files nothing_yet × (stored_as f ≡ empty_store)) }
         // It is one of the two.
         ensures opens { IfOk result (λ f. OpensTo D.seen D.may_leave (D.seen first) (D.seen second) f.files (stored_as f)) }
+        // The limits are those of the files, and nothing was asked of it yet.
+        ensures limits { IfOk result (λ f. (d : Durable) → AreFor (D.seen first) (D.seen second) d → AreLimits f.limits d) }
+        ensures fresh { IfOk result IsFresh }
         // A crash meanwhile leaves what it might have left before, or a new store while it is begun.
         ensures any_moment { IfOk result (λ f. LeavesWhileOpened D.seen D.moment D.left_since D.may_leave first second f.files.first f.files.second) }
         // So of files that are right for a store, whatever is left of them, it leaves files that are.
@@ -49,6 +52,8 @@ impl<D: Disk> FilePages<D> {
         ensures refused { IfErr result (λ x. AreOpenable (D.seen first) (D.seen second) → is_refusal x.error) }
         // A disk's refusal is counted, and no other.
         ensures cause { IfErr result (λ x. is_counted (D.faults first + D.faults second) (D.faults x.first + D.faults x.second) x.error) }
+        // Whatever refuses it, the disks have what they had, but for what begins a store in two blank files.
+        ensures seen { IfErr result (λ x. AreSeenAsBefore D.seen first second x.first x.second) }
         // Refused for another cause, the disks have what they had, and nothing was written.
         ensures stay { IfErr result (λ x. (is_refusal x.error → ⊥) → StayAsTheyWere D.seen D.may_leave first second x.first x.second) }
         // A crash meanwhile, and from then on, leaves what it might have left before, or what begins a new store in two blank files.

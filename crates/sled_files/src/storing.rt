@@ -1,9 +1,10 @@
 //! How the files of a store are added to, and why that is refused.
-ghost use Rattle.std.specs.Prelude.{◌≡◌, ◌⊎◌, List, IfErr, OnOk, OnErr, true, false};
+ghost use Rattle.std.specs.Prelude.{◌≡◌, ◌⊎◌, ◌+◌, ◌<◌, ◌^◌, List, length, IfErr, OnOk, OnErr, true, false};
 ghost use Rattle.sled_store.specs.Faults.{IsFault};
 ghost use Rattle.sled_bytes.specs.declared.change.Change.{Change};
 ghost use Rattle.sled_files.specs.Change.{Durable, changed_all, AreAdded};
-ghost use Rattle.sled_files.specs.Files.{IsReady, KeepsTime, LeavesPairs, AreForEither, one_of, other_of};
+ghost use Rattle.sled_files.specs.Files.{IsReady, KeepsTime, LeavesPairs, AreForEither, IsGrown, IsRenewed};
+ghost use Rattle.sled_files.specs.Codes.{fault_of, error_of, IsUnstored};
 ghost use Rattle.sled_files.specs.Pending.{Spells};
 ghost use Rattle.sled_files.specs.theory.Snapshot.{MakesAnew};
 
@@ -22,7 +23,8 @@ pub const DISK_FAILED: u32 = 5;
 
 /// A fault, while faults can be counted.
 pub fn fault(faults: &mut u64, code: u32) -> Error
-    ensures { IsFault faults.old faults.new result }
+    ensures counted { IsFault faults.old faults.new result }
+    ensures is { result ≡ fault_of faults.old code }
 {
     if *faults == u64::MAX {
         return Error::NoMemory;
@@ -33,7 +35,8 @@ pub fn fault(faults: &mut u64, code: u32) -> Error
 
 // What a refusal of the files comes to.
 fn refusal(faults: &mut u64, e: DiskError) -> Error
-    ensures { IsFault faults.old faults.new result }
+    ensures counted { IsFault faults.old faults.new result }
+    ensures is { result ≡ error_of faults.old e }
 {
     match e {
         DiskError::NoMemory => Error::NoMemory,
@@ -51,7 +54,10 @@ pub fn add<D: Disk>(files: &mut TwoFiles<D>, faults: &mut u64, payload: &[u8]) -
     ensures over { files.old.failed ≡ true → files.new ≡ files.old }
     ensures up { OnOk result (files.old.failed ≡ false) }
     ensures same { OnOk result (faults.new ≡ faults.old) }
+    ensures still_up { OnOk result (files.new.failed ≡ false) }
+    ensures grown { OnOk result (IsGrown D.seen files.old files.new) }
     ensures fault { IfErr result (λ e. IsFault faults.old faults.new e) }
+    ensures cause { IfErr result (λ e. IsUnstored D.faults (2 ^ 62 < files.old.gate + 17 + length payload.now) files.old files.new faults.old e) }
     ensures err { OnErr result ((files.new ≡ files.old) ⊎ (files.new.failed ≡ true)) }
 {
     files.law_time();
@@ -74,11 +80,14 @@ pub fn begin_anew<D: Disk>(files: &mut TwoFiles<D>, faults: &mut u64, payload: &
     ensures any_moment { (d made : Durable) → IsReady D.seen D.may_leave files.old d → MakesAnew payload.now made → LeavesPairs D.moment D.left_since D.may_leave files.old files.new (AreForEither d made) }
     ensures first { KeepsTime D.moment D.left_since D.may_leave files.old.first }
     ensures second { KeepsTime D.moment D.left_since D.may_leave files.old.second }
-    ensures one { OnOk result (other_of files.new ≡ one_of files.old) }
     ensures over { files.old.failed ≡ true → files.new ≡ files.old }
     ensures up { OnOk result (files.old.failed ≡ false) }
     ensures same { OnOk result (faults.new ≡ faults.old) }
+    ensures still_up { OnOk result (files.new.failed ≡ false) }
+    ensures renewed { OnOk result (IsRenewed files.old files.new) }
+    ensures snapshot { OnOk result (files.new.snapshot ≡ length payload.now) }
     ensures fault { IfErr result (λ e. IsFault faults.old faults.new e) }
+    ensures cause { IfErr result (λ e. IsUnstored D.faults (files.old.generation + 1 ≡ 2 ^ 64) files.old files.new faults.old e) }
     ensures err { OnErr result ((files.new ≡ files.old) ⊎ (files.new.failed ≡ true)) }
 {
     files.law_time();

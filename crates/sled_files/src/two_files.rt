@@ -1,5 +1,5 @@
 //! Two files of which one counts, and how what they stand for changes.
-ghost use Rattle.std.specs.Prelude.{◌≡◌, ℕ, ◌+◌, ◌<◌, ◌^◌, List, length, true, false, [], ◌∷◌, ◌++◌, IfOk, IfErr, OnOk, Err};
+ghost use Rattle.std.specs.Prelude.{◌≡◌, ℕ, ◌+◌, ◌≤◌, ◌<◌, ◌^◌, List, length, true, false, [], ◌∷◌, ◌++◌, IfOk, IfErr, OnOk, Err};
 ghost use Rattle.sled_disk.specs.Disk.{Only, LeavesOnly, HasCause};
 ghost use Rattle.sled_disk.specs.declared.disk.DiskError.TheVariants.{Failed};
 ghost use Rattle.sled_bytes.specs.declared.change.Change.{Change};
@@ -9,9 +9,9 @@ ghost use Rattle.sled_log.specs.Append.{IsBlockFor, IsBeforeOrAfter};
 ghost use Rattle.sled_files.specs.Standing.{StandsWith, IsBegun};
 ghost use Rattle.sled_files.specs.Pending.{Spells};
 ghost use Rattle.sled_files.specs.Files.{picked, KeepsTime};
-ghost use Rattle.sled_files.specs.theory.Begun.{IsFirstBlock};
+ghost use Rattle.sled_files.specs.theory.Begun.{IsFirstBlock, IsEmptied};
 
-use crate::begin::{begin_with, first_block};
+use crate::begin::{begin_with, empty, first_block};
 use sled_disk::{Disk, DiskError, Result, law_counts_now, law_only_now};
 use sled_log::{append, block_of};
 use std::alloc::Global;
@@ -47,13 +47,55 @@ fn append_to_one<D: Disk>(
     ensures place { OnOk result (gate + length block.now < length (D.seen (picked is_second first.new second.new))) }
     ensures next { OnOk result ((b : IsBlockFor (D.seen (picked is_second first.old second.old)) gate block.now) → IsLog b.digest (D.seen (picked is_second first.new second.new)) (b.payloads ++ b.payload ∷ []) (gate + length block.now)) }
     ensures any_moment { (b : IsBlockFor (D.seen (picked is_second first.old second.old)) gate block.now) → LeavesOnly D.moment D.left_since (picked is_second first.old second.old) (picked is_second first.new second.new) (IsBeforeOrAfter b) }
-    ensures cause { HasCause (D.faults (picked is_second first.old second.old)) (D.faults (picked is_second first.new second.new)) result }
+    ensures cause { HasCause (D.faults first.old + D.faults second.old) (D.faults first.new + D.faults second.new) result }
 {
     if is_second {
         append(second, gate, block)
     } else {
         append(first, gate, block)
     }
+}
+
+// Empties the other file.
+fn empty_other<D: Disk>(first: &mut D, second: &mut D, is_second: bool) -> Result<()>
+    requires on_disk { Only (D.seen (picked is_second second.old first.old)) (D.may_leave (picked is_second second.old first.old)) }
+    ensures one { picked is_second first.new second.new ≡ picked is_second first.old second.old }
+    ensures short { OnOk result (length (D.seen (picked is_second second.new first.new)) ≤ 1) }
+    ensures durable { OnOk result (Only (D.seen (picked is_second second.new first.new)) (D.may_leave (picked is_second second.new first.new))) }
+    ensures any_moment { LeavesOnly D.moment D.left_since (picked is_second second.old first.old) (picked is_second second.new first.new) (IsEmptied (D.seen (picked is_second second.old first.old))) }
+    ensures cause { HasCause (D.faults first.old + D.faults second.old) (D.faults first.new + D.faults second.new) result }
+{
+    if is_second {
+        empty(first)
+    } else {
+        empty(second)
+    }
+}
+
+// Adds a block to the log of the file that counts, and empties the other one.
+fn append_alone<D: Disk>(
+    first: &mut D,
+    second: &mut D,
+    is_second: bool,
+    gate: usize,
+    block: &[u8],
+) -> Result<()>
+    requires place { gate < length (D.seen (picked is_second first.old second.old)) }
+    requires small { gate < 2 ^ 62 }
+    requires on_disk { Only (D.seen (picked is_second first.old second.old)) (D.may_leave (picked is_second first.old second.old)) }
+    requires other_on_disk { Only (D.seen (picked is_second second.old first.old)) (D.may_leave (picked is_second second.old first.old)) }
+    ensures short { OnOk result (length (D.seen (picked is_second second.new first.new)) ≤ 1) }
+    ensures other_durable { OnOk result (Only (D.seen (picked is_second second.new first.new)) (D.may_leave (picked is_second second.new first.new))) }
+    ensures other_any_moment { LeavesOnly D.moment D.left_since (picked is_second second.old first.old) (picked is_second second.new first.new) (IsEmptied (D.seen (picked is_second second.old first.old))) }
+    ensures durable { OnOk result (Only (D.seen (picked is_second first.new second.new)) (D.may_leave (picked is_second first.new second.new))) }
+    ensures place { OnOk result (gate + length block.now < length (D.seen (picked is_second first.new second.new))) }
+    ensures next { OnOk result ((b : IsBlockFor (D.seen (picked is_second first.old second.old)) gate block.now) → IsLog b.digest (D.seen (picked is_second first.new second.new)) (b.payloads ++ b.payload ∷ []) (gate + length block.now)) }
+    ensures any_moment { (b : IsBlockFor (D.seen (picked is_second first.old second.old)) gate block.now) → LeavesOnly D.moment D.left_since (picked is_second first.old second.old) (picked is_second first.new second.new) (IsBeforeOrAfter b) }
+    ensures cause { HasCause (D.faults first.old + D.faults second.old) (D.faults first.new + D.faults second.new) result }
+{
+    laws_of(first, second);
+    append_to_one(first, second, is_second, gate, block)?;
+    empty_other(first, second, is_second)
 }
 
 // Begins the other file anew.
@@ -225,8 +267,9 @@ impl<D: Disk> TwoFiles<D> {
         self.snapshot
     }
 
-    /// Adds changes to those for which the files stand, as one block of the log that counts, and brings them to the disk. At any
-    /// moment a crash leaves files that stand for what they stood for, or for that with all of the changes. Refused with `NoMemory`
+    /// Adds changes to those for which the files stand, as one block of the log that counts, and brings them to the disk. Then it
+    /// empties the other file, if that was not done before. At any moment a crash leaves files that stand for what they stood for,
+    /// or for that with all of the changes. Refused with `NoMemory`
     /// or, where the log would be too long, `Full`, and then nothing changed; by the disk, and then all calls are refused from then
     /// on, with `Failed`.
     ///
@@ -236,10 +279,12 @@ impl<D: Disk> TwoFiles<D> {
     pub fn append(&mut self, payload: &[u8]) -> Result<()>
         ensures ready { OnOk result ((d : Durable) (changes : List Change) → IsReady D.seen D.may_leave self.old d → Spells payload.now changes → AreAdded changes d → IsReady D.seen D.may_leave self.new (changed_all changes d)) }
         ensures any_moment { (d : Durable) (changes : List Change) → IsReady D.seen D.may_leave self.old d → Spells payload.now changes → AreAdded changes d → LeavesPairs D.moment D.left_since D.may_leave self.old self.new (AreForEither d (changed_all changes d)) }
-        ensures other { other_of self.new ≡ other_of self.old }
-        // The log has the same snapshot and generation.
+        ensures emptied { OnOk result (length (D.seen (other_of self.new)) ≤ 1) }
+        // The log is longer by the block: a gate, two numbers of 8 bytes, and the changes. It has the same snapshot and generation.
+        ensures bytes { OnOk result (self.new.gate ≡ self.old.gate + 17 + length payload.now) }
         ensures snapshot { self.new.snapshot ≡ self.old.snapshot }
         ensures generation { self.new.generation ≡ self.old.generation }
+        ensures up { OnOk result ((self.old.failed ≡ false) × (self.new.failed ≡ false)) }
         ensures calm { OnOk result (faults_in D.faults self.new ≡ faults_in D.faults self.old) }
         ensures over { self.old.failed ≡ true → (result ≡ Err Failed) × (self.new ≡ self.old) }
         ensures err { IfErr result (IsRefused D.faults (2 ^ 62 < self.old.gate + 17 + length payload.now) self.old self.new) }
@@ -253,7 +298,7 @@ impl<D: Disk> TwoFiles<D> {
             return Err(DiskError::Full);
         }
         self.failed = true;
-        let added = append_to_one(
+        let added = append_alone(
             &mut self.first,
             &mut self.second,
             self.is_second,
@@ -279,7 +324,10 @@ impl<D: Disk> TwoFiles<D> {
         ensures any_moment { (d : Durable) (changes : List Change) → IsReady D.seen D.may_leave self.old d → Spells payload.now changes → AreOfStore changes (changed_all changes nothing_yet) → LeavesPairs D.moment D.left_since D.may_leave self.old self.new (AreForEither d (changed_all changes nothing_yet)) }
         ensures one { OnOk result (other_of self.new ≡ one_of self.old) }
         ensures snapshot { OnOk result (self.new.snapshot ≡ length payload.now) }
+        // Before the changes are a gate, two numbers of 8 bytes, and the header.
+        ensures bytes { OnOk result (self.new.gate ≡ length payload.now + 37) }
         ensures generation { OnOk result (self.new.generation ≡ self.old.generation + 1) }
+        ensures up { OnOk result ((self.old.failed ≡ false) × (self.new.failed ≡ false)) }
         ensures calm { OnOk result (faults_in D.faults self.new ≡ faults_in D.faults self.old) }
         ensures over { self.old.failed ≡ true → (result ≡ Err Failed) × (self.new ≡ self.old) }
         ensures err { IfErr result (IsRefused D.faults (self.old.generation + 1 ≡ 2 ^ 64) self.old self.new) }

@@ -1,4 +1,4 @@
 mod LogLemmas
 pub mod Moments
-mod Appending
+pub mod Appending
 pub mod ReadingLemmas

@@ -1,6 +1,6 @@
 //! A block more at the end of a log.
-ghost use Rattle.std.specs.Prelude.{◌≡◌, ◌<◌, ◌≤◌, ◌+◌, ◌^◌, ◌++◌, [], ◌∷◌, length, IfOk, IfErr, OnOk, Ok};
-ghost use Rattle.sled_disk.specs.Disk.{written, Torn, Only, LeavesOnly, HasCause};
+ghost use Rattle.std.specs.Prelude.{◌≡◌, ◌<◌, ◌≤◌, ◌+◌, ◌^◌, ◌++◌, [], ◌∷◌, length, take, IfOk, IfErr, OnOk, Ok};
+ghost use Rattle.sled_disk.specs.Disk.{written, Torn, Shortened, Only, LeavesOnly, HasCause};
 ghost use Rattle.sled_log.specs.Log.{opened, log_of, IsLog};
 ghost use Rattle.sled_log.specs.Append.{behind_gate, IsBlockFor, IsBeforeOrAfter};
 ghost use Rattle.sled_log.specs.Digest.{digest};
@@ -49,6 +49,25 @@ pub fn write_through<D: Disk>(disk: &mut D, at: usize, bytes: &[u8]) -> Result<(
     disk.write_at(at, bytes)?;
     disk.sync()?;
     Ok(())
+}
+
+/// Cuts a file, and brings that to the disk. What is refused is refused by the disk, which may have cut off all of it then, a part of it
+/// or nothing.
+///
+/// ```
+/// cut_through(&mut disk, 1)?; // Of a file that has a byte, no crash brings the others back.
+/// ```
+pub fn cut_through<D: Disk>(disk: &mut D, len: usize) -> Result<()>
+    requires place { len ≤ length (D.seen disk.old) }
+    requires on_disk { Only (D.seen disk.old) (D.may_leave disk.old) }
+    ensures cut { OnOk result (D.seen disk.new ≡ take len (D.seen disk.old)) }
+    ensures durable { OnOk result (Only (D.seen disk.new) (D.may_leave disk.new)) }
+    // A crash at any moment of the call leaves a beginning of the file that is no shorter.
+    ensures any_moment { LeavesOnly D.moment D.left_since disk.old disk.new (Shortened len (D.seen disk.old)) }
+    ensures cause { HasCause (D.faults disk.old) (D.faults disk.new) result }
+{
+    disk.cut(len)?;
+    disk.sync()
 }
 
 /// Adds a block behind the closed gate of a log, brings it to the disk, and then opens the gate, and brings that to the disk. The bytes

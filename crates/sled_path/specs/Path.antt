@@ -6,10 +6,12 @@ use Rattle.sled_nodes.specs.declared.error.Error.TheVariants as error
 use Rattle.sled_store.specs.Store.{Store, now}
 use Rattle.sled_files.specs.Files.{Files}
 use Rattle.sled_files.specs.Stored.{Stored, stored_as}
-use Rattle.sled_files.specs.Opening.{OpensTo, is_why_unopened}
+use Rattle.sled_files.specs.Opening.{OpensTo, is_why_unopened, is_fault}
 use Rattle.sled_files.specs.declared.found.OpenError as file
 use Rattle.sled_host.specs.Host.{bytes_of, outcomes_of}
 use Rattle.sled_host.specs.declared.host.HostFile.{HostFile}
+use Rattle.sled_host.specs.declared.pair.HostError.{HostError}
+use Rattle.sled_host.specs.declared.pair.HostError.TheVariants as host
 use Rattle.sled.specs.Values.{DbValue}
 use Rattle.sled.specs.Opens.{Opens}
 use Rattle.sled.specs.Checked.{RefusesChecked, IsFit}
@@ -39,12 +41,18 @@ pub record IsUnfit (e : Error) : Type 0 where
   pub left : Store
   pub why : RefusesChecked store e left
 
+-- what the operating system refused: want of memory, and a database that is open elsewhere, have names of their own
+abbrev pub is_of_system : HostError → Type 0
+is_of_system host.NoMemory = ⊥
+is_of_system host.Locked = ⊥
+is_of_system e = Unit {0}
+
 -- why no database was opened
 abbrev pub is_why_closed : OpenError → Type 0
 is_why_closed NotAStore = AreRefused file.TheVariants.NotAStore
 is_why_closed (OtherFormat other) = AreRefused (file.TheVariants.OtherFormat other)
 is_why_closed (Decayed place) = AreRefused (file.TheVariants.Decayed place)
 is_why_closed Locked = Unit {0}
-is_why_closed (Io e) = Unit {0}
-is_why_closed (Disk e) = Unit {0}
+is_why_closed (Io e) = is_of_system e
+is_why_closed (Disk e) = is_fault e
 is_why_closed (Database e) = (e ≡ error.NoMemory) ⊎ IsUnfit e

@@ -1,5 +1,5 @@
 //! A database is opened in a folder.
-ghost use Rattle.std.specs.Prelude.{IfOk, IfErr};
+ghost use Rattle.std.specs.Prelude.{◌≡◌, true, IfOk, IfErr};
 ghost use Rattle.sled_path.specs.Path.{OpensIn, is_why_closed};
 
 use crate::error::{OpenError, of_files, of_host};
@@ -53,6 +53,7 @@ pub fn open_with<M: MergeOperator>(
     opening: Opening,
 ) -> Result<(Db<FilePages<HostFile>, M>, bool), OpenError>
     ensures ok { IfOk result (λ opened. OpensIn name.now opened.0) }
+    ensures locked { IfOk result (λ opened. opening.needs_lock ≡ true → opened.1 ≡ true) }
     ensures err { IfErr result is_why_closed }
 {
     let Pair {

@@ -7,3 +7,5 @@ pub record KeepsPages {D : Type 0} (old new : Stored D) : Type 0 where
   pub pages : new.pages ≡ old.pages
   pub pending : new.pending ≡ old.pending
   pub asked : new.asked ≡ old.asked
+  pub longest : new.longest ≡ old.longest
+  pub missed : new.missed ≡ old.missed

@@ -1,4 +1,4 @@
-use Rattle.std.proofs.Common.{rules, refl, ℕ, ◌+◌, subst}
+use Rattle.std.proofs.Common.{rules, inl, inr, refl, ℕ, ◌+◌, ◌∙◌, ap, subst}
 use Rattle.sled_files.specs.Opening.{is_counted}
 use Rattle.sled_files.proofs.Meanwhile.{leaves_read, leaves_begun, counted_first, uncounted}
 use Rattle.sled_files.proofs.Refused.{refusal_closed, unopened_closed}
@@ -53,3 +53,12 @@ returns-in-Err-opened-clause-cause g c = uncounted c.in-Err-opened.error _ _ _ _
 
 pub returns-in-Err-opened-clause-err : goal.returns-in-Err-opened-clause-err
 returns-in-Err-opened-clause-err g c = unopened_closed c.in-Err-opened.error _ _ (search rules)
+
+pub returns-in-Err-clause-seen : goal.returns-in-Err-clause-seen
+returns-in-Err-clause-seen g c = (inl c.settle_both.ensures.first_seen, c.settle_both.ensures.second_seen)
+
+pub returns-in-Err-begin-clause-seen : goal.returns-in-Err-begin-clause-seen
+returns-in-Err-begin-clause-seen g c = (inr (search rules), ap g.D.Disk.seen c.in-Err-begin.ensures.kept ∙ c.settle_both.ensures.second_seen)
+
+pub returns-in-Err-opened-clause-seen : goal.returns-in-Err-opened-clause-seen
+returns-in-Err-opened-clause-seen g c = (inl c.settle_both.ensures.first_seen, c.settle_both.ensures.second_seen)

@@ -1,9 +1,10 @@
-use Rattle.std.proofs.Common.{◌≡◌, [], sym, subst, refl, length, List, ◌∷◌, ℕ, arith}
+use Rattle.std.proofs.Common.{◌≡◌, [], inl, inr, sym, subst, refl, length, List, ◌∷◌, ℕ, arith, rules}
 use Rattle.std.proofs.lemmas.Bool.Decides.{nat_tests}
 use Rattle.sled_bytes.specs.declared.change.Change.{Change}
 use Rattle.sled_files.specs.Change.{changed_all}
 use Rattle.sled_files.specs.Files.{IsReady}
 use Rattle.sled_files.proofs.Moments.{empty_spells, moments_ready}
+use Rattle.sled_files.proofs.Coding.{unstored_over}
 use Rattle.sled_files.proofs.storing.add.Goals as goal
 
 empty : (bytes : List ℕ) → length bytes ≡ 0 → bytes ≡ []
@@ -19,3 +20,15 @@ pub returns-then-is_empty-clause-any_moment : goal.returns-then-is_empty-clause-
 returns-then-is_empty-clause-any_moment g c = λ d changes ready spells added.
     let e : c.args.payload.now ≡ [] = empty c.args.payload.now (grind (arith, nat_tests)) in
     moments_ready c.law_time.ensures.first c.law_time.ensures.second (empty_spells e spells) ready
+
+pub returns-then-is_empty-clause-grown : goal.returns-then-is_empty-clause-grown
+returns-then-is_empty-clause-grown g c = record { snapshot = refl; generation = refl; bytes = omega arith; other = inl refl }
+
+pub returns-in-Ok-clause-grown : goal.returns-in-Ok-clause-grown
+returns-in-Ok-clause-grown g c = record { snapshot = c.append.ensures.snapshot; generation = c.append.ensures.generation; bytes = omega (arith, c.in-Ok.ensures.bytes); other = inr c.in-Ok.ensures.emptied }
+
+pub returns-then-failed-clause-cause : goal.returns-then-failed-clause-cause
+returns-then-failed-clause-cause g c = unstored_over c.args.files.now c.args.faults.now c.fault.result (search rules) c.fault.ensures.is
+
+pub returns-in-Err-clause-cause : goal.returns-in-Err-clause-cause
+returns-in-Err-clause-cause g c = record { cause = c.in-Err.e; why = c.in-Err.ensures.err; is = c.refusal.ensures.is }

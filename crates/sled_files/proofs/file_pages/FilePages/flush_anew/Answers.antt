@@ -48,3 +48,6 @@ returns-clause-any_moment g c =
     let lower : AreNoLower (record { pids = c.self.inside.limit_pids; versions = c.self.inside.limit_versions }) raised = subst (λ (v : Stored g.row.D.Denot). AreNoLower v.limits raised) (sym c.self.view_is) (record { pids = c.requires.pids; versions = c.requires.versions }) in
     let out : (now (store_of c.self.inside.pages)).in_group ≡ false = ap (λ (v : Stored g.row.D.Denot). (now (stored_as v)).in_group) c.self.view_is ∙ c.requires.out in
     rw (← c.self.view_is) (moments_anew _ c.begin_anew.new.files c.args.whole.now c.self.invariant out raised lower c.ranges.versions.fits whole c.begin_anew.ensures.first c.begin_anew.ensures.second c.begin_anew.ensures.over c.begin_anew.ensures.any_moment)
+
+pub returns-in-Err-clause-cause : goal.returns-in-Err-clause-cause
+returns-in-Err-clause-cause g c = rw (← c.self.view_is) c.in-Err.ensures.cause

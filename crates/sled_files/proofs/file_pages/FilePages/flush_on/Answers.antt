@@ -1,4 +1,4 @@
-use Rattle.std.proofs.Common.{rules, length, ◌≡◌, ◌∙◌, inl, inr, ⊎_elim, refl, ap, sym, subst, false, List, ℕ}
+use Rattle.std.proofs.Common.{rules, arith, length, ◌≡◌, ◌∙◌, inl, inr, ⊎_elim, refl, ap, sym, subst, false, List, ℕ}
 use Rattle.sled_store.specs.Store.{now}
 use Rattle.sled_pages.specs.Memory.{store_of}
 use Rattle.sled_files.specs.Lasting.{Limits, AreNoLower}
@@ -7,7 +7,8 @@ use Rattle.sled_files.specs.theory.Ahead.{IsAhead}
 use Rattle.sled_files.proofs.Over.{own_fault}
 use Rattle.sled_files.proofs.Added.{sound_refused}
 use Rattle.sled_files.proofs.Moments.{moments_none}
-use Rattle.sled_files.proofs.Raising.{sound_ahead, moments_ahead, taken_out}
+use Rattle.sled_files.proofs.Raising.{sound_ahead, moments_ahead, taken_out, ahead_short}
+use Rattle.sled_files.proofs.Coding.{unstored_early, unstored_weaker}
 use Rattle.sled_files.proofs.file_pages.FilePages.flush_on.Goals as goal
 
 pub returns-in-Err-clause-err : goal.returns-in-Err-clause-err
@@ -58,3 +59,13 @@ returns-clause-any_moment g c =
     let lower : AreNoLower limits raised = subst (λ (v : Stored g.row.D.Denot). AreNoLower v.limits raised) (sym c.self.view_is) (record { pids = c.ahead-pids.ensures.pids; versions = c.ahead-pids.ensures.versions }) in
     let more : IsAhead limits raised c.self.inside.pending.items c.deref.result.now = subst (λ (l : List ℕ). IsAhead limits raised c.self.inside.pending.items l) (sym c.deref.ensures.value) c.in_default.ensures.ok in
     rw (← c.self.view_is) (moments_ahead _ c.add.new.files c.deref.result.now c.self.invariant out raised lower more c.add.ensures.first c.add.ensures.second c.add.ensures.over c.add.ensures.any_moment)
+
+pub returns-in-Err-clause-cause : goal.returns-in-Err-clause-cause
+returns-in-Err-clause-cause g c = rw (← c.self.view_is) (unstored_early c.self.inside.files c.self.inside.faults c.in-Err.e c.in-Err.ensures.err.0)
+
+pub returns-in-Err-add-clause-cause : goal.returns-in-Err-add-clause-cause
+returns-in-Err-add-clause-cause g c =
+    let raised : Limits = record { pids = c.ahead-pids.result.0; versions = c.ahead-pids.result.1 } in
+    let limits : Limits = record { pids = c.self.inside.limit_pids; versions = c.self.inside.limit_versions } in
+    let more : IsAhead limits raised c.self.inside.pending.items c.deref.result.now = subst (λ (l : List ℕ). IsAhead limits raised c.self.inside.pending.items l) (sym c.deref.ensures.value) c.in_default.ensures.ok in
+    rw (← c.self.view_is) (unstored_weaker (λ lacks. omega (arith, lacks, ahead_short more)) c.in-Err-add.ensures.cause)

@@ -1,7 +1,8 @@
-use Rattle.std.proofs.Common.{sym, subst}
+use Rattle.std.proofs.Common.{refl, sym, subst}
 use Rattle.sled_files.specs.Stored.{Stored, stored_as}
-use Rattle.sled_files.specs.Opening.{LeavesWhileOpened}
-use Rattle.sled_files.proofs.Reopening.{stands_opened, within_opened, opens_to, recovers_each, begins_new, refused_openable, lasts_while, lasts_then}
+use Rattle.sled_files.specs.Opening.{LeavesWhileOpened, IsFresh}
+use Rattle.sled_files.specs.Lasting.{AreLimits}
+use Rattle.sled_files.proofs.Reopening.{limits_opened, stands_opened, within_opened, opens_to, recovers_each, begins_new, refused_openable, lasts_while, lasts_then}
 use Rattle.sled_files.proofs.Flawed.{told, flaw_unopened, opened_openable}
 use Rattle.sled_files.proofs.file_pages.FilePages.open.Goals as goal
 
@@ -19,6 +20,12 @@ returns-in-Ok-clause-recovers g c = recovers_each g.D.Disk.seen g.D.Disk.may_lea
 
 pub returns-in-Ok-clause-begins : goal.returns-in-Ok-clause-begins
 returns-in-Ok-clause-begins g c = begins_new g.D.Disk.seen g.D.Disk.may_leave (g.D.Disk.seen c.args.first) (g.D.Disk.seen c.args.second) c.new.result.files (stored_as c.new.result) (returns-in-Ok-clause-opens g c)
+
+pub returns-in-Ok-clause-limits : goal.returns-in-Ok-clause-limits
+returns-in-Ok-clause-limits g c d are = subst (λ (f : Stored g.row.D.Denot). AreLimits f.limits d) (sym c.new.ensures) (limits_opened g.D.Disk.seen g.D.Disk.may_leave (g.D.Disk.seen c.args.first) (g.D.Disk.seen c.args.second) c.in-Ok.files c.in-Ok.store c.in-Ok.ensures.ok d are)
+
+pub returns-in-Ok-clause-fresh : goal.returns-in-Ok-clause-fresh
+returns-in-Ok-clause-fresh g c = subst (λ (f : Stored g.row.D.Denot). IsFresh f) (sym c.new.ensures) (record { asked = refl; pending = refl; longest = refl; missed = refl })
 
 pub returns-in-Err-clause-refused : goal.returns-in-Err-clause-refused
 returns-in-Err-clause-refused g c = refused_openable (g.D.Disk.seen c.args.first) (g.D.Disk.seen c.args.second) c.in-Err.refused.error c.in-Err.ensures.err

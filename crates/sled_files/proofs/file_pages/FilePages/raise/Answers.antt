@@ -12,7 +12,7 @@ pub invariant_of-self : goal.invariant_of-self
 invariant_of-self g c = sound_faults g.D.Disk.seen g.D.Disk.may_leave _ c.fault.new.faults c.self.invariant
 
 pub returns-then-pids-pid-clause-err : goal.returns-then-pids-pid-clause-err
-returns-then-pids-pid-clause-err g c = rw (← c.self.view_is) (own_fault (store_of c.self.inside.pages) c.fault.ensures)
+returns-then-pids-pid-clause-err g c = rw (← c.self.view_is) (own_fault (store_of c.self.inside.pages) c.fault.ensures.counted)
 
 pub returns-then-pids-pid-clause-any_moment : goal.returns-then-pids-pid-clause-any_moment
 returns-then-pids-pid-clause-any_moment g c = rw (← c.self.view_is) (moments_none c.law_time.ensures.first c.law_time.ensures.second refl c.self.invariant.lasts)

@@ -1,4 +1,4 @@
-use Rattle.std.proofs.Common.{◌≤◌, ◌∷◌, [], inl, inr, refl, sym, subst, List, ℕ, rules}
+use Rattle.std.proofs.Common.{arith, ◌≤◌, ◌∷◌, [], inl, inr, refl, sym, subst, List, ℕ, rules}
 use Rattle.sled_pages.specs.Memory.{store_of}
 use Rattle.sled_bytes.specs.declared.change.Change.TheVariants.{Marked}
 use Rattle.sled_files.specs.Pending.{Spells}
@@ -6,6 +6,8 @@ use Rattle.sled_files.specs.Stored.{Stored, asked_of}
 use Rattle.sled_files.proofs.Over.{own_fault}
 use Rattle.sled_files.proofs.Moments.{moments_none, asks_more}
 use Rattle.sled_files.proofs.Added.{sound_marked, sound_asked, moments_marked, asks_by}
+use Rattle.sled_files.proofs.Raising.{marked_short}
+use Rattle.sled_files.proofs.Coding.{unstored_early, unstored_weaker}
 use Rattle.sled_files.proofs.file_pages.FilePagesPages.set_aside.Goals as goal
 
 pub returns-in-Err-clause-any_moment : goal.returns-in-Err-clause-any_moment
@@ -46,3 +48,11 @@ returns-clause-any_moment g c =
 
 pub returns-in-Err-add-clause-asks : goal.returns-in-Err-add-clause-asks
 returns-in-Err-add-clause-asks g c = rw (← c.self.view_is) (record { is = asks_by c.self.inside.files.failed c.add.new.files.failed c.self.inside.asked c.asked_then-self-inside.result c.args.upto (search rules) })
+
+pub returns-in-Err-clause-cause : goal.returns-in-Err-clause-cause
+returns-in-Err-clause-cause g c = unstored_early c.args.self.now.files c.args.self.now.faults c.in-Err.e c.in-Err.ensures.err
+
+pub returns-in-Err-add-clause-cause : goal.returns-in-Err-add-clause-cause
+returns-in-Err-add-clause-cause g c =
+    let spells = subst (λ (l : List ℕ). Spells l (Marked c.args.upto ∷ [])) (sym c.deref.ensures.value) c.in-Ok.ensures.ok in
+    rw (← c.self.view_is) (unstored_weaker (λ lacks. omega (arith, lacks, marked_short spells)) c.in-Err-add.ensures.cause)

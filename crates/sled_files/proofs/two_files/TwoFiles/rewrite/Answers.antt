@@ -59,3 +59,6 @@ returns-clause-ready g c d changes ready spells made =
     let begun : StandsWith (disk.seen (picked inside.is_second c.begin_other-begun.new.second c.begin_other-begun.new.first)) c.len-self-inside.result (length c.args.payload.now) c.in-Some.generation (changed_all changes nothing_yet) =
     subst (λ (n : ℕ). StandsWith (disk.seen (picked inside.is_second c.begin_other-begun.new.second c.begin_other-begun.new.first)) n (length c.args.payload.now) c.in-Some.generation (changed_all changes nothing_yet)) place (c.in_ok-begun.ensures.stands c.args.payload.now c.in-Some.generation changes first) in
     once_begun disk.seen disk.moment disk.left_since disk.may_leave old c.begin_other-begun.new.first c.begin_other-begun.new.second c.len-self-inside.result (length c.args.payload.now) c.in-Some.generation d (changed_all changes nothing_yet) before below c.begin_other-begun.ensures.one c.in_ok-begun.ensures.durable begun.at begun.snapshot_is
+
+pub returns-clause-bytes : goal.returns-clause-bytes
+returns-clause-bytes g c = omega (arith, c.len-self-inside.ensures, ap length c.deref.ensures.value, c.in_ok-block.ensures.len)

@@ -1,0 +1,41 @@
+-- Which error a refused call of a store in files has, and with which code.
+use Rattle.std.specs.Prelude.{◌≡◌, ◌+◌, ◌-◌, ◌<◌, ◌^◌, ℕ, if◌then◌else◌, nat_lt, length}
+use Rattle.sled_nodes.specs.declared.error.Error.{Error}
+use Rattle.sled_nodes.specs.declared.error.Error.TheVariants.{Io, NoMemory}
+use Rattle.sled_disk.specs.declared.disk.DiskError.{DiskError}
+use Rattle.sled_disk.specs.declared.disk.DiskError.TheVariants as disk
+use Rattle.sled_files.specs.Files.{Files, IsRefused}
+use Rattle.sled_files.specs.Stored.{Stored}
+
+-- a disk has no room, or the log or its generation would be too large
+abbrev pub disk_full : ℕ
+disk_full = 4
+
+-- a disk failed in another way, or refused a call before
+abbrev pub disk_failed : ℕ
+disk_failed = 5
+
+-- the fault of this code, while faults can be counted, of which there were so many
+abbrev pub fault_of : ℕ → ℕ → Error
+fault_of counted code = if nat_lt counted (2 ^ 64 - 1) then Io (record { 0 = code }) else NoMemory
+
+-- what a refusal of the files comes to
+abbrev pub error_of : ℕ → DiskError → Error
+error_of counted disk.NoMemory = NoMemory
+error_of counted disk.Full = fault_of counted disk_full
+error_of counted disk.Failed = fault_of counted disk_failed
+
+-- A call that brings something to the files is refused as they are: the error says by which refusal of theirs. For want of memory it may
+-- be refused before they are asked
+pub record IsUnstored {D : Type 0} (faults : D → ℕ) (lacks_room : Type 0) (old new : Files D) (counted : ℕ) (e : Error) : Type 0 where
+  pub cause : DiskError
+  pub why : IsRefused faults lacks_room old new cause
+  pub is : e ≡ error_of counted cause
+
+-- what is pending has no room in the log, limits that are set with it included
+abbrev pub LacksRoom : {D : Type 0} → Stored D → Type 0
+LacksRoom f = 2 ^ 62 < f.files.gate + 34 + length f.pending
+
+-- no generation is left
+abbrev pub IsLast : {D : Type 0} → Stored D → Type 0
+IsLast f = f.files.generation + 1 ≡ 2 ^ 64
