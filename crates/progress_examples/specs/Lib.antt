@@ -1,3 +1,4 @@
+pub use Rattle.sled_nodes.specs as sled_nodes
 pub use Rattle.sled_store.specs as sled_store
 pub use Rattle.sled_model.specs as sled_model
 pub use Rattle.move_laws.specs as move_laws
