@@ -1,2 +1,4 @@
 pub mod Recording
 pub mod Transacted
+pub mod Heard
+pub mod Hearing

@@ -15,11 +15,13 @@ use Rattle.tree_transactions.specs.declared.attempts.Commit.{Commit}
 use Rattle.tree_transactions.specs.declared.errors.TransactionError.{TransactionError}
 use Rattle.tree_transactions.specs.declared.errors.TransactionError.TheVariants.{Abort, Storage}
 use Rattle.sled.specs.Transactions.{Stops, ByTest, ByClosure, ByGroup, ByFlush, Fails, TransactionMade, TransactionNotMade, ListMade, ListNotMade, has_trees}
+use Rattle.sled_queues.specs.Events.{Turn}
 use Rattle.sled.specs.Values.{DbValue}
 use Rattle.sled_calls.specs.Values.{MachineValue}
 use Rattle.sled_shared.specs.Made.{MadeValue, WholeMade}
 use Rattle.sled_shared.specs.Wholes as value
 use Rattle.call_laws.specs.Calls.{MakesCalls, IsRecord}
+use Rattle.call_laws.specs.Hears.{turns_of_group, BringsAlone}
 
 -- what is a record of the calls up to now is one of all calls after more of them
 abbrev pub RecordLaw : {P M : Type 0} → (P → Store) → (P → ℕ) → (M → Merge) → Type 0
@@ -47,17 +49,28 @@ module _ {P M A E W : Type 0} {store : P → Store} {flush_number : P → ℕ} {
   uncommitted (Abort e) fails = []
   uncommitted (Storage e) fails = made_before_stop fails.is
 
--- Whatever machine has the database, a transaction of a tree is calls of its owner. If it was committed it made the group of what it wrote,
--- with the flush that it asked for; if that flush was refused, the group alone; and else nothing
+  -- .. and subscribers get the events of that group alone
+  abbrev pub turns_before_stop : {e : Error} → Stops store flush_number meant tests reaches batches_of has_trees old e new → List Turn
+  turns_before_stop (ByTest t same) = []
+  turns_before_stop (ByClosure runs) = []
+  turns_before_stop (ByGroup commit run runs refused quiet) = []
+  turns_before_stop (ByFlush commit run made makes asked refused) = turns_of_group store flush_number meant run (batches_of commit.writes)
+
+  abbrev pub turns_uncommitted : (e : TransactionError E) → Fails store flush_number meant tests reaches batches_of has_trees old e new → List Turn
+  turns_uncommitted (Abort e) fails = []
+  turns_uncommitted (Storage e) fails = turns_before_stop fails.is
+
+-- Whatever machine has the database, a transaction of a tree is calls of its owner. If it was committed it made the group of what it wrote, with the
+-- flush that it asked for; if that flush was refused, the group alone; and else nothing. Subscribers get the events of that group
 pub record TransactionLaw {P M F R A E : Type 0} (store : P → Store) (flush_number : P → ℕ) (meant : M → Merge) (says : Closure F (TransactionalTree P) R) (result_of : R → Answer A E) : Type 0 where
   pub made : (m : MachineValue P M) (new : DbValue P M) (f : F) (tree : Tree) (answer : A) → (t : TransactionMade store flush_number meant says result_of f m.db tree answer new)
-      → (number : ℕ) × MakesCalls store flush_number meant m (committed ((tree, t.commit.writes) ∷ []) t.commit.flushes number) (record m { db = new })
+      → (number : ℕ) × (calls : MakesCalls store flush_number meant m (committed ((tree, t.commit.writes) ∷ []) t.commit.flushes number) (record m { db = new })) × BringsAlone store flush_number meant calls (turns_of_group store flush_number meant t.run ((tree, t.commit.writes) ∷ []))
   pub not_made : (m : MachineValue P M) (new : DbValue P M) (f : F) (tree : Tree) (e : TransactionError E) → (t : TransactionNotMade store flush_number meant says result_of f m.db tree e new)
-      → MakesCalls store flush_number meant m (uncommitted e t) (record m { db = new })
+      → (calls : MakesCalls store flush_number meant m (uncommitted e t) (record m { db = new })) × BringsAlone store flush_number meant calls (turns_uncommitted e t)
 
 -- .. and so is one of a list of trees
 pub record ListLaw {P M F R A E : Type 0} (store : P → Store) (flush_number : P → ℕ) (meant : M → Merge) (says : Closure F (TransactionalTrees P) R) (result_of : R → Answer A E) : Type 0 where
   pub made : (m : MachineValue P M) (new : DbValue P M) (f : F) (trees : List Tree) (answer : A) → (t : ListMade store flush_number meant says result_of f m.db trees answer new)
-      → (number : ℕ) × MakesCalls store flush_number meant m (committed (zip trees t.commit.writes) (has_trees trees && t.commit.flushes) number) (record m { db = new })
+      → (number : ℕ) × (calls : MakesCalls store flush_number meant m (committed (zip trees t.commit.writes) (has_trees trees && t.commit.flushes) number) (record m { db = new })) × BringsAlone store flush_number meant calls (turns_of_group store flush_number meant t.run (zip trees t.commit.writes))
   pub not_made : (m : MachineValue P M) (new : DbValue P M) (f : F) (trees : List Tree) (e : TransactionError E) → (t : ListNotMade store flush_number meant says result_of f m.db trees e new)
-      → MakesCalls store flush_number meant m (uncommitted e t) (record m { db = new })
+      → (calls : MakesCalls store flush_number meant m (uncommitted e t) (record m { db = new })) × BringsAlone store flush_number meant calls (turns_uncommitted e t)

@@ -6,6 +6,7 @@ ghost use Rattle.tree_pages.specs.Export.{collections};
 ghost use Rattle.sled_model.specs.Maps.{Maps};
 ghost use Rattle.sled_shared.specs.History.{maps_from};
 ghost use Rattle.call_laws.specs.Calls.{alone, IsRecord, LeavesBefore};
+ghost use Rattle.call_laws.specs.Hears.{HearsLaw};
 ghost use Rattle.call_laws.specs.Laws.{JoinedLaw, ListLaw, RecordLaw, TransactionLaw};
 
 use sled::Db;
@@ -49,9 +50,21 @@ pub fn law_joined<P: Pages, M: MergeOperator>()
     ensures { JoinedLaw P.store P.flush_number M.meant }
 {}
 
-/// Does nothing. A transaction of a tree is calls of the owner: what its closure took of ids, the group of what it wrote, and the flush
-/// that it asked for. One that was aborted or refused made nothing. But if its group was made and only the flush behind it was refused, it
-/// made that group of what its closure wrote.
+/// Does nothing. Over every list of calls a subscriber gets each event under its prefix of its tree once, in the order of the calls that
+/// were decided, or learns how many it missed: what `next` returned, then what it missed since, then what waits, is what waited at first and then
+/// what the calls brought. A transaction brings the events of what it wrote. While it misses none and the database is open, a copy that it
+/// changes by them follows the map of its tree.
+///
+/// ```
+/// law_hears::<MemPages, Adds>(); // From here on a proof knows it.
+/// ```
+pub fn law_hears<P: Pages, M: MergeOperator>()
+    ensures { HearsLaw P.store P.flush_number M.meant }
+{}
+
+/// Does nothing. A transaction of a tree is calls of the owner: what its closure took of ids, the group of what it wrote, and the flush that it
+/// asked for. One that was aborted or refused made nothing. But if its group was made and only the flush behind it was refused, it made that
+/// group of what its closure wrote. Subscribers get the events of that group.
 ///
 /// ```
 /// let put = |weather: &mut TransactionalTree<'_, MemPages>| -> ConflictableTransactionResult<(), ()> {

@@ -11,9 +11,11 @@
 //! flush in the list, or after a call behind it; if the list has no flush, also what a crash might have left before it began. The list is
 //! stated in the terms of a history that threads make (`sled_shared`), with one caller.
 //!
+//! `law_hears` says what subscribers hear over any list of these calls (`specs/Hears`), as `sled_calls` says it of steps.
+//!
 //! Nothing is done here: each law is a function whose contract a proof can use from its call on.
 #![tactic(auto)]
 
 mod laws;
 
-pub use laws::{audit_opening, law_joined, law_list, law_record, law_transaction};
+pub use laws::{audit_opening, law_hears, law_joined, law_list, law_record, law_transaction};

@@ -17,6 +17,8 @@ use Rattle.sled_model.specs.Maps.{Maps, Merge}
 use Rattle.sled_model.specs.declared.call.Call.TheVariants.{Insert}
 use Rattle.sled_model.specs.declared.reply.Reply.TheVariants.{Value}
 use Rattle.sled_model.specs.declared.tree.Tree.{Tree}
+use Rattle.sled_queues.specs.Events.{Turn}
+use Rattle.sled_queues.specs.Turns.{turns_of_call}
 use Rattle.tree_laws.specs.Contents.{trees_of}
 use Rattle.tree_pages.specs.Export.{collections}
 use Rattle.tree_transactions.specs.Attempts.{Answer, Closure, Ends}
@@ -33,43 +35,62 @@ use Rattle.sled.specs.Transactions.{Stops, ByTest, ByClosure, ByGroup, ByFlush, 
 use Rattle.sled.specs.Values.{DbValue}
 use Rattle.sled_shared.specs.Crashes.{LeadsThrough}
 use Rattle.sled_shared.specs.History.{maps_from}
-use Rattle.sled_shared.specs.Made.{MadeValue}
-use Rattle.call_laws.specs.Calls.{MakesCalls, NoCall, OneCall, Called, DbCall, DidPoint, PointStopped, Flushed, FlushStopped, alone, owned, IsRecord, LeavesBefore}
-use Rattle.call_laws.specs.Laws.{committed, made_before_stop, uncommitted, JoinedLaw, RecordLaw, TransactionLaw}
+use Rattle.call_laws.specs.Calls.{MakesCalls, NoCall, OneCall, Called, DidPoint, PointStopped, Flushed, FlushStopped, alone, owned, IsRecord, LeavesBefore}
+use Rattle.call_laws.specs.Hears.{IsKept, KeepsTree, turns_of_group, BringsAlone}
+use Rattle.call_laws.specs.Laws.{committed, made_before_stop, uncommitted, turns_before_stop, turns_uncommitted, JoinedLaw, RecordLaw, TransactionLaw}
 use Rattle.example_parts.proofs.Added.{matches_has}
 use Rattle.owned_examples.specs.Owned.{IsInsert, both_writes, IsBoth, IsFlush, IsOrder, FoundAfter}
 use Rattle.owned_examples.specs.declared.owned.Written.{Written}
-use Rattle.owned_examples.specs.theory.Owned.{Goes, WritesInside}
+use Rattle.owned_examples.specs.Heard.{insert_brings, both_brings}
+use Rattle.owned_examples.specs.theory.Owned.{Goes, GoesQuietly, brings_nothing, WritesInside}
 
 -- what is told of a call of the closure
 abbrev Told : {P F R A E : Type 0} → Closure F (TransactionalTree P) R → (R → Answer A E) → F → Key → Key → Key → Type 0
 Told {P} {R = R} says result_of f one other value = (shown left : MutBor (TransactionalTree P)) (answer : R) → says.post f (shown, tt) (answer, (left, tt)) → OnOk (result_of answer) (WritesInside shown.now one other value left.now)
 
 module _ {P M : Type 0} (store : P → Store) (number : P → ℕ) (meant : M → Merge) where
-  -- one call of the database
-  calls_one : (old new : DbValue P M) (made : List MadeValue) → DbCall store number meant old made new → MakesCalls store number meant (alone old) made (alone new)
-  calls_one old new made k = subst (λ l. MakesCalls store number meant (alone old) l (alone new)) (append-nil made) (OneCall (Called k) NoCall)
-
   -- an insert and a flush, however they came out
-  pub put_did : (old new : DbValue P M) (tree : Tree) (key value : Key) (stood : Option Key) → PointDecided store meant old tree (Insert key value) (Value stood) new → Goes store number meant old (IsInsert tree key value true) new
-  put_did old new tree key value stood d = record { made = _; calls = calls_one old new _ (DidPoint d); is = (stood, refl) }
+  pub put_did : (old new : DbValue P M) (tree : Tree) (key value : Key) (stood : Option Key) → PointDecided store meant old tree (Insert key value) (Value stood) new
+      → GoesQuietly store number meant old (IsInsert tree key value true) (insert_brings store number meant old tree key value true) new
+  put_did old new tree key value stood d = record {
+    turns = turns_of_call d.decides.named (Insert key value);
+    tells = record { made = _; calls = OneCall (Called (DidPoint d)) NoCall; turns_are = append-nil (turns_of_call d.decides.named (Insert key value)); told_are = λ n. refl; kept = λ n. (refl, tt); keeps = λ name. (refl, tt) };
+    is = (stood, refl);
+    brought = (d.decides.named, d.decides.there, refl);
+  }
 
-  pub put_stopped : (old new : DbValue P M) (tree : Tree) (key value : Key) (e : Error) → PointRefused store meant old tree (Insert key value) e new → Goes store number meant old (IsInsert tree key value false) new
-  put_stopped old new tree key value e d = record { made = _; calls = calls_one old new _ (PointStopped d); is = refl }
+  pub put_stopped : (old new : DbValue P M) (tree : Tree) (key value : Key) (e : Error) → PointRefused store meant old tree (Insert key value) e new
+      → GoesQuietly store number meant old (IsInsert tree key value false) (insert_brings store number meant old tree key value false) new
+  put_stopped old new tree key value e d = record {
+    turns = [];
+    tells = record { made = _; calls = OneCall (Called (PointStopped d)) NoCall; turns_are = refl; told_are = λ n. refl; kept = λ n. tt; keeps = λ name. tt };
+    is = refl;
+    brought = refl;
+  }
 
-  pub flush_did : (old new : DbValue P M) (n : ℕ) → FlushesDb store number meant old n new → Goes store number meant old (IsFlush true) new
-  flush_did old new n d = record { made = _; calls = calls_one old new _ (Flushed d); is = (n, refl) }
+  pub flush_did : (old new : DbValue P M) (n : ℕ) → FlushesDb store number meant old n new → GoesQuietly store number meant old (IsFlush true) brings_nothing new
+  flush_did old new n d = record {
+    turns = [];
+    tells = record { made = _; calls = OneCall (Called (Flushed d)) NoCall; turns_are = refl; told_are = λ n. refl; kept = λ n. (refl, tt); keeps = λ name. (refl, tt) };
+    is = (n, refl);
+    brought = refl;
+  }
 
-  pub flush_stopped : (old new : DbValue P M) (e : Error) → RefusesFlush store meant old new e → Goes store number meant old (IsFlush false) new
-  flush_stopped old new e d = record { made = _; calls = calls_one old new _ (FlushStopped d); is = refl }
+  pub flush_stopped : (old new : DbValue P M) (e : Error) → RefusesFlush store meant old new e → GoesQuietly store number meant old (IsFlush false) brings_nothing new
+  flush_stopped old new e d = record {
+    turns = [];
+    tells = record { made = _; calls = OneCall (Called (FlushStopped d)) NoCall; turns_are = refl; told_are = λ n. refl; kept = λ n. tt; keeps = λ name. tt };
+    is = refl;
+    brought = refl;
+  }
 
   -- .. as their results tell
   pub put_goes : (old new : DbValue P M) (tree : Tree) (key value : Key) (r : Result (Option Key) Error) → IfOk r (λ stood. PointDecided store meant old tree (Insert key value) (Value stood) new) → IfErr r (λ e. PointRefused store meant old tree (Insert key value) e new)
-      → Goes store number meant old (IsInsert tree key value (is_ok r)) new
+      → GoesQuietly store number meant old (IsInsert tree key value (is_ok r)) (insert_brings store number meant old tree key value (is_ok r)) new
   put_goes old new tree key value (Ok stood) ok err = put_did old new tree key value stood ok
   put_goes old new tree key value (Err e) ok err = put_stopped old new tree key value e err
 
-  pub flush_goes : (old new : DbValue P M) (r : Result ℕ Error) → IfOk r (λ n. FlushesDb store number meant old n new) → IfErr r (λ e. RefusesFlush store meant old new e) → Goes store number meant old (IsFlush (is_ok r)) new
+  pub flush_goes : (old new : DbValue P M) (r : Result ℕ Error) → IfOk r (λ n. FlushesDb store number meant old n new) → IfErr r (λ e. RefusesFlush store meant old new e) → GoesQuietly store number meant old (IsFlush (is_ok r)) brings_nothing new
   flush_goes old new (Ok n) ok err = flush_did old new n ok
   flush_goes old new (Err e) ok err = flush_stopped old new e err
 
@@ -91,14 +112,22 @@ module _ {P M : Type 0} (store : P → Store) (number : P → ℕ) (meant : M �
     committed_so : (commit : Commit A Writes) (s : Store) (next : ℕ) → RunsOnTree store meant says result_of f old tree (Ok commit) s next → (commit.writes ≡ both_writes one other value) × (commit.flushes ≡ false)
     committed_so commit s next r = wrote r.root commit.answer commit.writes commit.flushes s next r.runs.is
 
-    pub both_made : (a : A) → TransactionMade store number meant says result_of f old tree a new → Goes store number meant old (IsBoth tree one other value true) new
+    abbrev Brings : Writes → Bool → ℕ → List Turn → Type 0
+    Brings writes flushes k turns = (calls : MakesCalls store number meant (alone old) (committed ((tree, writes) ∷ []) flushes k) (alone new)) × BringsAlone store number meant calls turns
+
+    pub both_made : (a : A) → TransactionMade store number meant says result_of f old tree a new → GoesQuietly store number meant old (IsBoth tree one other value true) (both_brings store number meant old tree one other value true) new
     both_made a t =
         let k = law.made (alone old) new f tree a t in
         let w = committed_so t.commit (store t.run.pages) t.run.greatest_id t.makes.runs.runs in
+        let turns = turns_of_group store number meant t.run ((tree, both_writes one other value) ∷ []) in
+        let group : turns_of_group store number meant t.run ((tree, t.commit.writes) ∷ []) ≡ turns = ap (λ ws. turns_of_group store number meant t.run ((tree, ws) ∷ [])) w.0 in
+        let calls : Brings (both_writes one other value) false k.0 turns =
+        subst (λ ws. Brings ws false k.0 turns) w.0 (subst (λ b. Brings t.commit.writes b k.0 turns) w.1 (subst (λ ts. Brings t.commit.writes t.commit.flushes k.0 ts) group (k.1, k.2))) in
         record {
-          made = committed ((tree, both_writes one other value) ∷ []) false k.0;
-          calls = subst (λ ws. MakesCalls store number meant (alone old) (committed ((tree, ws) ∷ []) false k.0) (alone new)) w.0 (subst (λ b. MakesCalls store number meant (alone old) (committed ((tree, t.commit.writes) ∷ []) b k.0) (alone new)) w.1 k.1);
+          turns = turns;
+          tells = record { made = committed ((tree, both_writes one other value) ∷ []) false k.0; calls = calls.0; turns_are = calls.1.turns_are; told_are = calls.1.told; kept = λ n. (refl, tt); keeps = λ name. (refl, tt) };
           is = refl;
+          brought = (t.run, t.makes.runs.takes, refl);
         }
 
     nothing_made : (e : Error) (k : Stops store number meant (tests_tree store number meant says result_of f old tree) (RunsOnTree store meant says result_of f old tree) (batch_of store number meant says result_of f old tree) true old e new) → made_before_stop k ≡ []
@@ -111,21 +140,49 @@ module _ {P M : Type 0} (store : P → Store) (number : P → ℕ) (meant : M �
     none_made (Abort x) t = refl
     none_made (Storage x) t = nothing_made x t.is
 
-    pub both_stopped : (e : TransactionError E) → TransactionNotMade store number meant says result_of f old tree e new → Goes store number meant old (IsBoth tree one other value false) new
-    both_stopped e t = record { made = uncommitted e t; calls = law.not_made (alone old) new f tree e t; is = none_made e t }
+    nothing_brought : (e : Error) (k : Stops store number meant (tests_tree store number meant says result_of f old tree) (RunsOnTree store meant says result_of f old tree) (batch_of store number meant says result_of f old tree) true old e new) → turns_before_stop k ≡ []
+    nothing_brought e (ByTest t same) = refl
+    nothing_brought e (ByClosure runs) = refl
+    nothing_brought e (ByGroup commit run runs refused quiet) = refl
+    nothing_brought e (ByFlush commit run made makes asked refused) = false_true (sym (committed_so commit (store run.pages) run.greatest_id makes.runs.runs).1 ∙ asked)
 
-    pub both_goes : (r : Result A (TransactionError E)) → IfOk r (λ a. TransactionMade store number meant says result_of f old tree a new) → IfErr r (λ e. TransactionNotMade store number meant says result_of f old tree e new) → Goes store number meant old (IsBoth tree one other value (is_ok r)) new
+    none_brought : (e : TransactionError E) (t : TransactionNotMade store number meant says result_of f old tree e new) → turns_uncommitted e t ≡ []
+    none_brought (Abort x) t = refl
+    none_brought (Storage x) t = nothing_brought x t.is
+
+    pub both_stopped : (e : TransactionError E) → TransactionNotMade store number meant says result_of f old tree e new → GoesQuietly store number meant old (IsBoth tree one other value false) (both_brings store number meant old tree one other value false) new
+    both_stopped e t =
+        let k = law.not_made (alone old) new f tree e t in
+        record {
+          turns = [];
+          tells = record {
+            made = uncommitted e t;
+            calls = k.0;
+            turns_are = k.1.turns_are ∙ none_brought e t;
+            told_are = k.1.told;
+            kept = λ n. subst (IsKept n) (sym (none_made e t)) tt;
+            keeps = λ name. subst (KeepsTree name) (sym (none_made e t)) tt;
+          };
+          is = none_made e t;
+          brought = refl;
+        }
+
+    pub both_goes : (r : Result A (TransactionError E)) → IfOk r (λ a. TransactionMade store number meant says result_of f old tree a new) → IfErr r (λ e. TransactionNotMade store number meant says result_of f old tree e new)
+        → GoesQuietly store number meant old (IsBoth tree one other value (is_ok r)) (both_brings store number meant old tree one other value (is_ok r)) new
     both_goes (Ok a) ok err = both_made a ok
     both_goes (Err e) ok err = both_stopped e err
 
   -- the calls of an order
-  pub order_all : (tree : Tree) (key first second one other : Key) (joins : JoinedLaw store number meant) (written : Written) (a b c d e : DbValue P M) → Goes store number meant a (IsInsert tree key first written.insert) b → Goes store number meant b (IsBoth tree one other first written.both) c
-      → Goes store number meant c (IsFlush written.flush) d → Goes store number meant d (IsInsert tree key second written.later) e → Goes store number meant a (IsOrder tree key first second one other written) e
-  order_all tree key first second one other joins written a b c d e i g f l = record {
-    made = i.made ++ (g.made ++ (f.made ++ l.made));
-    calls = joins (alone a) (alone b) (alone e) i.made (g.made ++ (f.made ++ l.made)) i.calls (joins (alone b) (alone c) (alone e) g.made (f.made ++ l.made) g.calls (joins (alone c) (alone d) (alone e) f.made l.made f.calls l.calls));
-    is = record { insert = i.made; both = g.made; flush = f.made; later = l.made; is = refl; inserts = i.is; writes_both = g.is; flushes = f.is; inserts_later = l.is };
-  }
+  pub order_all : (tree : Tree) (key first second one other : Key) (joins : JoinedLaw store number meant) (written : Written) (a b c d e : DbValue P M) → GoesQuietly store number meant a (IsInsert tree key first written.insert) (insert_brings store number meant a tree key first written.insert) b
+      → GoesQuietly store number meant b (IsBoth tree one other first written.both) (both_brings store number meant b tree one other first written.both) c → GoesQuietly store number meant c (IsFlush written.flush) brings_nothing d
+      → GoesQuietly store number meant d (IsInsert tree key second written.later) (insert_brings store number meant d tree key second written.later) e → Goes store number meant a (IsOrder tree key first second one other written) e
+  order_all tree key first second one other joins written a b c d e i g f l =
+      let im = i.tells.made in let gm = g.tells.made in let fm = f.tells.made in let lm = l.tells.made in
+      record {
+        made = im ++ (gm ++ (fm ++ lm));
+        calls = joins (alone a) (alone b) (alone e) im (gm ++ (fm ++ lm)) i.tells.calls (joins (alone b) (alone c) (alone e) gm (fm ++ lm) g.tells.calls (joins (alone c) (alone d) (alone e) fm lm f.tells.calls l.tells.calls));
+        is = record { insert = im; both = gm; flush = fm; later = lm; is = refl; inserts = i.is; writes_both = g.is; flushes = f.is; inserts_later = l.is };
+      }
 
 -- what a crash leaves after such calls, and an opening finds
 module _ {M N : Type 0} (meant : M → Merge) (key first second one other name : Key) where

@@ -4,12 +4,13 @@ ghost use Rattle.sled_store.specs.Store.{now};
 ghost use Rattle.sled_pages.specs.Memory.{store_of, empty_store};
 ghost use Rattle.tree_laws.specs.Contents.{trees_of};
 ghost use Rattle.tree_laws.specs.Crashes.{IsValid};
+ghost use Rattle.owned_examples.specs.Heard.{FollowsTree, HearsWrites, both_brings, insert_brings};
 ghost use Rattle.owned_examples.specs.Owned.{IsBoth, IsFlush, IsInsert, IsOrder, FoundAfter};
-ghost use Rattle.owned_examples.specs.theory.Owned.{Goes, WritesInside};
+ghost use Rattle.owned_examples.specs.theory.Owned.{Goes, GoesQuietly, WritesInside, brings_nothing};
 
-use call_laws::{audit_opening, law_joined, law_record, law_transaction};
+use call_laws::{audit_opening, law_hears, law_joined, law_record, law_transaction};
 use sled::{ConflictableTransactionResult, Db, TransactionalTree, crash_pages, empty_pages};
-use sled_model::{MergeOperator, Tree};
+use sled_model::{MergeOperator, Next, Subscriber, Tree};
 use sled_nodes::Result;
 use sled_pages::MemPages;
 use sled_store::Pages;
@@ -28,9 +29,20 @@ pub struct Written {
     pub later: bool,
 }
 
+/// Which of the calls of `write_and_hear` succeeded.
+#[derive(Clone, Copy, Debug, PartialEq, Eq)]
+pub struct Wrote {
+    /// The first insert of the key.
+    pub insert: bool,
+    /// The transaction that writes two other keys.
+    pub both: bool,
+    /// The second insert of the key.
+    pub later: bool,
+}
+
 // Sets the value at a key, and says whether that succeeded.
 fn put<P: Pages, M: MergeOperator>(db: &mut Db<P, M>, tree: &Tree, key: &[u8], value: &[u8]) -> bool
-    ensures { Goes P.store P.flush_number M.meant db.old (IsInsert tree.now key.now value.now result) db.new }
+    ensures { GoesQuietly P.store P.flush_number M.meant db.old (IsInsert tree.now key.now value.now result) (insert_brings P.store P.flush_number M.meant db.old tree.now key.now value.now result) db.new }
 {
     let inserted = db.insert(tree, key, value);
     let is_made = inserted.is_ok();
@@ -60,7 +72,7 @@ fn put_both<P: Pages, M: MergeOperator>(
     other: &[u8],
     value: &[u8],
 ) -> bool
-    ensures { Goes P.store P.flush_number M.meant db.old (IsBoth tree.now one.now other.now value.now result) db.new }
+    ensures { GoesQuietly P.store P.flush_number M.meant db.old (IsBoth tree.now one.now other.now value.now result) (both_brings P.store P.flush_number M.meant db.old tree.now one.now other.now value.now result) db.new }
 {
     let writes = |inside: &mut TransactionalTree<'_, P>| write_both(inside, one, other, value);
     law_transaction::<P, M, (), (), _, _>(&writes);
@@ -70,7 +82,7 @@ fn put_both<P: Pages, M: MergeOperator>(
 
 // Makes all durable, and says whether that succeeded.
 fn settle<P: Pages, M: MergeOperator>(db: &mut Db<P, M>) -> bool
-    ensures { Goes P.store P.flush_number M.meant db.old (IsFlush result) db.new }
+    ensures { GoesQuietly P.store P.flush_number M.meant db.old (IsFlush result) brings_nothing db.new }
 {
     let flushed = db.flush();
     flushed.is_ok()
@@ -151,4 +163,37 @@ pub fn write_and_crash(
             Err(e)
         }
     }
+}
+
+/// Makes an insert of a key, a transaction that writes two others and another insert of the key, each whatever came of those before, and asks
+/// what a subscriber is told next. Returns which of the three succeeded, and that. A subscriber hears of what they wrote in their order, and if
+/// it keeps a copy of its tree by what it is told, the copy follows the tree. It is never refused.
+///
+/// ```
+/// let (wrote, next) = write_and_hear(&mut db, &tree, &subscriber, b"order", b"17", b"18", b"stock", b"log");
+/// ```
+pub fn write_and_hear<P: Pages, M: MergeOperator>(
+    db: &mut Db<P, M>,
+    tree: &Tree,
+    subscriber: &Subscriber,
+    key: &[u8],
+    first: &[u8],
+    second: &[u8],
+    one: &[u8],
+    other: &[u8],
+) -> (Wrote, Option<Next>)
+    ensures hears { HearsWrites P.store P.flush_number M.meant db.old tree.now subscriber.now key.now first.now second.now one.now other.now result.0 result.1 db.new }
+    ensures follows { FollowsTree P.store M.meant db.old subscriber.now result.1 db.new }
+{
+    law_hears::<P, M>();
+    let insert = put(db, tree, key, first);
+    let both = put_both(db, tree, one, other, first);
+    let later = put(db, tree, key, second);
+    let next = db.next(subscriber);
+    let wrote = Wrote {
+        insert,
+        both,
+        later,
+    };
+    (wrote, next)
 }
