@@ -14,10 +14,10 @@ PROMPT = b"> "
 class Shell:
     """The shell, as a child at a terminal of its own, which neither echoes nor changes what goes by."""
 
-    def __init__(self, path):
+    def __init__(self, path, *words):
         self.end, inner = pty.openpty()
         tty.setraw(inner)
-        self.process = subprocess.Popen([path], stdin=inner, stdout=inner, start_new_session=True)
+        self.process = subprocess.Popen([path, *words], stdin=inner, stdout=inner, start_new_session=True)
         os.close(inner)
         self.is_there = True
 

@@ -30,7 +30,7 @@ def paths_of(word):
 
 
 def listed(path):
-    """What the lines for use begin with, as the `help` of a shell of its own lists them."""
+    """What the lines for use begin with, as the `help` of a shell of its own lists them, which has no folder."""
     said = subprocess.run([path], input=b"help\n", stdout=subprocess.PIPE).stdout.decode(errors="replace")
     entries = [entry for line in said.splitlines() if line.startswith("    ") for entry in line.strip().split(", ")]
     # Behind the lists stands of what else there is help.
@@ -183,9 +183,9 @@ def converse(shell, lines):
         pass
 
 
-def talk(path):
-    """Runs the shell for somebody at this terminal: its status. Ctrl-C while a line is answered ends it."""
-    shell = Shell(path)
+def talk(path, *words):
+    """Runs the shell with these words for somebody at this terminal: its status. Ctrl-C while a line is answered ends it."""
+    shell = Shell(path, *words)
     try:
         converse(shell, listed(path))
     except (KeyboardInterrupt, SystemExit):

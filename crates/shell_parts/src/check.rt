@@ -5,12 +5,11 @@ use line_words::print::Piece::Text;
 use shell_words::tell::{Result, Told, tell, tell_refused};
 use sled::{GROUP_IS_OPEN, verify_integrity};
 use sled_nodes::Error;
-use sled_pages::MemPages;
 use sled_store::Pages;
 use std::alloc::Global;
 
 // Checks pages as an opening does that checks them.
-fn check_pages(alloc: Global, pages: &MemPages) -> sled_nodes::Result<()> {
+fn check_pages<P: Pages>(alloc: Global, pages: &P) -> sled_nodes::Result<()> {
     if pages.in_group() {
         return Err(Error::Corruption(GROUP_IS_OPEN));
     }
@@ -18,7 +17,12 @@ fn check_pages(alloc: Global, pages: &MemPages) -> sled_nodes::Result<()> {
 }
 
 /// Checks pages, and adds what that came to. Those of a closed database are well formed too, but that a group is open.
-pub fn tell_check(alloc: Global, pages: &MemPages, is_closed: bool, out: &mut Told) -> Result<()> {
+pub fn tell_check<P: Pages>(
+    alloc: Global,
+    pages: &P,
+    is_closed: bool,
+    out: &mut Told,
+) -> Result<()> {
     let checked = if is_closed {
         verify_integrity(alloc, pages)
     } else {

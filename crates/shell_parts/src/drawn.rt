@@ -7,13 +7,15 @@ use sled_draw::draw::draw;
 use sled_draw::levels::count_levels;
 use sled_model::{MergeOperator, Tree};
 use sled_pages::MemPages;
+use sled_store::Pages;
 use std::alloc::Global;
 
-/// Adds a drawing of a tree, or how many pages it has.
-pub fn tell_drawn<M: MergeOperator>(
+/// Adds a drawing of a tree, with links only where its pages are kept in memory; or how many pages it has.
+pub fn tell_drawn<P: Pages, M: MergeOperator>(
     alloc: Global,
-    db: &Db<MemPages, M>,
+    db: &Db<P, M>,
     tree: &Tree,
+    kept: Option<&MemPages>,
     drawing: Option<Drawing>,
     out: &mut Told,
 ) -> Result<()> {
@@ -22,7 +24,7 @@ pub fn tell_drawn<M: MergeOperator>(
     }
     let (pages, name) = (db.pages(), tree.name.as_ref());
     let drawn = match drawing {
-        Some(drawing) => draw(alloc, pages, name, drawing, &mut out.text),
+        Some(drawing) => draw(alloc, pages, kept, name, drawing, &mut out.text),
         None => count_levels(alloc, pages, name, &mut out.text),
     };
     match drawn {

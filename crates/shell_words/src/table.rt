@@ -83,6 +83,8 @@ pub enum Verb {
     Unreadable,
     Mark,
     Recover,
+    /// A log of files that is begun anew.
+    Compact,
     /// A store of what was noted.
     Image(Image),
     Quit,
@@ -209,9 +211,10 @@ fn subscriber_commands() -> &'static [Command] {
 }
 
 #[rattlefmt::skip]
-static STORE: [Command; 10] = [
+static STORE: [Command; 11] = [
     Command("flush", "", Verb::Flush, "makes all durable"),
-    Command("crash", "N", Verb::Crash, "a crash that keeps N actions since the last flush, and an opening; the current tree stays so where it is there"),
+    Command("crash", "N", Verb::Crash, "a crash that keeps N actions since the last flush, none of them in files, and an opening; the current tree stays so where it is there"),
+    Command("compact", "", Verb::Compact, "in files: makes all durable in a log that is begun anew, and opens it; the current tree stays so"),
     Command("dump", "", Verb::Dump, "prints all pairs"),
     Command("dump lines", "", Verb::DumpLines, "prints all trees and pairs as lines that make them again"),
     Command("run", "FILE", Verb::Run, "runs the lines of a file"),
@@ -229,7 +232,7 @@ fn store_commands() -> &'static [Command] {
 #[rattlefmt::skip]
 static HELP: [Command; 13] = [
     Command("pages", "", Verb::Pages, "prints how many pages each level of the tree has, and the most entries of one"),
-    Command("stats", "", Verb::Stats, "prints how many trees, pages, levels and pairs there are, and the bytes of all keys and values"),
+    Command("stats", "", Verb::Stats, "prints how many trees, pages, levels and pairs there are, and the bytes of all keys and values; of files the bytes of the log and of its snapshot, and the generation"),
     Command("draw", "", Verb::Draw(Drawing::Text), "draws the tree level by level, with what is half done"),
     Command("draw links", "", Verb::Draw(Drawing::Links), "draws it with how many entries the base of each page has, and how many links are kept over it"),
     Command("draw dot", "", Verb::Draw(Drawing::Dot), "draws it as a graph for the program dot"),

@@ -29,14 +29,16 @@ struct Pointed {
 
 // What is drawn so far. Want of memory for a part is kept in mind, so that no part has to tell it: then the drawing is cut.
 #[derive(Drop)]
-struct Picture {
+struct Picture<'a> {
     alloc: Global,
+    // The pages, where they are in memory and so say as what each of them is kept.
+    kept: Option<&'a MemPages>,
     drawing: Drawing,
     out: Vec<u8>,
     is_cut: bool,
 }
 
-impl Picture {
+impl Picture<'_> {
     fn is_dot(&self) -> bool {
         matches!(self.drawing, Drawing::Dot)
     }
@@ -250,9 +252,9 @@ impl Picture {
     }
 
     // Adds a page by its number: the page to its right.
-    fn view(
+    fn view<P: Pages>(
         &mut self,
-        pages: &MemPages,
+        pages: &P,
         below: &mut Vec<Pointed>,
         pid: Pid,
         place: &Place,
@@ -260,16 +262,16 @@ impl Picture {
         let Some(view) = pages.read(self.alloc, pid)? else {
             return Ok(None);
         };
-        let added = self.node(below, &view.node, pid, place, parts_of(pages, pid));
+        let added = self.node(below, &view.node, pid, place, parts_of(self.kept, pid));
         let next = view.node.next;
         drop(view);
         added.map(|()| next)
     }
 
     // Adds a level, from the first of the pages that the level above points to, and takes down the pages that it points to.
-    fn level(
+    fn level<P: Pages>(
         &mut self,
-        pages: &MemPages,
+        pages: &P,
         pointed: &[Pointed],
         below: &mut Vec<Pointed>,
     ) -> Result<()> {
@@ -297,7 +299,7 @@ impl Picture {
     }
 
     // Adds all levels, from the one of these pages down.
-    fn levels(&mut self, pages: &MemPages, mut pointed: Vec<Pointed>) -> Result<()> {
+    fn levels<P: Pages>(&mut self, pages: &P, mut pointed: Vec<Pointed>) -> Result<()> {
         for level in 0..u64::MAX {
             if pointed.is_empty() {
                 break;
@@ -313,7 +315,7 @@ impl Picture {
     }
 
     // Adds the tree of a name, if there is one.
-    fn tree(&mut self, pages: &MemPages, name: &[u8]) -> Result<()> {
+    fn tree<P: Pages>(&mut self, pages: &P, name: &[u8]) -> Result<()> {
         let mut roots = Vec::new(self.alloc);
         if let Some(root) = pages.root(name) {
             let (pid, place) = (root, Place::Top);
@@ -323,7 +325,7 @@ impl Picture {
     }
 
     // Adds the whole drawing: whether it was cut.
-    fn draw(&mut self, pages: &MemPages, name: &[u8]) -> Result<bool> {
+    fn draw<P: Pages>(&mut self, pages: &P, name: &[u8]) -> Result<bool> {
         if !self.is_dot() {
             self.tree(pages, name)?;
             return Ok(self.is_cut);
@@ -344,17 +346,19 @@ fn place_of(pointed: &[Pointed], pid: Pid) -> Place {
     Place::Unpointed
 }
 
-/// Adds a drawing of the tree of this name. Refused where a page cannot be read, or with `NoMemory`; then there is what was drawn
+/// Adds a drawing of the tree of this name. Where its pages are in memory they may say as what each of them is kept. Refused where a page cannot be read, or with `NoMemory`; then there is what was drawn
 /// so far.
-pub fn draw(
+pub fn draw<P: Pages>(
     alloc: Global,
-    pages: &MemPages,
+    pages: &P,
+    kept: Option<&MemPages>,
     name: &[u8],
     drawing: Drawing,
     out: &mut Vec<u8>,
 ) -> Result<()> {
     let mut picture = Picture {
         alloc,
+        kept,
         drawing,
         out: std::mem::replace(out, Vec::new(alloc)),
         is_cut: false,

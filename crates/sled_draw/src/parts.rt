@@ -21,9 +21,9 @@ pub fn entries_of(node: &Node) -> usize {
     }
 }
 
-/// As what the page of this number is kept, if there is one.
-pub fn parts_of(pages: &MemPages, pid: Pid) -> Option<Parts> {
-    match pages.parts(pid) {
+/// As what the page of this number is kept, if there is one, and its pages say so.
+pub fn parts_of(kept: Option<&MemPages>, pid: Pid) -> Option<Parts> {
+    match kept?.parts(pid) {
         Some((base, links)) => Some(Parts {
             base: entries_of(base),
             links: links.len(),
@@ -33,8 +33,8 @@ pub fn parts_of(pages: &MemPages, pid: Pid) -> Option<Parts> {
 }
 
 /// Adds the line of that.
-pub fn push_parts(pages: &MemPages, pid: Pid, out: &mut Vec<u8>) -> Result<()> {
-    let Some(Parts { base, links }) = parts_of(pages, pid) else {
+pub fn push_parts(parts: Option<Parts>, out: &mut Vec<u8>) -> Result<()> {
+    let Some(Parts { base, links }) = parts else {
         return push_pieces(out, &[Text(b"none\n")]);
     };
     let (base, links) = (Number(base as u64), Number(links as u64));

@@ -236,8 +236,8 @@ pub fn tell_stats<W: Write>(session: &Opened, output: &mut W) -> Result<(), Stop
     )?;
     Ok(writeln!(
         output,
-        "log bytes {} generation {}",
-        files.bytes, files.generation
+        "log bytes {} snapshot {} generation {}",
+        files.bytes, files.snapshot, files.generation
     )?)
 }
 

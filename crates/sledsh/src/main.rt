@@ -2,22 +2,42 @@
 //! print with what was expected. What it prints is not proved: it is safe, and it ends.
 #![tactic(auto)]
 
-mod asks;
-mod input;
-mod shell;
-mod state;
-
-use line_files::check;
+use line_files::{Program, check};
 use line_words::input::Stopped;
-use shell::{Texts, VERSION, run};
+use shell_lines::shell::{VERSION, run};
+use shell_parts::memory::Memory;
+use sled_nodes::Error;
+use std::alloc::Global;
 use std::io::{BufReader, BufWriter, IsTerminal, Write};
 use std::process::ExitCode;
 use std::{env, fs};
 
+// Texts of lines, each a session of its own.
+#[derive(Clone, Copy)]
+struct Texts<'a> {
+    rt: &'a HostRuntime,
+}
+
+impl Program for Texts<'_> {
+    fn run(&self, alloc: Global, lines: &[u8], printed: &mut Vec<u8>) -> sled_nodes::Result<()> {
+        // Nothing is written but to memory, so it was that which was missing.
+        match run(self.rt, Memory::nothing(alloc), lines, printed, false) {
+            Ok(_) => Ok(()),
+            Err(_) => Err(Error::NoMemory),
+        }
+    }
+}
+
 // Runs standard input as a session: whether each line could be read.
 fn run_input(rt: &HostRuntime, output: &mut impl Write) -> Result<bool, Stopped> {
     let input = BufReader::new(rt.alloc(), rt.reader())?;
-    run(rt, input, output, rt.stdin().is_terminal())
+    run(
+        rt,
+        Memory::nothing(rt.alloc()),
+        input,
+        output,
+        rt.stdin().is_terminal(),
+    )
 }
 
 // Runs each file as a session of its own: whether each line could be read.
@@ -25,7 +45,13 @@ fn run_files(rt: &HostRuntime, names: &[String], output: &mut impl Write) -> Res
     let mut read = true;
     for name in names {
         let lines = fs::read(rt, name.as_str())?;
-        read &= run(rt, lines.as_slice(), output, false)?;
+        read &= run(
+            rt,
+            Memory::nothing(rt.alloc()),
+            lines.as_slice(),
+            output,
+            false,
+        )?;
     }
     Ok(read)
 }

@@ -1,7 +1,7 @@
 //! Lines that ask a database.
 
 use crate::shell::Shell;
-use crate::state::{Opened, State};
+use crate::state::State;
 use line_words::input::Stopped;
 use line_words::print::Piece::{Text, Word};
 use line_words::print::Shown;
@@ -17,29 +17,30 @@ use shell_calls::lines::{rest_behind, words_behind};
 use shell_calls::subscribers::tell_no_subscriber;
 use shell_parts::again::tell_again;
 use shell_parts::drawn::tell_drawn;
-use shell_parts::held::Held;
+use shell_parts::home::Home;
 use shell_parts::look::tell_look;
 use shell_parts::stats::tell_stats;
-use shell_parts::store::Kept;
 use shell_words::choices::Drawing;
 use shell_words::look::Look;
-use shell_words::operators::operator_of;
+use shell_words::operators::{Operator, operator_of};
 use shell_words::table::{Verb, Way};
 use shell_words::tell::{Result, answered, tell, tell_refused, tell_turns, tell_whether};
+use sled::Db;
 use sled_lines::session::Session;
 use sled_model::{Outcome, Reply, Tree, Whole};
+use sled_store::Pages;
 use std::io::Write;
 
-// Whether a line is a call of the database itself.
-fn is_owned(way: Way, verb: Verb) -> bool {
+/// Whether a line is a call of the database itself.
+pub fn is_owned(way: Way, verb: Verb) -> bool {
     matches!(way, Way::Owned) || matches!(verb, Verb::RemoveRange)
 }
 
-impl Shell {
+impl<P: Pages, H: Home<Store = P, Opened = Db<P, Operator>>> Shell<P, H> {
     /// Makes a tree current.
     pub fn take_tree(
         &mut self,
-        session: &mut Opened,
+        session: &mut Session<P, Operator>,
         tree: sled_nodes::Result<Tree>,
     ) -> Result<()> {
         let tree = answered(tree)?;
@@ -53,7 +54,7 @@ impl Shell {
     }
 
     // Makes a whole call, and adds how it came out.
-    fn whole(&mut self, session: &mut Opened, whole: Whole) -> Result<()> {
+    fn whole(&mut self, session: &mut Session<P, Operator>, whole: Whole) -> Result<()> {
         let shown = Shown::of_whole(&whole);
         let outcome = session.whole(whole);
         let told = match &outcome {
@@ -70,7 +71,7 @@ impl Shell {
     }
 
     // Takes what a subscriber is told next, or ends it.
-    fn hear(&mut self, session: &mut Opened, verb: Verb) -> Result<()> {
+    fn hear(&mut self, session: &mut Session<P, Operator>, verb: Verb) -> Result<()> {
         match self.subscribers.named(self.lines.arguments.number()) {
             Some(subscriber) => self.whole(session, hearing(verb, subscriber)),
             None => tell_no_subscriber(&mut self.lines.out),
@@ -78,7 +79,7 @@ impl Shell {
     }
 
     // Makes the group of writes that the line says, if its trees can be read.
-    fn group(&mut self, session: &mut Opened) -> Result<()> {
+    fn group(&mut self, session: &mut Session<P, Operator>) -> Result<()> {
         let words = rest_behind(self.lines.line.as_slice(), 1);
         let tree = session.tree();
         let group = group_of(
@@ -96,7 +97,7 @@ impl Shell {
     }
 
     // Runs the transaction that the line says, if its trees can be read.
-    fn transaction_all(&mut self, session: &mut Opened) -> Result<()> {
+    fn transaction_all(&mut self, session: &mut Session<P, Operator>) -> Result<()> {
         tell_transaction_all(
             self.lines.alloc,
             session,
@@ -109,7 +110,7 @@ impl Shell {
     }
 
     // Answers a read, with the words behind its own.
-    fn look(&mut self, session: &Opened, which: Look) -> Result<()> {
+    fn look(&mut self, session: &Session<P, Operator>, which: Look) -> Result<()> {
         let (first, more) = first_word(rest_behind(self.lines.line.as_slice(), 1));
         let words = (first, more.unwrap_or(b""));
         tell_look(
@@ -123,13 +124,13 @@ impl Shell {
     }
 
     // Makes current what the line names.
-    fn take_handle(&mut self, session: &mut Opened) -> Result<()> {
+    fn take_handle(&mut self, session: &mut Session<P, Operator>) -> Result<()> {
         session.set_tree(handle_of(self.lines.alloc, &self.lines.arguments)?);
         tell(&mut self.lines.out, &[Text(b"done\n")])
     }
 
     // Gives the current tree the operator that the line names.
-    fn set_operator(&mut self, session: &mut Opened) -> Result<()> {
+    fn set_operator(&mut self, session: &mut Session<P, Operator>) -> Result<()> {
         let operator = operator_of(self.lines.arguments.bytes(0)).ok_or(Stopped)?;
         let answer = session.set_merge_operator(operator);
         let answer = answer.map(|()| Reply::Done);
@@ -138,36 +139,63 @@ impl Shell {
     }
 
     // Draws the current tree, or counts its pages.
-    fn show(&mut self, session: &Opened, drawing: Option<Drawing>) -> Result<()> {
-        let out = &mut self.lines.out;
-        tell_drawn(self.lines.alloc, session.db(), session.tree(), drawing, out)
+    fn show(&mut self, session: &Session<P, Operator>, drawing: Option<Drawing>) -> Result<()> {
+        let (db, tree) = (session.db(), session.tree());
+        let kept = H::kept(db.pages());
+        tell_drawn(
+            self.lines.alloc,
+            db,
+            tree,
+            kept,
+            drawing,
+            &mut self.lines.out,
+        )
+    }
+
+    // Says how large all trees are, and the files, where there are some.
+    fn stats(&mut self, session: &Session<P, Operator>) -> Result<()> {
+        let told = tell_stats(session.db(), &mut self.lines.out);
+        let files = H::tell_files(session.db().pages(), &mut self.lines.out);
+        told.and(files)
     }
 
     // Takes a session apart, makes the call of its database that the line says, and makes a session again, where the same tree is current.
     // The calls in flight are given up.
-    fn on_parts(&mut self, session: Opened, verb: Verb) -> (State, Result<()>) {
+    fn on_parts(
+        &mut self,
+        session: Session<P, Operator>,
+        verb: Verb,
+    ) -> (Session<P, Operator>, Result<()>) {
         let (mut db, tree) = session.into_parts();
         let told = make_owned(&mut self.lines, &mut self.subscribers, &mut db, &tree, verb);
-        (
-            State::Open(Session::with_tree(self.lines.alloc, db, tree)),
-            told,
-        )
+        (Session::with_tree(self.lines.alloc, db, tree), told)
     }
 
-    // Answers a line that is a call of the database itself.
-    fn owned(&mut self, state: &mut State, verb: Verb) -> Result<()> {
-        let shut = State::Shut(Held::Kept(Kept::empty(self.lines.alloc)));
-        let (next, told) = match std::mem::replace(state, shut) {
-            State::Open(session) => self.on_parts(session, verb),
+    /// Answers a line that is a call of the database itself.
+    pub fn owned(&mut self, state: State<P, H>, verb: Verb) -> Result<State<P, H>> {
+        let (state, told) = match state {
+            State::Open(session) => {
+                let (session, told) = self.on_parts(session, verb);
+                (State::Open(session), told)
+            }
             State::Shut(held) => (State::Shut(held), tell_unasked(&mut self.lines.out, verb)),
         };
-        let shut = std::mem::replace(state, next);
-        drop(shut.into_held());
-        told
+        match told {
+            Ok(()) => Ok(state),
+            Err(stopped) => {
+                drop(state.into_held());
+                Err(stopped)
+            }
+        }
     }
 
     // Runs a line that `sledrun` knows too, or that takes a slot.
-    fn known<W: Write>(&mut self, session: &mut Opened, verb: Verb, output: &mut W) -> Result<()> {
+    fn known<W: Write>(
+        &mut self,
+        session: &mut Session<P, Operator>,
+        verb: Verb,
+        output: &mut W,
+    ) -> Result<()> {
         let way = self.lines.way();
         let words = words_behind(self.lines.line.as_slice(), 1);
         let line = known_of(self.lines.alloc, verb, way, words, &self.lines.arguments)?;
@@ -175,7 +203,7 @@ impl Shell {
     }
 
     // Makes the whole call that the line says.
-    fn call(&mut self, session: &mut Opened, verb: Verb) -> Result<()> {
+    fn call(&mut self, session: &mut Session<P, Operator>, verb: Verb) -> Result<()> {
         match whole_of(
             self.lines.alloc,
             session.tree(),
@@ -188,7 +216,7 @@ impl Shell {
     }
 
     // Reads a value and writes what is made of it, which the line says.
-    fn fetch(&mut self, session: &mut Opened, verb: Verb) -> Result<()> {
+    fn fetch(&mut self, session: &mut Session<P, Operator>, verb: Verb) -> Result<()> {
         let answer = fetch(self.lines.alloc, session, verb, &self.lines.arguments).map(
             Reply::Value,
         );
@@ -197,7 +225,7 @@ impl Shell {
     }
 
     // Inserts as many pairs as the line says, if those are not too many.
-    fn fill(&mut self, session: &mut Opened) -> Result<()> {
+    fn fill(&mut self, session: &mut Session<P, Operator>) -> Result<()> {
         let count = self.lines.arguments.number();
         if count > MOST {
             return self.lines.tell_above(count, MOST);
@@ -208,7 +236,7 @@ impl Shell {
     // Answers a line that asks a session.
     fn ask_session<W: Write>(
         &mut self,
-        session: &mut Opened,
+        session: &mut Session<P, Operator>,
         verb: Verb,
         output: &mut W,
     ) -> Result<()> {
@@ -240,7 +268,7 @@ impl Shell {
             Verb::Operator => self.set_operator(session),
             Verb::DumpLines => tell_again(session.db(), &mut self.lines.out),
             Verb::Fill => self.fill(session),
-            Verb::Stats => tell_stats(session.db(), &mut self.lines.out),
+            Verb::Stats => self.stats(session),
             Verb::Pages => self.show(session, None),
             Verb::Draw(drawing) => self.show(session, Some(drawing)),
             Verb::Turns => tell_turns(
@@ -253,10 +281,12 @@ impl Shell {
     }
 
     /// Answers a line that asks a database.
-    pub fn ask<W: Write>(&mut self, state: &mut State, verb: Verb, output: &mut W) -> Result<()> {
-        if is_owned(self.lines.way(), verb) {
-            return self.owned(state, verb);
-        }
+    pub fn ask<W: Write>(
+        &mut self,
+        state: &mut State<P, H>,
+        verb: Verb,
+        output: &mut W,
+    ) -> Result<()> {
         match state {
             State::Open(session) => self.ask_session(session, verb, output),
             State::Shut(_) => tell_unasked(&mut self.lines.out, verb),

@@ -1,31 +1,28 @@
 //! The store of a session of the shell.
 
-use shell_parts::held::Held;
-use shell_parts::store::Kept;
+use shell_parts::home::Home;
 use shell_words::operators::Operator;
 use shell_words::table::Verb;
 use shell_words::tell::{Result, answered};
+use sled::Db;
 use sled_lines::session::Session;
 use sled_nodes::IVec;
-use sled_pages::MemPages;
 use sled_store::Pages;
 
-/// A session over a database in memory.
-pub type Opened = Session<MemPages, Operator>;
-
-/// The store: opened, or the pages that a refused opening gave back.
-pub enum State {
+/// The store: opened, or what a refused opening gave back.
+pub enum State<P: Pages, H: Home<Store = P, Opened = Db<P, Operator>>> {
     /// A session over a database.
-    Open(Opened),
+    Open(Session<P, Operator>),
     /// No database is open.
-    Shut(Held),
+    Shut(H::Held),
 }
 
-impl State {
-    /// The name of the tree that is to be current again behind what a line asks for: that of the current tree, behind a crash.
+impl<P: Pages, H: Home<Store = P, Opened = Db<P, Operator>>> State<P, H> {
+    /// The name of the tree that is to be current again behind what a line asks for: that of the current tree, behind a crash and a log
+    /// that is begun anew.
     pub fn name_behind(&self, verb: Verb) -> Result<Option<IVec>> {
         match (self, verb) {
-            (State::Open(session), Verb::Crash) => {
+            (State::Open(session), Verb::Crash | Verb::Compact) => {
                 let name = session.tree().name.clone();
                 Ok(Some(answered(name)?))
             }
@@ -33,19 +30,19 @@ impl State {
         }
     }
 
-    /// The pages, between two openings. The calls in flight are given up.
-    pub fn into_held(self) -> Held {
+    /// The store, between two openings. The calls in flight are given up.
+    pub fn into_held(self) -> H::Held {
         match self {
-            State::Open(session) => Held::Kept(Kept::of(session.into_db())),
+            State::Open(session) => H::held_of(session.into_db()),
             State::Shut(held) => held,
         }
     }
 
-    /// The pages as they are.
-    pub fn pages(&self) -> &MemPages {
+    /// The store as it is.
+    pub fn store(&self) -> &P {
         match self {
             State::Open(session) => session.db().pages(),
-            State::Shut(held) => held.pages(),
+            State::Shut(held) => H::store(held),
         }
     }
 

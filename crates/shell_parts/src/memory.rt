@@ -1,54 +1,43 @@
-//! What lines make of the pages between two openings.
+//! A shell's database in memory: what lines make of its pages between two openings.
 
 use crate::held::Held;
+use crate::home::Home;
 use crate::store::Kept;
 use hostile_lines::image::Noted;
 use line_words::input::Stopped;
+use line_words::print::Piece::Text;
 use shell_words::arguments::Arguments;
 use shell_words::image::Image;
+use shell_words::operators::Operator;
 use shell_words::table::Verb;
+use shell_words::tell::{Told, tell};
 use sled::Db;
-use sled_model::MergeOperator;
 use sled_nodes::Error;
 use sled_pages::MemPages;
 use sled_store::Pages;
 use std::alloc::Global;
 
-/// What lines said of the pages that are opened next.
+/// A home in memory: what lines said of the pages that are opened next.
 #[derive(Drop)]
-pub struct Renewal {
+pub struct Memory {
     alloc: Global,
-    /// What was noted since the last image.
-    pub noted: Noted,
+    // What was noted since the last image.
+    noted: Noted,
     mark: u64,
     // The command that changed the store last, or ended; and why the pages cannot be opened after it.
     last: Verb,
     refused: Option<Error>,
 }
 
-impl Renewal {
+impl Memory {
     /// Nothing so far.
-    pub fn nothing(alloc: Global) -> Renewal {
-        Renewal {
+    pub fn nothing(alloc: Global) -> Memory {
+        Memory {
             alloc,
             noted: Noted::nothing(alloc),
             mark: 0,
             last: Verb::Quit,
             refused: None,
-        }
-    }
-
-    /// Below which mark no line sets ids aside.
-    pub fn mark(&self) -> u64 {
-        self.mark
-    }
-
-    /// What is printed of the opening after the last change; nothing of the first opening.
-    pub fn opening(&self) -> Option<&'static [u8]> {
-        match self.last {
-            Verb::Crash => Some(b"recovered"),
-            Verb::Quit => None,
-            _ => Some(b"opened"),
         }
     }
 
@@ -79,13 +68,56 @@ impl Renewal {
         self.mark = 0;
         Held::Kept(Kept::empty(self.alloc))
     }
+}
 
-    /// What is made of the pages by a line that changes them, which are opened then.
-    pub fn change(
+impl Home for Memory {
+    type Store = MemPages;
+
+    type Held = Held;
+
+    type Opened = Db<MemPages, Operator>;
+
+    fn first(&mut self, _out: &mut Told) -> Result<Held, Stopped> {
+        Ok(Held::Kept(Kept::empty(self.alloc)))
+    }
+
+    fn held_of(db: Db<MemPages, Operator>) -> Held {
+        Held::Kept(Kept::of(db))
+    }
+
+    fn store(held: &Held) -> &MemPages {
+        held.pages()
+    }
+
+    fn kept(store: &MemPages) -> Option<&MemPages> {
+        Some(store)
+    }
+
+    fn refuses(&self, verb: Verb, _arguments: &Arguments) -> Option<&'static str> {
+        match verb {
+            Verb::Compact => Some("is for a store in files"),
+            _ => None,
+        }
+    }
+
+    fn mark(&self) -> u64 {
+        self.mark
+    }
+
+    fn note_page(&mut self, words: &[u8], out: &mut Told) -> Result<(), Stopped> {
+        self.noted.note_page(self.alloc, words, out)
+    }
+
+    fn note_root(&mut self, words: &[u8], out: &mut Told) -> Result<(), Stopped> {
+        self.noted.note_root(self.alloc, words, out)
+    }
+
+    fn change(
         &mut self,
         held: Held,
         verb: Verb,
         arguments: &Arguments,
+        _out: &mut Told,
     ) -> Result<Held, Stopped> {
         self.last = verb;
         let first = arguments.number();
@@ -104,15 +136,27 @@ impl Renewal {
         }
     }
 
-    /// Opens pages under a name, unless they were refused before.
-    pub fn open<M: MergeOperator>(
-        &mut self,
-        held: Held,
-        name: &[u8],
-    ) -> Result<Db<MemPages, M>, (Held, Error)> {
+    fn open(&mut self, held: Held, name: &[u8]) -> Result<Db<MemPages, Operator>, (Held, Error)> {
         match self.refused.take() {
             Some(error) => Err((held, error)),
             None => held.open(self.alloc, name),
         }
+    }
+
+    // Of the first opening nothing is told.
+    fn tell_opening(&self, _db: &Db<MemPages, Operator>, out: &mut Told) -> Result<bool, Stopped> {
+        match self.last {
+            Verb::Quit => Ok(false),
+            Verb::Crash => tell(out, &[Text(b"recovered")]).map(|()| true),
+            _ => tell(out, &[Text(b"opened")]).map(|()| true),
+        }
+    }
+
+    fn tell_files(_store: &MemPages, _out: &mut Told) -> Result<(), Stopped> {
+        Ok(())
+    }
+
+    fn lasts() -> bool {
+        false
     }
 }

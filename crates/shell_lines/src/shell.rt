@@ -1,36 +1,36 @@
 //! A session of the shell: lines, from opening to opening.
 
+use crate::asks::is_owned;
 use crate::input::{Input, read_file};
-use crate::state::{Opened, State};
+use crate::state::State;
 use hostile_lines::repeats::Repeats;
 use hostile_lines::source::Source;
 use hostile_lines::sweeps::{Sessions, tell_sweep};
 use hostile_lines::verdict::tell_verdict;
-use line_files::Program;
-use line_words::input::Stopped;
+use line_words::input::{Stopped, without_end};
 use line_words::print::Piece::{Text, Word};
+use line_words::words::first_word;
 use shell_calls::lines::{Lines, rest_behind};
 use shell_calls::names::Names;
 use shell_calls::subscribers::Subscribers;
 use shell_parts::check::tell_check;
-use shell_parts::held::Held;
-use shell_parts::renewal::Renewal;
-use shell_parts::store::Kept;
+use shell_parts::home::Home;
+use shell_parts::memory::Memory;
 use shell_words::choices::Sweep;
 use shell_words::operators::Operator;
 use shell_words::table::Verb;
 use shell_words::tell::{Result, Told, answered, tell, tell_refused, tell_why};
+use shell_words::words::quote;
 use sled::{Db, GROUP_IS_OPEN};
-use sled_draw::parts::{push_parts, push_rests};
-use sled_lines::session::Session;
+use sled_draw::parts::{parts_of, push_parts, push_rests};
+use sled_lines::session::{Session, write};
 use sled_model::{Outcome, Reply, Tree, Whole};
 use sled_nodes::{Error, IVec, Pid};
-use sled_pages::MemPages;
 use sled_store::Pages;
 use std::alloc::Global;
 use std::io::{BufRead, Write};
 
-// The version of the whole repository.
+/// The version of the whole repository.
 pub const VERSION: &str = "0.1.0";
 
 // The name that databases are opened under.
@@ -38,7 +38,7 @@ const DATABASE: &[u8] = b"sledsh";
 
 /// The lines of a session and what is to be printed, and what they got and said since the opening.
 #[derive(Drop)]
-pub struct Shell {
+pub struct Shell<P: Pages, H: Home<Store = P, Opened = Db<P, Operator>>> {
     /// The line that was read last.
     pub lines: Lines,
     // Whether the lines are run again and again, and may have no others run so.
@@ -47,7 +47,7 @@ pub struct Shell {
     pub names: Names,
     /// The subscribers that they got.
     pub subscribers: Subscribers,
-    renewal: Renewal,
+    home: H,
     // The name of the tree that was current before a crash, up to the opening behind it.
     before: Option<IVec>,
 }
@@ -57,21 +57,21 @@ fn tell_tree(out: &mut Told, tree: &Tree) -> Result<()> {
     tell(out, &[Text(b", tree "), Word(tree.name.as_ref())])
 }
 
-impl Shell {
+impl<P: Pages, H: Home<Store = P, Opened = Db<P, Operator>>> Shell<P, H> {
     // A shell that has read no line yet.
-    fn new(alloc: Global, explains: bool, is_swept: bool) -> Shell {
+    fn new(alloc: Global, home: H, explains: bool, is_swept: bool) -> Shell<P, H> {
         Shell {
             lines: Lines::new(alloc, explains),
             is_swept,
             names: Names::empty(alloc),
             subscribers: Subscribers::empty(alloc),
-            renewal: Renewal::nothing(alloc),
+            home,
             before: None,
         }
     }
 
     // Makes current what a name was before.
-    fn take_old(&mut self, state: &mut State) -> Result<()> {
+    fn take_old(&mut self, state: &mut State<P, H>) -> Result<()> {
         let name = self.lines.arguments.bytes(0);
         match (state, self.names.before(name, 1)) {
             (State::Open(session), Some(tree)) => {
@@ -82,14 +82,30 @@ impl Shell {
         }
     }
 
+    // Adds why the line is not for the store that there is.
+    fn tell_elsewhere(&mut self, why: &'static str) -> Result<()> {
+        let name = first_word(without_end(self.lines.line.as_slice())).0;
+        answered(quote(&mut self.lines.why, name, why))?;
+        self.lines.tell_bad()
+    }
+
     // Answers a line, unless it changes the store, has others run, or ends: whether it did.
-    fn answer<W: Write>(&mut self, state: &mut State, verb: Verb, output: &mut W) -> Result<bool> {
+    fn answer<W: Write>(
+        &mut self,
+        state: &mut State<P, H>,
+        verb: Verb,
+        output: &mut W,
+    ) -> Result<bool> {
+        if let Some(why) = self.home.refuses(verb, &self.lines.arguments) {
+            return self.tell_elsewhere(why).map(|()| true);
+        }
         let number = self.lines.arguments.number();
         let told = match verb {
-            Verb::Mark if number < self.renewal.mark() => self
+            Verb::Mark if number < self.home.mark() => self
                 .lines
-                .tell_below(number, self.renewal.mark()),
-            Verb::Reopen | Verb::Refuse | Verb::Unreadable | Verb::Mark if state.is_closed() => {
+                .tell_below(number, self.home.mark()),
+            Verb::Reopen | Verb::Compact | Verb::Refuse | Verb::Unreadable | Verb::Mark
+                if state.is_closed() => {
                 tell_refused(&mut self.lines.out, Error::Corruption(GROUP_IS_OPEN))
             }
             Verb::Sweep(_) | Verb::Run if self.is_swept || self.lines.is_in_file() => {
@@ -99,6 +115,7 @@ impl Shell {
             Verb::Crash
             | Verb::New
             | Verb::Reopen
+            | Verb::Compact
             | Verb::Refuse
             | Verb::Unreadable
             | Verb::Mark
@@ -116,34 +133,35 @@ impl Shell {
             Verb::Why => tell_why(&mut self.lines.out),
             Verb::Version => self.version(),
             Verb::Help => self.lines.help(),
+            verb if is_owned(self.lines.way(), verb) => return Ok(false),
             verb => self.ask(state, verb, output),
         };
         told.map(|()| true)
     }
 
     // Checks the pages as they are.
-    fn verify(&mut self, state: &State) -> Result<()> {
+    fn verify(&mut self, state: &State<P, H>) -> Result<()> {
         let is_closed = state.is_closed();
         tell_check(
             self.lines.alloc,
-            state.pages(),
+            state.store(),
             is_closed,
             &mut self.lines.out,
         )
     }
 
     // Says as what a page is kept.
-    fn parts(&mut self, state: &State) -> Result<()> {
+    fn parts(&mut self, state: &State<P, H>) -> Result<()> {
         let pid = Pid(self.lines.arguments.number());
-        let pushed = push_parts(state.pages(), pid, &mut self.lines.out.text);
-        answered(pushed)
+        let parts = parts_of(H::kept(state.store()), pid);
+        answered(push_parts(parts, &mut self.lines.out.text))
     }
 
     // Says of a page what all its keys begin with, and what each of them has behind that.
-    fn rests(&mut self, state: &State) -> Result<()> {
+    fn rests(&mut self, state: &State<P, H>) -> Result<()> {
         let pid = Pid(self.lines.arguments.number());
         let out = &mut self.lines.out;
-        match state.pages().read(self.lines.alloc, pid) {
+        match state.store().read(self.lines.alloc, pid) {
             Ok(Some(view)) => {
                 let pushed = push_rests(&view.node, &mut out.text);
                 drop(view);
@@ -165,21 +183,19 @@ impl Shell {
     // Notes a page of an image.
     fn note_page(&mut self) -> Result<()> {
         let words = rest_behind(self.lines.line.as_slice(), 1);
-        let noted = &mut self.renewal.noted;
-        noted.note_page(self.lines.alloc, words, &mut self.lines.out)
+        self.home.note_page(words, &mut self.lines.out)
     }
 
     // Notes a root of an image.
     fn note_root(&mut self) -> Result<()> {
         let words = rest_behind(self.lines.line.as_slice(), 1);
-        let noted = &mut self.renewal.noted;
-        noted.note_root(self.lines.alloc, words, &mut self.lines.out)
+        self.home.note_root(words, &mut self.lines.out)
     }
 
     // Answers lines up to one that changes the store, has others run, or ends.
     fn lines<W: Write, S: Source<W>>(
         &mut self,
-        state: &mut State,
+        state: &mut State<P, H>,
         source: &mut S,
         output: &mut W,
     ) -> Result<Verb> {
@@ -193,7 +209,7 @@ impl Shell {
     }
 
     // Opens nothing after a refusal, which is told.
-    fn shut(&mut self, held: Held, error: Error) -> Result<State> {
+    fn shut(&mut self, held: H::Held, error: Error) -> Result<State<P, H>> {
         match tell_verdict(&mut self.lines.out, error) {
             Ok(()) => Ok(State::Shut(held)),
             Err(stopped) => {
@@ -204,7 +220,7 @@ impl Shell {
     }
 
     // Makes the tree current again that was so before a crash, if it is there: whether the current tree is that one.
-    fn take_again(&mut self, session: &mut Opened) -> Result<bool> {
+    fn take_again(&mut self, session: &mut Session<P, Operator>) -> Result<bool> {
         let Some(name) = self.before.take() else {
             return Ok(true);
         };
@@ -225,14 +241,13 @@ impl Shell {
         }
     }
 
-    // Takes down the trees that an opening got, and tells of it; of the current tree where it is another one than before a crash.
-    fn tell_opened(&mut self, session: &mut Opened) -> Result<()> {
+    // Takes down the trees that an opening got, and tells of it; of the current tree where it is another one than before.
+    fn tell_opened(&mut self, session: &mut Session<P, Operator>) -> Result<()> {
         self.names.begin(session.tree())?;
         let is_same = self.take_again(session)?;
-        let Some(opening) = self.renewal.opening() else {
+        if !self.home.tell_opening(session.db(), &mut self.lines.out)? {
             return Ok(());
-        };
-        tell(&mut self.lines.out, &[Text(opening)])?;
+        }
         if !is_same {
             tell_tree(&mut self.lines.out, session.tree())?;
         }
@@ -240,7 +255,7 @@ impl Shell {
     }
 
     // A session over a database, whose opening is told.
-    fn begin(&mut self, db: Db<MemPages, Operator>) -> Result<State> {
+    fn begin(&mut self, db: Db<P, Operator>) -> Result<State<P, H>> {
         self.subscribers.clear();
         let mut session = match Session::over(self.lines.alloc, db) {
             Ok(session) => session,
@@ -259,49 +274,74 @@ impl Shell {
     }
 
     // Opens pages, unless they were refused before.
-    fn open(&mut self, held: Held) -> Result<State> {
-        match self.renewal.open(held, DATABASE) {
+    fn open(&mut self, held: H::Held) -> Result<State<P, H>> {
+        match self.home.open(held, DATABASE) {
             Ok(db) => self.begin(db),
             Err((held, error)) => self.shut(held, error),
         }
     }
 
     // Takes down what is to be current again behind what a line asks for.
-    fn note_before(&mut self, state: &State, verb: Verb) -> Result<()> {
+    fn note_before(&mut self, state: &State<P, H>, verb: Verb) -> Result<()> {
         let old = std::mem::replace(&mut self.before, state.name_behind(verb)?);
         drop(old);
         Ok(())
     }
 
+    // Opens a store, where there is one; else has it written why not.
+    fn open_told<W: Write>(
+        &mut self,
+        held: Result<H::Held>,
+        output: &mut W,
+    ) -> Result<State<P, H>> {
+        match held {
+            Ok(held) => self.open(held),
+            Err(stopped) => {
+                write(output, &mut self.lines.out.text)?;
+                Err(stopped)
+            }
+        }
+    }
+
     // Does what a line asks for that changes the store, and opens it then.
-    fn renew(&mut self, state: State, verb: Verb) -> Result<State> {
+    fn renew<W: Write>(
+        &mut self,
+        state: State<P, H>,
+        verb: Verb,
+        output: &mut W,
+    ) -> Result<State<P, H>> {
         let noted = self.note_before(&state, verb);
         let held = state.into_held();
         if let Err(stopped) = noted {
             drop(held);
             return Err(stopped);
         }
-        let held = self.renewal.change(held, verb, &self.lines.arguments)?;
-        self.open(held)
+        let lines = &mut self.lines;
+        let changed = self
+            .home
+            .change(held, verb, &lines.arguments, &mut lines.out);
+        self.open_told(changed, output)
     }
 
-    // An empty store, opened.
-    fn start(&mut self) -> Result<State> {
-        self.open(Held::Kept(Kept::empty(self.lines.alloc)))
+    // The store as it is at first, opened.
+    fn start<W: Write>(&mut self, output: &mut W) -> Result<State<P, H>> {
+        let first = self.home.first(&mut self.lines.out);
+        self.open_told(first, output)
     }
 
     // Answers lines up to one that has others run, or ends.
     fn live<W: Write, S: Source<W>>(
         &mut self,
-        state: State,
+        state: State<P, H>,
         source: &mut S,
         output: &mut W,
-    ) -> Result<(State, Verb)> {
+    ) -> Result<(State<P, H>, Verb)> {
         let mut state = state;
         for _ in 0..u64::MAX {
             match self.lines(&mut state, source, output) {
                 Ok(verb @ (Verb::Quit | Verb::Run | Verb::Sweep(_))) => return Ok((state, verb)),
-                Ok(verb) => state = self.renew(state, verb)?,
+                Ok(verb) if is_owned(self.lines.way(), verb) => state = self.owned(state, verb)?,
+                Ok(verb) => state = self.renew(state, verb, output)?,
                 Err(stopped) => {
                     drop(state.into_held());
                     return Err(stopped);
@@ -330,7 +370,12 @@ impl Shell {
     }
 
     // Answers the lines of a file.
-    fn run_lines<W: Write>(&mut self, state: State, lines: &[u8], output: &mut W) -> Result<State> {
+    fn run_lines<W: Write>(
+        &mut self,
+        state: State<P, H>,
+        lines: &[u8],
+        output: &mut W,
+    ) -> Result<State<P, H>> {
         let number = self.lines.begin_file();
         let mut source = Input::new(lines, false);
         let lived = self.live(state, &mut source, output);
@@ -342,9 +387,9 @@ impl Shell {
     fn run_file<W: Write>(
         &mut self,
         rt: &HostRuntime,
-        state: State,
+        state: State<P, H>,
         output: &mut W,
-    ) -> Result<State> {
+    ) -> Result<State<P, H>> {
         if let Some(lines) = read_file(rt, self.lines.arguments.bytes(0)) {
             return self.run_lines(state, lines.as_slice(), output);
         }
@@ -361,10 +406,10 @@ impl Shell {
     fn run_named<W: Write>(
         &mut self,
         rt: &HostRuntime,
-        state: State,
+        state: State<P, H>,
         verb: Verb,
         output: &mut W,
-    ) -> Result<State> {
+    ) -> Result<State<P, H>> {
         let Verb::Sweep(sweep) = verb else {
             return self.run_file(rt, state, output);
         };
@@ -377,6 +422,33 @@ impl Shell {
         }
     }
 
+    // Makes all durable, or adds why it is not.
+    fn flush_last(&mut self, session: Session<P, Operator>) -> Result<()> {
+        let mut session = session;
+        let outcome = session.flush();
+        drop(session.into_db().into_pages());
+        match outcome {
+            Outcome::Refused(error) => {
+                let told = write!(&mut self.lines.out.text, "not flushed: {error}\n");
+                drop(error);
+                Ok(told?)
+            }
+            other => {
+                drop(other);
+                Ok(())
+            }
+        }
+    }
+
+    // Ends a session at the end of its lines. Where what was done stays, all of it is durable then.
+    fn close<W: Write>(&mut self, state: State<P, H>, output: &mut W) -> Result<()> {
+        match state {
+            State::Open(session) if H::lasts() => self.flush_last(session)?,
+            state => drop(state.into_held()),
+        }
+        write(output, &mut self.lines.out.text)
+    }
+
     // Answers all lines.
     fn run<W: Write, S: Source<W>>(
         &mut self,
@@ -384,7 +456,7 @@ impl Shell {
         source: &mut S,
         output: &mut W,
     ) -> Result<()> {
-        let mut state = self.start()?;
+        let mut state = self.start(output)?;
         for _ in 0..u64::MAX {
             let (left, verb) = self.live(state, source, output)?;
             state = left;
@@ -393,25 +465,25 @@ impl Shell {
             }
             state = self.run_named(rt, state, verb, output)?;
         }
-        drop(state.into_held());
+        self.close(state, output)?;
         Ok(output.flush()?)
     }
 
     // Answers all lines of a session that is run again and again.
     fn run_swept(&mut self, source: &mut Repeats<'_>, output: &mut Vec<u8>) -> Result<()> {
-        let state = self.start()?;
+        let state = self.start(output)?;
         let (state, _) = self.live(state, source, output)?;
         drop(state.into_held());
         Ok(())
     }
 }
 
-// Sessions that are run again and again.
+// Sessions that are run again and again, over stores in memory.
 struct Swept;
 
 impl Sessions for Swept {
     fn run(&self, alloc: Global, source: &mut Repeats<'_>, output: &mut Vec<u8>) -> Result<bool> {
-        let mut shell = Shell::new(alloc, false, true);
+        let mut shell = Shell::new(alloc, Memory::nothing(alloc), false, true);
         let ran = shell.run_swept(source, output);
         let good = shell.lines.is_good();
         drop(shell);
@@ -420,34 +492,19 @@ impl Sessions for Swept {
     }
 }
 
-/// Runs the lines of an input as a session: whether each of them could be read.
-pub fn run<R: BufRead + Drop, W: Write>(
+/// Runs the lines of an input as a session over what lives there: whether each of them could be read.
+pub fn run<P: Pages, H: Home<Store = P, Opened = Db<P, Operator>>, R: BufRead + Drop, W: Write>(
     rt: &HostRuntime,
+    home: H,
     input: R,
     output: &mut W,
     prompts: bool,
 ) -> Result<bool> {
-    let mut shell = Shell::new(rt.alloc(), prompts, false);
+    let mut shell = Shell::new(rt.alloc(), home, prompts, false);
     let mut source = Input::new(input, prompts);
     let ran = shell.run(rt, &mut source, output);
     let good = shell.lines.is_good();
     drop(shell);
     ran?;
     Ok(good)
-}
-
-/// Texts of lines, each a session of its own.
-#[derive(Clone, Copy)]
-pub struct Texts<'a> {
-    pub rt: &'a HostRuntime,
-}
-
-impl Program for Texts<'_> {
-    fn run(&self, _alloc: Global, lines: &[u8], printed: &mut Vec<u8>) -> sled_nodes::Result<()> {
-        // Nothing is written but to memory, so it was that which was missing.
-        match run(self.rt, lines, printed, false) {
-            Ok(_) => Ok(()),
-            Err(_) => Err(Error::NoMemory),
-        }
-    }
 }

@@ -1,0 +1,13 @@
+pub use Rattle.sled_nodes.specs as sled_nodes
+pub use Rattle.sled_store.specs as sled_store
+pub use Rattle.sled_model.specs as sled_model
+pub use Rattle.sled.specs as sled
+pub use Rattle.line_words.specs as line_words
+pub use Rattle.sled_lines.specs as sled_lines
+pub use Rattle.shell_words.specs as shell_words
+pub use Rattle.sled_draw.specs as sled_draw
+pub use Rattle.hostile_lines.specs as hostile_lines
+pub use Rattle.shell_calls.specs as shell_calls
+pub use Rattle.shell_parts.specs as shell_parts
+pub use Rattle.owned_lines.specs as owned_lines
+pub use Rattle.session_lines.specs as session_lines
