@@ -1,5 +1,6 @@
 """Lines that look random, each by a seed and a count, and what the oracle says that they print: many calls in flight at once (`Crowd`), scans
-beside what changes their trees (`Scans`), and images of pages, of which most are damaged (`Images`)."""
+beside what changes their trees (`Scans`), and images of pages, of which most are damaged (`Images`). And lines that do not: an image that
+needs very many repairs (`Leaves`)."""
 import random
 from dataclasses import replace
 import images
@@ -348,4 +349,35 @@ class Images(Lines):
             self.ask(f"abandon {slot}")
 
 
-KINDS = {"crowd": Crowd, "scans": Scans, "images": Images}
+class Leaves(Lines):
+    """So many empty leaves under indexes of 16 pointers, as another program may make them. A call behind the last leaf merges each leaf into
+    the one before it, and is refused for its turns where there are 80,000. What a batch repaired is taken back by `recover`, so it is
+    refused again. What a call on a key repaired stays, also one in flight, so the next one is made."""
+
+    WIDTH = 16
+
+    def __init__(self, seed, count):
+        super().__init__(seed)
+        keys = ["%", *(f"{place:05x}" for place in range(1, count)), "%"]
+        level = self.chain("leaf", 1, keys, [""] * count)
+        while len(level) > 1:
+            groups = [level[at:at + self.WIDTH] for at in range(0, len(level), self.WIDTH)]
+            pointers = [" - " + " ".join(f"{key} {pid}" for key, pid in group) for group in groups]
+            level = self.chain("index", level[-1][1] + 1, [*(group[0][0] for group in groups), "%"], pointers)
+        self.add(f"root {word(TREE)} {level[0][1]}", ["noted"])
+        self.add("image", ["opened"])
+        for line, wanted in [
+            ("batch z 1 zz 2", "refused E3"), ("get z", "refused E8"), ("recover", "opened"), ("batch z 1 zz 2", "refused E3"),
+            ("recover", "opened"), ("begin get z", "slot 1"), ("finish 1", "refused E3"), ("insert z 0", "old -"), ("batch z 1 zz 2", "done"),
+            ("get z", "value 1"), ("get zz", "value 2"), ("verify", "sound")]:
+            self.add(line, [wanted])
+
+    def chain(self, kind, first, keys, pointers):
+        """Pages of one level, each beside the next: their first keys and numbers."""
+        last = first + len(pointers) - 1
+        for pid, (lo, hi, has) in enumerate(zip(keys, keys[1:], pointers), first):
+            self.add(f"page {pid} {kind} {lo} {hi} {'-' if pid == last else pid + 1} open{has}", ["noted"])
+        return [(lo, pid) for pid, lo in enumerate(keys[:-1], first)]
+
+
+KINDS = {"crowd": Crowd, "scans": Scans, "images": Images, "leaves": Leaves}

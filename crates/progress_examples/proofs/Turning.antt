@@ -1,5 +1,6 @@
 -- Steps of a machine that began with no call in flight.
-use Rattle.std.proofs.Common.{◌≡◌, ℕ, suc, [], Result, Ok, Err, IfOk, IfErr, ap}
+use Rattle.std.proofs.Common.{◌≡◌, ◌≢◌, ℕ, suc, ◌%◌, List, [], ◌∷◌, length, get_or, slice_get, Result, Ok, Err, Some, IfOk, IfErr, refl, ap, arith}
+use Rattle.std.proofs.lemmas.Option.{slice_get-get_or}
 use Rattle.sled_nodes.specs.declared.error.Error.{Error}
 use Rattle.sled_store.specs.Store.{Store}
 use Rattle.sled_model.specs.Maps.{Merge}
@@ -10,6 +11,11 @@ use Rattle.sled_model.specs.declared.tree.Tree.{Tree}
 use Rattle.sled_calls.specs.Step.{MachineStepContract}
 use Rattle.sled_calls.specs.Values.{MachineValue, kept_at}
 use Rattle.machine_laws.specs.Moves.{IsSound, IsReached, BeginsEmpty, Steps, MovesInARow, Begins, Moves}
+
+-- the one whose turn it is
+pub in_turn : {X : Type 0} (xs : List X) (i : ℕ) (d : X) → xs ≢ [] → slice_get xs (i % length xs) ≡ Some (get_or xs (i % length xs) d)
+in_turn [] i d some = absurd (some refl)
+in_turn (x ∷ xs) i d some = slice_get-get_or (x ∷ xs) (i % length (x ∷ xs)) d (omega arith)
 
 module _ {P M : Type 0} (store : P → Store) (number : P → ℕ) (meant : M → Merge) where
   abbrev Reached : MachineValue P M → Type 0

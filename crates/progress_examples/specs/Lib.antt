@@ -1,3 +1,4 @@
+pub mod Turns
 pub use Rattle.sled_nodes.specs as sled_nodes
 pub use Rattle.sled_store.specs as sled_store
 pub use Rattle.sled_model.specs as sled_model

@@ -2,11 +2,14 @@
 //! public contracts of a machine and from the law of few moves alone (`law_moves` of `machine_laws`).
 #![tactic(auto)]
 
-ghost use Rattle.std.specs.Prelude.{◌≢◌, ◌≤◌, [], IfNone, IfSome};
+ghost use Rattle.std.specs.Prelude.{◌≡◌, ◌≢◌, ◌≤◌, [], IfErr, IfNone, IfOk, IfSome};
 ghost use Rattle.sled_store.specs.Store.{now};
 ghost use Rattle.sled_model.specs.declared.outcome.Outcome.TheVariants as outcome;
+ghost use Rattle.sled_model.specs.declared.outcome.Step.TheVariants as step;
+ghost use Rattle.sled_calls.specs.Step.{MachineStepContract};
 ghost use Rattle.move_laws.specs.Meant.{moves_bound};
-ghost use Rattle.machine_laws.specs.Moves.{IsReached, flights_of};
+ghost use Rattle.machine_laws.specs.Moves.{IsReached, MovesInARow, flights_of};
+ghost use Rattle.progress_examples.specs.Turns.{TellsInTurn};
 
 use machine_laws::law_moves;
 use sled::Db;
@@ -21,7 +24,9 @@ use sled_store::Pages;
 /// let mut machine = start(db);
 /// ```
 pub fn start<P: Pages, M: MergeOperator>(db: Db<P, M>) -> Machine<P, M>
-    ensures { IsReached P.store P.flush_number M.meant result }
+    ensures db { result.db ≡ db }
+    ensures empty { result.flights ≡ [] }
+    ensures reached { IsReached P.store P.flush_number M.meant result }
 {
     let machine = Machine::new(db);
     machine.audit();
@@ -39,7 +44,9 @@ pub fn begin<P: Pages, M: MergeOperator>(
     call: Call,
 ) -> Result<Slot>
     requires { IsReached P.store P.flush_number M.meant machine.old }
-    ensures { IsReached P.store P.flush_number M.meant machine.new }
+    ensures ok { IfOk result (λ slot. MachineStepContract P.store P.flush_number M.meant machine.old (step.Begin tree.now call) (outcome.Begun slot) machine.new) }
+    ensures err { IfErr result (λ e. MachineStepContract P.store P.flush_number M.meant machine.old (step.Begin tree.now call) (outcome.Refused e) machine.new) }
+    ensures reached { IsReached P.store P.flush_number M.meant machine.new }
 {
     let begun = machine.begin(tree, call);
     machine.audit();
@@ -59,7 +66,8 @@ pub fn step_in_turn<P: Pages, M: MergeOperator>(
 ) -> Option<Outcome>
     requires some { slots.now ≢ [] }
     requires reached { IsReached P.store P.flush_number M.meant machine.old }
-    ensures told { IfSome result (λ told. told ≢ outcome.Moved) }
+    ensures told { IfSome result (λ told. (told ≢ outcome.Moved) × TellsInTurn P.store P.flush_number M.meant machine.old slots.now told machine.new) }
+    ensures moves { IfNone result (MovesInARow P.store P.flush_number M.meant machine.old turns machine.new) }
     ensures few { IfNone result (turns ≤ moves_bound (now (P.store machine.old.db.pages)) (flights_of machine.old)) }
     ensures reached { IsReached P.store P.flush_number M.meant machine.new }
 {
