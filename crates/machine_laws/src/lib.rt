@@ -1,4 +1,4 @@
-//! Laws: of the steps in a row of a machine one is decided or refused before long, and of finitely many calls on keys none is left.
+//! Laws: of the steps in a row of a machine one is decided, gives a pair or is refused before long, and of calls on keys none is left.
 //!
 //! A machine's calls in flight share their pages: each repairs what others left half done, and what one changes sends others back to the
 //! root. Here it is said that they do not do so for ever. No more steps come out as `Moved` in a row than `moves_bound` of `move_laws`

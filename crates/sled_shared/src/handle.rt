@@ -101,8 +101,8 @@ impl<P: Pages, L: Ledger, M: MergeOperator> Handle<P, L, M> {
         begun
     }
 
-    /// One step of the call in the slot, whoever began it. A call on a key that it decides becomes this caller's. Where it gives a pair of a
-    /// scan, and scans are noted, the pair was in the tree's map at some moment since the scan began.
+    /// One step of the call in the slot, whoever began it. A call on a key that it decides becomes this caller's. The contract says so of
+    /// some state with a legal history; that this is the state under the lock is tested.
     ///
     /// ```
     /// let outcome = handle.step(rt, slot);
