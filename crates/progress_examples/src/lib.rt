@@ -57,7 +57,8 @@ pub fn begin<P: Pages, M: MergeOperator>(
 /// returns `None` only if `turns` is no more than `moves_bound` of `move_laws` is of the pages and the calls in flight.
 ///
 /// ```
-/// let told = step_in_turn(&mut machine, &[one, other], 1_000_000);
+/// let slot = begin(&mut machine, &tree, Call::get(alloc, b"ulm")?)?;
+/// let told = step_in_turn(&mut machine, &[slot], 1_000_000);
 /// ```
 pub fn step_in_turn<P: Pages, M: MergeOperator>(
     machine: &mut Machine<P, M>,
