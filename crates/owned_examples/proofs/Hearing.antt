@@ -18,7 +18,7 @@ use Rattle.sled_shared.specs.Made.{MadeValue}
 use Rattle.call_laws.specs.Calls.{NoCall, OneCall, Called, ToldNext, alone}
 use Rattle.call_laws.specs.Hears.{IsKept, KeepsTree, turns_of_calls, told_to, HearsLaw}
 use Rattle.owned_examples.specs.Heard.{insert_brings, both_brings, HearsWrites, FollowsTree}
-use Rattle.owned_examples.specs.Owned.{IsInsert, IsBoth}
+use Rattle.owned_examples.specs.Owned.{Goes, IsInsert, IsBoth}
 use Rattle.owned_examples.specs.declared.owned.Wrote.{Wrote}
 use Rattle.owned_examples.specs.theory.Owned.{Tells, GoesQuietly}
 
@@ -53,6 +53,9 @@ module _ {P M : Type 0} (store : P → Store) (number : P → ℕ) (meant : M �
         keeps = λ name. keeps_after name x.made y.made (x.keeps name) (y.keeps name);
       }
 
+  goes : {is_made : List MadeValue → Type 0} {brings : List Turn → Type 0} (a b : DbValue P M) → GoesQuietly store number meant a is_made brings b → Goes store number meant a is_made b
+  goes a b x = record { made = x.tells.made; calls = x.tells.calls; is = x.is }
+
   module _ (tree : Tree) (n : ℕ) (key first second one other : Key) (wrote : Wrote) (told : Option Next) (a b c d e : DbValue P M)
       (i : GoesQuietly store number meant a (IsInsert tree key first wrote.insert) (insert_brings store number meant a tree key first wrote.insert) b)
       (g : GoesQuietly store number meant b (IsBoth tree one other first wrote.both) (both_brings store number meant b tree one other first wrote.both) c)
@@ -75,6 +78,11 @@ module _ {P M : Type 0} (store : P → Store) (number : P → ℕ) (meant : M �
     hears_writes = record {
       middle = b;
       last = c;
+      end = d;
+      inserted = goes a b i;
+      wrote_both = goes b c g;
+      inserted_again = goes c d l;
+      asked = t;
       insert = i.turns;
       both = g.turns;
       later = l.turns;

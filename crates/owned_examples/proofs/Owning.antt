@@ -39,10 +39,10 @@ use Rattle.call_laws.specs.Calls.{MakesCalls, NoCall, OneCall, Called, DidPoint,
 use Rattle.call_laws.specs.Hears.{IsKept, KeepsTree, turns_of_group, BringsAlone}
 use Rattle.call_laws.specs.Laws.{committed, made_before_stop, uncommitted, turns_before_stop, turns_uncommitted, JoinedLaw, RecordLaw, TransactionLaw}
 use Rattle.example_parts.proofs.Added.{matches_has}
-use Rattle.owned_examples.specs.Owned.{IsInsert, both_writes, IsBoth, IsFlush, IsOrder, FoundAfter}
+use Rattle.owned_examples.specs.Owned.{IsInsert, both_writes, IsBoth, IsFlush, IsOrder, FoundAfter, Goes}
 use Rattle.owned_examples.specs.declared.owned.Written.{Written}
 use Rattle.owned_examples.specs.Heard.{insert_brings, both_brings}
-use Rattle.owned_examples.specs.theory.Owned.{Goes, GoesQuietly, brings_nothing, WritesInside}
+use Rattle.owned_examples.specs.theory.Owned.{GoesQuietly, brings_nothing, WritesInside}
 
 -- what is told of a call of the closure
 abbrev Told : {P F R A E : Type 0} → Closure F (TransactionalTree P) R → (R → Answer A E) → F → Key → Key → Key → Type 0

@@ -17,10 +17,11 @@ use Rattle.sled_queues.specs.Turns.{turns_of_call}
 use Rattle.sled.specs.Sound.{IsDb}
 use Rattle.sled.specs.Transactions.{TakesIds}
 use Rattle.sled.specs.Values.{DbValue, db_state}
+use Rattle.sled.specs.Watch.{TakesFromDb}
 use Rattle.sled_calls.specs.Hears.{queues_at, IsCopyOfTree}
 use Rattle.call_laws.specs.Calls.{alone}
 use Rattle.call_laws.specs.Hears.{turns_of_group}
-use Rattle.owned_examples.specs.Owned.{both_writes}
+use Rattle.owned_examples.specs.Owned.{both_writes, Goes, IsInsert, IsBoth}
 use Rattle.owned_examples.specs.declared.owned.Wrote.{Wrote}
 
 module _ {P M : Type 0} (store : P → Store) (flush_number : P → ℕ) (meant : M → Merge) where
@@ -36,10 +37,15 @@ module _ {P M : Type 0} (store : P → Store) (flush_number : P → ℕ) (meant 
 
   -- An insert, a transaction, another insert of the key, and then a subscriber is told what is next. While its count was never at the greatest,
   -- that, then what it missed since, and then what waits is what waited at first, and then what the three brought under its prefix
-  -- of its tree, each event once and in their order
+  -- of its tree, each event once and in their order. Each was made on the database that the one before left
   pub record HearsWrites (old : DbValue P M) (tree : Tree) (subscriber : ℕ) (key first second one other : Key) (wrote : Wrote) (next : Option Next) (new : DbValue P M) : Type 0 where
     pub middle : DbValue P M
     pub last : DbValue P M
+    pub end : DbValue P M
+    pub inserted : Goes store flush_number meant old (IsInsert tree key first wrote.insert) middle
+    pub wrote_both : Goes store flush_number meant middle (IsBoth tree one other first wrote.both) last
+    pub inserted_again : Goes store flush_number meant last (IsInsert tree key second wrote.later) end
+    pub asked : TakesFromDb store meant end subscriber next new
     pub insert : List Turn
     pub both : List Turn
     pub later : List Turn

@@ -4,17 +4,25 @@ use Rattle.std.specs.FinMap.Entries.{put}
 use Rattle.sled_nodes.specs.Order.{Key, key_cmp}
 use Rattle.sled_batch.specs.Batch.{Writes}
 use Rattle.sled_store.specs.In.{In}
-use Rattle.sled_model.specs.Maps.{Maps}
+use Rattle.sled_store.specs.Store.{Store}
+use Rattle.sled_model.specs.Maps.{Maps, Merge}
 use Rattle.sled_model.specs.declared.call.Call.TheVariants.{Insert}
 use Rattle.sled_model.specs.declared.tree.Tree.{Tree}
 use Rattle.sled_model.specs.declared.reply.Reply.TheVariants.{Value, Number}
 use Rattle.sled.specs.Opens.{with_default}
+use Rattle.sled.specs.Values.{DbValue}
 use Rattle.sled_shared.specs.Crashes.{LeadsThrough}
 use Rattle.sled_shared.specs.Made.{MadeValue, PointMade, WholeMade}
 use Rattle.sled_shared.specs.Wholes.{Flush}
-use Rattle.call_laws.specs.Calls.{owned}
+use Rattle.call_laws.specs.Calls.{MakesCalls, alone, owned}
 use Rattle.call_laws.specs.Laws.{committed}
 use Rattle.owned_examples.specs.declared.owned.Written.{Written}
+
+-- the database came from one to the other by calls of its owner, which made such a list
+pub record Goes {P M : Type 0} (store : P → Store) (flush_number : P → ℕ) (meant : M → Merge) (old : DbValue P M) (is_made : List MadeValue → Type 0) (new : DbValue P M) : Type 0 where
+  pub made : List MadeValue
+  pub calls : MakesCalls store flush_number meant (alone old) made (alone new)
+  pub is : is_made made
 
 -- an insert made one entry if it succeeded, and else none
 abbrev pub IsInsert : Tree → Key → Key → Bool → List MadeValue → Type 0

@@ -5,8 +5,8 @@ ghost use Rattle.sled_pages.specs.Memory.{store_of, empty_store};
 ghost use Rattle.tree_laws.specs.Contents.{trees_of};
 ghost use Rattle.tree_laws.specs.Crashes.{IsValid};
 ghost use Rattle.owned_examples.specs.Heard.{FollowsTree, HearsWrites, both_brings, insert_brings};
-ghost use Rattle.owned_examples.specs.Owned.{IsBoth, IsFlush, IsInsert, IsOrder, FoundAfter};
-ghost use Rattle.owned_examples.specs.theory.Owned.{Goes, GoesQuietly, WritesInside, brings_nothing};
+ghost use Rattle.owned_examples.specs.Owned.{IsBoth, IsFlush, IsInsert, IsOrder, FoundAfter, Goes};
+ghost use Rattle.owned_examples.specs.theory.Owned.{GoesQuietly, WritesInside, brings_nothing};
 
 use call_laws::{audit_opening, law_hears, law_joined, law_record, law_transaction};
 use sled::{ConflictableTransactionResult, Db, TransactionalTree, crash_pages, empty_pages};

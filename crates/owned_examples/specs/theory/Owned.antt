@@ -12,12 +12,6 @@ use Rattle.sled_shared.specs.Made.{MadeValue}
 use Rattle.call_laws.specs.Calls.{MakesCalls, alone}
 use Rattle.call_laws.specs.Hears.{IsKept, KeepsTree, turns_of_calls, told_to}
 
--- the database came from one to the other by calls of its owner, which made such a list
-pub record Goes {P M : Type 0} (store : P → Store) (flush_number : P → ℕ) (meant : M → Merge) (old : DbValue P M) (is_made : List MadeValue → Type 0) (new : DbValue P M) : Type 0 where
-  pub made : List MadeValue
-  pub calls : MakesCalls store flush_number meant (alone old) made (alone new)
-  pub is : is_made made
-
 module _ {P M : Type 0} (store : P → Store) (flush_number : P → ℕ) (meant : M → Merge) where
   -- .. which did this to the queues and told subscribers this, and gave none up and dropped no tree
   pub record Tells (old : DbValue P M) (turns : List Turn) (told : ℕ → List Next) (new : DbValue P M) : Type 0 where
