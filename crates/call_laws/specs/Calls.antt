@@ -51,7 +51,7 @@ abbrev pub made_by_step : Step → Outcome → (ℕ → Option CallInFlight) →
 made_by_step (step.Step slot) o slots = noted_in o (slots slot)
 made_by_step s o slots = []
 
--- a step that begins a call, goes on with one or gives one up
+-- a step that begins a call, goes on with one or abandons one
 abbrev pub IsOfSlot : Step → Type 0
 IsOfSlot (step.Whole whole) = ⊥
 IsOfSlot s = Unit {0}
@@ -102,14 +102,14 @@ module _ {P M : Type 0} (store : P → Store) (flush_number : P → ℕ) (meant 
     NoCall : {m : MachineValue P M} → MakesCalls m [] m
     OneCall : {a m b : MachineValue P M} {made more : List MadeValue} → MachineCall a made m → MakesCalls m more b → MakesCalls a (made ++ more) b
 
--- what an owner made, as a history of his alone
+-- what an owner made, as a history with no other caller
 abbrev pub owned : List MadeValue → List EntryValue
 owned made = entries_of 0 made
 
--- What was made since the database had these collections, and a crash might have left these maps or those. While it is open the list is legal: from the
--- maps then each call replied and wrote what it does there, in the order of the list, and the maps now are those after the last. A crash may
--- leave what it might have left then, and the maps after each call and part since; from the last flush in the list on those after it alone.
--- The ids that were given rise
+-- What was made since the database had these collections, and a crash might have left these maps or those. While it is open the list is
+-- legal: from the maps then each call replied and wrote what it does there, in the order of the list, and the maps now are those after the
+-- last. A crash may leave what it might have left then, and the maps after each call and part since; from the last flush in the list on
+-- those after it alone. The ids that were given rise
 pub record IsRecord {P M : Type 0} (store : P → Store) (m : MachineValue P M) (opening : List Content) (earlier : List Maps) (made : List MadeValue) : Type 0 where
   pub legal : IsOpen store m → IsLegal (maps_from opening) (owned made) (maps_now store m)
   pub crashes : CrashLeaves store m opening (owned made)

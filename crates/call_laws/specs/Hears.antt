@@ -32,7 +32,7 @@ use Rattle.sled_shared.specs.Made.{MadeValue, WholeMade}
 use Rattle.sled_shared.specs.Wholes as value
 use Rattle.call_laws.specs.Calls.{DbCall, DidPoint, DidWhole, WholeStopped, DidGroup, Imported, ImportStopped, Watched, ToldNext, Unsubscribed, MachineCall, Stepped, Did, Stopped, Called, MakesCalls, NoCall, OneCall}
 
--- of what was made nothing gives the subscriber up
+-- of what was made nothing drops the subscriber
 abbrev pub gives_up : ℕ → MadeValue → Bool
 gives_up n (WholeMade (value.Unsubscribe subscriber) reply) = nat_eq subscriber n
 gives_up n made = false
@@ -80,7 +80,7 @@ module _ {P M : Type 0} (store : P → Store) (flush_number : P → ℕ) (meant 
   turns_of_machine (Stopped {a = a} {b = b} {whole = whole} {e = e} one counts) = turns_of_step store flush_number meant a (step.Whole whole) (outcome.Refused e) b one
   turns_of_machine (Called call) = turns_of_db call
 
-  -- what a subscriber is told by a call: by its `Next` alone
+  -- what a call returns to a subscriber: its `Next` alone does
   abbrev pub told_by_db : ℕ → {old new : DbValue P M} {made : List MadeValue} → DbCall store flush_number meant old made new → List Next
   told_by_db n (DidWhole {whole = whole} {reply = reply} off d) = told_at n (step.Whole whole) (outcome.Decided reply)
   told_by_db n (ToldNext {subscriber = subscriber} {next = next} d) = if nat_eq subscriber n then option_to_list next else []
@@ -91,7 +91,7 @@ module _ {P M : Type 0} (store : P → Store) (flush_number : P → ℕ) (meant 
   told_by n (Called call) = told_by_db n call
   told_by n other = []
 
-  -- what calls do to the queues, and what a subscriber is told by them, in order
+  -- what calls do to the queues, and what they return to a subscriber, in order
   abbrev pub turns_of_calls : {a b : MachineValue P M} {made : List MadeValue} → MakesCalls store flush_number meant a made b → List Turn
   turns_of_calls NoCall = []
   turns_of_calls (OneCall one more) = turns_of_machine one ++ turns_of_calls more
@@ -100,12 +100,12 @@ module _ {P M : Type 0} (store : P → Store) (flush_number : P → ℕ) (meant 
   told_to n NoCall = []
   told_to n (OneCall one more) = told_by n one ++ told_to n more
 
-  -- calls do just this to the queues, and tell no subscriber anything
+  -- calls do just this to the queues, and return nothing to a subscriber
   pub record BringsAlone {a b : MachineValue P M} {made : List MadeValue} (calls : MakesCalls store flush_number meant a made b) (turns : List Turn) : Type 0 where
     pub turns_are : turns_of_calls calls ≡ turns
     pub told : (n : ℕ) → told_to n calls ≡ []
 
-  -- calls do to the queues, and tell, what some calls do and then others
+  -- calls do to the queues, and return, what some calls do and then others
   pub record BringsBoth {a m b c d : MachineValue P M} {made more all : List MadeValue} (first : MakesCalls store flush_number meant a made m) (second : MakesCalls store flush_number meant b more c) (calls : MakesCalls store flush_number meant a all d) : Type 0 where
     pub turns_are : turns_of_calls calls ≡ turns_of_calls first ++ turns_of_calls second
     pub told : (n : ℕ) → told_to n calls ≡ told_to n first ++ told_to n second
@@ -120,15 +120,15 @@ module _ {P M : Type 0} (store : P → Store) (flush_number : P → ℕ) (meant 
         → (calls : MakesCalls store flush_number meant a (made ++ more) b) × BringsBoth first second calls
     -- the queues after the calls are those that their turns make of them
     pub queues : (a b : MachineValue P M) (made : List MadeValue) (calls : MakesCalls store flush_number meant a made b) → queues_at b ≡ after_turns (turns_of_calls calls) (queues_at a)
-    -- Two lists are equal while the count was never at the greatest u64. The one is what its calls told it, with n events at each
+    -- Two lists are equal while the count was never at the greatest u64. The one is what its calls returned, with n events at each
     -- `Missed(n)`, then as many as its count, and then those that wait for it. The other is what it had at first, and then the events under
     -- its prefix of its tree that the decided calls brought, each once and in the order of the calls
     pub hears : (a b : MachineValue P M) (made : List MadeValue) (calls : MakesCalls store flush_number meant a made b)
         → (n : ℕ) (q : Queue) → queues_at a n ≡ Some q → IsKept n made
         → hearing.CountsAll n (turns_of_calls calls) (queues_at a) → (all : List Event) → hearing.Holds q.backlog all
         → hearing.Hears (told_to n calls) (all ++ brought q (turns_of_calls calls)) (backlog_in (queues_at b n))
-    -- while the database is open and it missed none, a copy that it changes by each event that it is told is, once it is changed by those
-    -- that wait too, a copy of its tree's map
+    -- while the database is open and it missed none, a copy that it changes by each event that it gets is, once it is changed by those that
+    -- wait too, a copy of its tree's map
     pub follows : (a b : MachineValue P M) (made : List MadeValue) (calls : MakesCalls store flush_number meant a made b) → IsDb store a.db → (db_state store meant b.db).is_open ≡ true
         → (n : ℕ) (q : Queue) → queues_at a n ≡ Some q → IsKept n made → (name : Key) → KeepsTree name made
         → TellsEvents (told_to n calls) → (backlog_in (queues_at b n)).missed ≡ 0

@@ -60,8 +60,8 @@ module _ {P M A E W : Type 0} {store : P → Store} {flush_number : P → ℕ} {
   turns_uncommitted (Abort e) fails = []
   turns_uncommitted (Storage e) fails = turns_before_stop fails.is
 
--- Whatever machine has the database, a transaction of a tree is calls of its owner. If it was committed it made the group of what it wrote, with the
--- flush that it asked for; if that flush was refused, the group alone; and else nothing. Subscribers get the events of that group
+-- Whatever machine has the database, a transaction of a tree is calls of its owner. If it was committed it made the group of what it wrote,
+-- with the flush that it asked for; if that flush was refused, the group alone; and else nothing. Subscribers get the events of that group
 pub record TransactionLaw {P M F R A E : Type 0} (store : P → Store) (flush_number : P → ℕ) (meant : M → Merge) (says : Closure F (TransactionalTree P) R) (result_of : R → Answer A E) : Type 0 where
   pub made : (m : MachineValue P M) (new : DbValue P M) (f : F) (tree : Tree) (answer : A) → (t : TransactionMade store flush_number meant says result_of f m.db tree answer new)
       → (number : ℕ) × (calls : MakesCalls store flush_number meant m (committed ((tree, t.commit.writes) ∷ []) t.commit.flushes number) (record m { db = new })) × BringsAlone store flush_number meant calls (turns_of_group store flush_number meant t.run ((tree, t.commit.writes) ∷ []))

@@ -31,8 +31,8 @@ pub fn audit_opening<P: Pages, M: MergeOperator>(db: &Db<P, M>)
 
 /// Does nothing. A record of what was made goes on: after more calls, it is a record with what they made at its end. So the trees are the
 /// maps that the calls give in order, and each reply of a call on a key is the map's at its place. A crash leaves the maps after the last
-/// flush in the list or after a call behind it; if the list has no flush, also what it might have left when the record began. Ids rise. A
-/// group that is refused midway closes the database; from then on the record speaks of crashes alone.
+/// flush in the list or after a later call; if the list has no flush, also what it might have left when the record began. Ids rise. A group
+/// that is refused midway closes the database; from then on the record speaks of crashes alone.
 ///
 /// ```
 /// law_record::<MemPages, Adds>(); // From here on a proof knows it.
@@ -51,9 +51,9 @@ pub fn law_joined<P: Pages, M: MergeOperator>()
 {}
 
 /// Does nothing. Over every list of calls a subscriber gets each event under its prefix of its tree once, in the order of the calls that
-/// were decided, or learns how many it missed: what `next` returned, then what it missed since, then what waits, is what waited at first and then
-/// what the calls brought. A transaction brings the events of what it wrote. While it misses none and the database is open, a copy that it
-/// changes by them follows the map of its tree.
+/// were decided, or learns how many it missed. What `next` returned, then what it missed since, then what waits, is what waited at first
+/// and then what the calls brought. A transaction brings the events of what it wrote. While it misses none and the database is open, a copy
+/// that it changes by them follows the map of its tree.
 ///
 /// ```
 /// law_hears::<MemPages, Adds>(); // From here on a proof knows it.
@@ -62,9 +62,9 @@ pub fn law_hears<P: Pages, M: MergeOperator>()
     ensures { HearsLaw P.store P.flush_number M.meant }
 {}
 
-/// Does nothing. A transaction of a tree is calls of the owner: what its closure took of ids, the group of what it wrote, and the flush that it
-/// asked for. One that was aborted or refused made nothing. But if its group was made and only the flush behind it was refused, it made that
-/// group of what its closure wrote. Subscribers get the events of that group.
+/// Does nothing. A transaction of a tree is calls of the owner: what its closure took of ids, the group of what it wrote, and the flush
+/// that it asked for. One that was aborted or refused made nothing. But if its group was made and only the flush after it was refused, it
+/// made that group of what its closure wrote. Subscribers get the events of that group.
 ///
 /// ```
 /// let put = |weather: &mut TransactionalTree<'_, MemPages>| -> ConflictableTransactionResult<(), ()> {

@@ -64,7 +64,7 @@ impl Begun {
         Ok(((first, second), begun.is_ok()))
     }
 
-    // The maps that may be found: those from before where the file may not have come to count, and the others.
+    // The maps that may be found: those from before if the file may not count yet, and the others.
     fn run(&self, is_begun: bool) -> Result<Run> {
         let greatest = self.before.greatest.min(self.then.greatest);
         let mut run = Run::new(self.alloc, &self.before.maps, greatest)?;
@@ -108,7 +108,7 @@ fn refuse_all(tally: &mut Tally<'_>, begun: &Begun, words: &str) -> Result<()> {
     expect(false, "there are more calls")
 }
 
-// Tells of a file that is begun.
+// Reports on a file that is begun.
 fn tell_begun(report: &Report, has_older: bool, words: &str) {
     let mut tally = Tally::new(report);
     match Begun::new(report.alloc(), has_older) {

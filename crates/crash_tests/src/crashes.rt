@@ -118,7 +118,7 @@ impl Case {
         }
     }
 
-    // Runs it. None where the files were not opened since a disk refused a call.
+    // Runs it. None if the files were not opened since a disk refused a call.
     fn run(self, start: &Start) -> Result<Option<(Disks, Run)>> {
         let disks = self.disks(start)?;
         match FilePages::open(start.alloc, disks.0, disks.1) {
@@ -233,7 +233,7 @@ impl Counts<'_> {
     }
 }
 
-// Tells of refused calls on a pair of files.
+// Reports on refused calls on a pair of files.
 fn tell_refused(report: &Report, kind: Kind) {
     let mut counts = Counts {
         runs: Tally::new(report),
@@ -279,7 +279,7 @@ fn crash_each(tally: &mut Tally<'_>, start: &Start, words: &str, script: u64) {
     }
 }
 
-// Tells of crashes on a pair of files.
+// Reports on crashes on a pair of files.
 fn tell_steps(report: &Report, kind: Kind) {
     let mut tally = Tally::new(report);
     for script in 0..SCRIPTS {

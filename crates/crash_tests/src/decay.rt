@@ -23,7 +23,7 @@ enum Opened {
     Blank,
 }
 
-// A pair of files, and what comes of it.
+// A pair of files, and how many cases had which outcome.
 #[derive(Drop)]
 struct Pair {
     start: Start,
@@ -117,7 +117,7 @@ impl Pair {
         Ok((changed, other))
     }
 
-    // Opens it with these bytes. It may have other maps where it is blank.
+    // Opens it with these bytes. It may have other maps if it is blank.
     fn open(&mut self, bytes: Vec<u8>) -> Result<()> {
         let is_blank = bytes.len() <= 1;
         let disks = self.disks(bytes)?;
@@ -161,7 +161,7 @@ impl Pair {
         }
     }
 
-    // How many of all cases came to what.
+    // Reports how many of all cases had which outcome.
     fn tell(&self, report: &Report) {
         report.tell(format_args!(
             "    {} refused, {} with the same maps, {} blank",

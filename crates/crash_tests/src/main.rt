@@ -4,7 +4,7 @@
 //!
 //! Its words say what is run: `calls`, `files`, `bits` and `numbers`. `calls` refuses each call of a disk, and crashes after that and after
 //! each step; `files` tests a file that is begun anew. `bits` turns each bit of a file, and cuts it at each place; `numbers` tests that no
-//! number is given twice. It prints each of them before what comes of it.
+//! number is given twice. It prints each of them before its outcome.
 #![tactic(auto)]
 
 mod begun;
@@ -24,7 +24,7 @@ use std::process::ExitCode;
 use std::{env, io};
 use test_report::Report;
 
-// The words that the program was called with, behind its name.
+// The words that the program was called with, after its name.
 fn words_of(rt: &HostRuntime) -> io::Result<Vec<String>> {
     Ok(env::args(rt)?.skip(1).collect(rt.alloc())?)
 }

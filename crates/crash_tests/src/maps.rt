@@ -66,7 +66,7 @@ impl Maps {
         }
     }
 
-    // Puts a value to a key of the second tree, or takes it out, or opens the tree where there is none.
+    // Puts a value to a key of the second tree, or takes it out, or opens the tree if there is none.
     fn put_side(&mut self, key: u8, value: Option<u8>) {
         match &mut self.side {
             Some(side) => put(side, key, value),

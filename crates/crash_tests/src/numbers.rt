@@ -110,7 +110,7 @@ fn open_all(alloc: Global, seed: u64) -> Result<()> {
     Ok(())
 }
 
-// A page that is allocated in a store that is opened and let go of at once.
+// A page that is allocated in a store that is opened and dropped at once.
 fn allocate_once(alloc: Global, disks: Disks) -> Result<(Disks, u64)> {
     let mut store = open_store(alloc, disks)?;
     let (page, _) = store.allocate(leaf(alloc)?)?;

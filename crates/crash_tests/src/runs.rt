@@ -1,4 +1,4 @@
-//! A script that is run, and what should have come of it.
+//! A script that is run, and its expected outcome.
 use crate::maps::{Maps, SIDE, key_of, value_of};
 use crate::script::{Kind, Step, step_of};
 use crate::store::{Files, image, image_of};
@@ -49,7 +49,7 @@ impl Run {
         Ok(())
     }
 
-    /// Notes that these maps came after the others, and whether they are there for sure.
+    /// Notes that these maps follow the others, and whether they are there for sure.
     pub fn go_to(&mut self, maps: &Maps, is_there: bool) -> Result<()> {
         self.maps = *maps;
         self.note()?;
@@ -88,7 +88,7 @@ pub fn is_fault(e: &Error) -> bool {
     *e == Error::Io(Fault(4)) || *e == Error::Io(Fault(5))
 }
 
-// Whether a call may be refused with this error: as it is where a disk refuses a call, and from then on.
+// Whether a call may be refused with this error: as it is if a disk refuses a call, and from then on.
 fn may_refuse(run: &Run, e: &Error) -> bool {
     is_fault(e) || run.is_closed && *e == Error::Closed
 }
@@ -159,7 +159,7 @@ fn put_main(alloc: Global, db: &mut Files, key: u8, value: Option<u8>) -> Result
     Ok(())
 }
 
-// A call on the second tree, or that it is opened where it is not there.
+// A call on the second tree, or its opening if it is not there.
 fn put_side(
     alloc: Global,
     db: &mut Files,
@@ -242,7 +242,7 @@ fn take(db: &mut Files, run: &mut Run, step: &Step) -> Result<()> {
     }
 }
 
-/// Whether the database has the maps of the run, where it can be read.
+/// Whether the database has the maps of the run, if it can be read.
 pub fn look(db: &mut Files, run: &Run) -> Result<()> {
     if run.is_closed {
         return Ok(());

@@ -11,7 +11,7 @@ pub enum Kind {
     Insert,
     Remove,
     Batch,
-    // Of these two each opens the second tree first, and does only that where there is none.
+    // Of these two each opens the second tree first, and does only that if there is none.
     InsertSide,
     RemoveSide,
     DropSide,
@@ -52,7 +52,7 @@ pub fn step_of(seed: u64, place: u64) -> Step {
 }
 
 impl Step {
-    /// Whether it gives a page or a version a number, where it changes something.
+    /// Whether it gives a page or a version a number, if it changes something.
     pub fn gives_number(&self) -> bool {
         self.kind != Kind::DropSide
     }

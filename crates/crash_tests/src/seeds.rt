@@ -16,9 +16,9 @@ pub fn number(seed: u64, place: u64) -> u64 {
     number ^ (number >> 31)
 }
 
-// The number at a place by which a crash is chosen. Of seed 1 no byte comes to be past the end of a file, and those within it are there;
-// of seed 2 a single byte is lost, or one comes to be past the end. Of the others so many bytes as it happens come to be past the end:
-// old and new ones where the seed is even, else any.
+// The number at a place by which a crash is chosen. Of seed 1 no byte is added past the end of a file, and those within it are there; of
+// seed 2 a single byte is lost, or one is added past the end. Of the others so many bytes as it happens are added past the end: old and new
+// ones if the seed is even, else any.
 fn choice(seed: u64, place: u64) -> u64 {
     let number = number(seed, place);
     match seed {

@@ -33,14 +33,14 @@ impl Kind {
     }
 }
 
-/// A pair of files that were let go of, and what they have.
+/// A pair of files that were dropped, and what they have.
 #[derive(Drop)]
 pub struct Start {
     pub alloc: Global,
     pub first: Vec<u8>,
     pub second: Vec<u8>,
     pub maps: Maps,
-    /// What they have where the file that counts is blank.
+    /// What they have if the file that counts is blank.
     pub older: Maps,
     pub greatest: u64,
 }
@@ -83,7 +83,7 @@ fn ended(mut db: Files, run: &mut Run, script: u64, steps: u64) -> Result<Disks>
     Ok(into_disks(db))
 }
 
-/// What the payloads of a log say, behind its header.
+/// What the payloads of a log say, after its header.
 pub fn changes_of(alloc: Global, bytes: &[u8]) -> Result<Vec<u8>> {
     let mut changes = Vec::new(alloc);
     let Ok(log) = read_log(alloc, bytes) else {
@@ -118,7 +118,7 @@ pub fn first(alloc: Global, script: u64, steps: u64) -> Result<Start> {
     Start::of(&disks, &run)
 }
 
-// Puts an older file, after another script, to the first.
+// Adds an older file, after another script, to the first.
 fn put_older(start: &mut Start, script: u64) -> Result<()> {
     let mut older = first(start.alloc, script.wrapping_add(1000), 5)?;
     std::mem::swap(&mut start.first, &mut older.first);

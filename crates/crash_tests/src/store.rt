@@ -44,7 +44,7 @@ pub fn open(alloc: Global, disks: Disks) -> Result<Files> {
     open_db(alloc, open_store(alloc, disks)?)
 }
 
-/// Lets go of a database, but for its disks.
+/// Drops a database, but for its disks.
 pub fn into_disks(db: Files) -> Disks {
     db.into_pages().into_disks()
 }

@@ -34,7 +34,7 @@ impl<'a> Tally<'a> {
         }
     }
 
-    /// Counts a case. One that failed is told, with these words.
+    /// Counts a case. Reports one that failed, with these words.
     pub fn count(&mut self, case: Result<()>, words: impl Display + Drop) {
         self.cases = self.cases.saturating_add(1);
         match case {
@@ -46,7 +46,7 @@ impl<'a> Tally<'a> {
         }
     }
 
-    /// Tells how many cases there were, and how many passed.
+    /// Reports how many cases there were, and how many passed.
     pub fn tell(&self, words: impl Display + Drop) {
         self.report.tell(format_args!("{words}: {} cases, {} passed", self.cases, self.passed));
     }

@@ -5,7 +5,7 @@ use sled_files::OpenError;
 use std::alloc::{AllocError, AllocFailed};
 use std::fmt::{self, Display, Formatter, Write};
 
-/// What a part of a case comes to.
+/// The outcome of a part of a case.
 pub type Result<T> = std::result::Result<T, Trouble>;
 
 /// Why a case did not pass.
@@ -18,7 +18,7 @@ pub enum Trouble {
     Closed(OpenError),
     /// A call of a database was refused that should not.
     Refused(Error),
-    /// What came is not what should have come.
+    /// The outcome is not the expected one.
     Wrong(&'static str),
 }
 
@@ -64,7 +64,7 @@ impl From<Error> for Trouble {
     }
 }
 
-/// Nothing, where this holds, or else these words.
+/// Nothing, if this holds, or else these words.
 pub fn expect(holds: bool, words: &'static str) -> Result<()> {
     if holds {
         Ok(())

@@ -11,7 +11,7 @@ use sled_store::{Pages, View};
 use std::alloc::Global;
 use std::sync::atomic::{AtomicU64, Ordering};
 
-// What a change answers that may find another version or root there.
+// What a change returns that may find another version or root there.
 type Changed<T, F> = Told<Result<T, Option<F>>>;
 
 /// A store, and how many of its pages were read.

@@ -82,7 +82,7 @@ enum End {
     Quit,
 }
 
-// What a line comes to.
+// The outcome of a line.
 #[derive(Clone, Copy)]
 enum Answer {
     Told,
@@ -319,7 +319,7 @@ impl<'a> Lines<'a> {
         }
     }
 
-    // The pages that come after what ended a database: what a crash left of its own, or new ones.
+    // The pages after what ended a database: what a crash left of its own, or new ones.
     fn changed(&self, left: Kept, end: End) -> Result<Kept> {
         match end {
             End::Crash(keep) => left.crash(self.alloc, keep),

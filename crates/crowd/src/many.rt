@@ -58,7 +58,7 @@ fn has_value(outcome: &Outcome, wanted: Option<&[u8]>) -> bool {
     }
 }
 
-// How many pages the call of a line reads; more than there are where it does not answer with this value.
+// How many pages the call of a line reads; more than there are if it does not return this value.
 fn reads_of(
     alloc: Global,
     session: &mut Counted<'_>,
@@ -153,7 +153,7 @@ fn batch_step(alloc: Global, tree: &Tree, batch: Batch) -> Result<Step> {
     Ok(Step::Whole(Whole::Group(group)))
 }
 
-// The step of a text; where a call begins, it is on this tree, and so is a batch.
+// The step of a text; if a call begins, it is on this tree, and so is a batch.
 fn step_of(alloc: Global, tree: &Tree, text: &[u8]) -> Result<Option<Step>> {
     match parse(alloc, text) {
         Ok(Some(Command::Begin(call))) => match tree.clone() {
@@ -183,7 +183,7 @@ fn is_comma(byte: &u8) -> bool {
     *byte == b','
 }
 
-// Takes down the steps of a text: whether each of them can be read.
+// Notes the steps of a text: whether each of them can be read.
 fn read_steps(alloc: Global, tree: &Tree, text: &[u8], steps: &mut Vec<Step>) -> Result<bool> {
     for text in text.split(is_comma) {
         let text = match text {

@@ -15,8 +15,8 @@ use sled_store::law_sealed;
 use std::alloc::Global;
 
 /// Opens what a crash left of the two files of a store. The store that is found goes on from this one: it has a state that a crash may
-/// leave of it, its mark or a higher one, and gives no number again. It is refused for want of memory or by a disk alone. Then the files are
-/// handed back, and have what they had.
+/// leave of it, its mark or a higher one, and gives no number again. It is refused for want of memory or by a disk alone. Then the files
+/// are handed back, and have what they had.
 pub fn reopen_pages<D: Disk + Send, E: Disk + Send>(
     alloc: Global,
     pages: &FilePages<D>,

@@ -25,14 +25,14 @@ const REFUSALS: &str = "with refusals is for a store in memory";
 
 const FOUND: &str = "does not empty a database that was there; name another folder for a new one";
 
-// What is told of an opening.
+// What is printed of an opening.
 #[derive(Clone, Copy)]
 enum Behind {
-    // The first one tells only of a database that was found.
+    // The first one prints only a database that was found.
     Nothing,
     Crash,
     Compaction,
-    // Why the log is not begun anew is told already.
+    // Why the log is not begun anew is printed already.
     Refusal,
     Another,
 }
@@ -45,7 +45,7 @@ pub struct Files<W> {
     // Whether a database was there at first.
     is_found: bool,
     mark: u64,
-    // What the next opening comes behind; and why the store cannot be opened then.
+    // What the next opening follows; and why the store cannot be opened then.
     behind: Behind,
     refused: Option<Error>,
 }
@@ -100,7 +100,7 @@ impl<W> Files<W> {
         self.place.empty(store, out)
     }
 
-    // Takes down what a call came to, and whether it was done; where it was refused, the store is not opened.
+    // Notes the outcome of a call, and returns whether it was done; if it was refused, the store is not opened.
     fn note(&mut self, done: sled_nodes::Result<()>) -> bool {
         match done {
             Ok(()) => true,
@@ -136,7 +136,7 @@ impl<W> Files<W> {
         }
     }
 
-    // Makes all durable in a log that is begun anew. Where that is refused, why is added, and the store stays as it is.
+    // Makes all durable in a log that is begun anew. If that is refused, adds why, and the store stays as it is.
     fn compacted<P: Pages>(&mut self, store: P, out: &mut Told) -> Result<P>
     where
         W: Place<P>,
@@ -205,7 +205,7 @@ impl<W> Files<W> {
     }
 }
 
-// What an opening comes behind that a line asks for.
+// What an opening follows that a line asks for.
 fn behind_of(verb: Verb) -> Behind {
     match verb {
         Verb::Crash => Behind::Crash,
@@ -245,8 +245,8 @@ fn tell_found<P: Pages>(db: &Db<P, Operator>, out: &mut Told) -> Result<bool> {
     Ok(true)
 }
 
-// The homes in a folder and in memory are two blocks of the same lines: one block that is generic over its store, which is `Send`, cannot be
-// proved yet.
+// The homes in a folder and in memory are two blocks of the same lines: one block that is generic over its store, which is `Send`, cannot
+// be proved yet.
 
 type InFiles = FilePages<HostFile>;
 

@@ -1,5 +1,5 @@
-//! The shell over a database in files. Its argument is the folder of the database, which is made where it is not there. Without an
-//! argument the files are in memory, and last as long as the program. What it prints is not proved: it is safe, and it ends.
+//! The shell over a database in files. Its argument is the folder of the database, which is made if it is not there. Without an argument
+//! the files are in memory, and last as long as the program. What it prints is not proved: it is safe, and it ends.
 #![tactic(auto)]
 
 mod files;
@@ -44,7 +44,7 @@ fn run_all(rt: &HostRuntime) -> Result<bool, Stopped> {
     let names: Vec<String> = env::args(rt)?.skip(1).collect(rt.alloc())?;
     let mut output = BufWriter::new(rt.alloc(), std::io::writer(rt))?;
     let ran = run_names(rt, names.as_slice(), &mut output);
-    // Also where it stopped: it may have said why.
+    // Also if it stopped: it may have said why.
     output.flush()?;
     ran
 }

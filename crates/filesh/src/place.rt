@@ -1,4 +1,4 @@
-//! Where a shell's database in two files is: in a folder, or in memory.
+//! The place of a shell's database in two files: a folder, or memory.
 
 use line_words::input::Stopped;
 use line_words::print::Piece::Text;
@@ -9,9 +9,9 @@ use sled_host::{HostFile, Opening, Pair, open_pair};
 use std::alloc::Global;
 use std::io::Write;
 
-/// Where the store of a database is. Whoever asks for a place says that it is one of pages, as for a home.
+/// The place of the store of a database. A function that takes a place says that it is one of pages, as for a home.
 pub trait Place<P>: Drop {
-    /// The store as it is at first. Where it is not opened, why not is added, as of all of these.
+    /// The store as it is at first. If it is not opened, adds why not, as all of these do.
     fn first(&mut self, out: &mut Told) -> Result<P>;
 
     /// What a crash leaves of a store, opened.
@@ -24,12 +24,12 @@ pub trait Place<P>: Drop {
     fn compact(store: &mut P) -> sled_nodes::Result<()>;
 }
 
-// A store in these files, as they stand for one.
+// A store in these files, as they are.
 fn open_store<D: Disk>(alloc: Global, files: (D, D), out: &mut Told) -> Result<FilePages<D>> {
     match FilePages::open(alloc, files.0, files.1) {
         Ok(store) => Ok(store),
         Err(refused) => {
-            // The shell ends here, so both files are let go of as they stand.
+            // The shell ends here, so both files are dropped as they are.
             let NotOpened {
                 error,
                 first,
@@ -60,7 +60,7 @@ fn emptied<D: Disk>(store: FilePages<D>, out: &mut Told) -> Result<(D, D)> {
     Err(Stopped)
 }
 
-/// A folder, which is made where it is not there, as its files are.
+/// A folder, which is made if it is not there, as its files are.
 #[derive(Drop)]
 pub struct Folder<'a> {
     pub rt: &'a HostRuntime,
@@ -102,7 +102,7 @@ impl Place<FilePages<HostFile>> for Folder<'_> {
         self.store(out)
     }
 
-    // It is let go of, with all that is not in its files.
+    // It is dropped, with all that is not in its files.
     fn crash(&mut self, store: FilePages<HostFile>, out: &mut Told) -> Result<FilePages<HostFile>> {
         drop(store);
         self.store(out)

@@ -31,7 +31,7 @@ has_number (Some n) number = nat_eq n number
 abbrev pub is_live : (Key → Option ℕ) → InFlight → Bool
 is_live numbers f = has_number (numbers f.job.tree.name) f.job.tree.number
 
--- the flight of the call in a slot; there is none where no call is, or one whose tree was dropped
+-- the flight of the call in a slot; there is none if the slot has no call, or one whose tree was dropped
 abbrev pub flights_in : (Key → Option ℕ) → Option InFlight → List Flight
 flights_in numbers None = []
 flights_in numbers (Some f) = if is_live numbers f then flight (course_of f) f.stage ∷ [] else []
@@ -45,13 +45,13 @@ flights_up_to numbers kept (suc n) = flights_in numbers (kept (suc n)) ++ flight
 abbrev pub flights_of : {P M : Type 0} → MachineValue P M → List Flight
 flights_of m = flights_up_to (numbers_of m.db.trees) (kept_at m.flights) m.slots_given
 
--- a machine between two calls: its database is as it should be, and what its calls in flight know is true
+-- a machine between two calls: its database is sound, and what its calls in flight know is true
 pub record IsSound {P M : Type 0} (store : P → Store) (m : MachineValue P M) : Type 0 where
   pub db : IsDb store m.db
   pub calls : IsMachine (snapshot_of_db store m.db) m.flights m.slots_given
 
--- A machine that began with no call in flight. It made steps, of whichever kind; all steps of a call to its end, of one in flight or of one
--- that began; and calls that are no steps, as a transaction, after which no call is in flight that was not before
+-- A machine that began with no call in flight. It made steps, of whichever kind; and all steps of a call to its end, of one in flight or of
+-- one that began. And it made calls that are no steps, as a transaction, after which no call is in flight that was not before
 pub data IsReached {P M : Type 0} (store : P → Store) (flush_number : P → ℕ) (meant : M → Merge) : MachineValue P M → Type 0 where
   BeginsEmpty : {m : MachineValue P M} → IsSound store m → ((slot : ℕ) → kept_at m.flights slot ≡ None) → IsReached store flush_number meant m
   Steps : {a b : MachineValue P M} {s : Step} {o : Outcome} → IsReached store flush_number meant a → MachineStepContract store flush_number meant a s o b → IsSound store b → IsReached store flush_number meant b
@@ -68,7 +68,7 @@ pub data MovesInARow {P M : Type 0} (store : P → Store) (flush_number : P → 
   Begins : MovesInARow store flush_number meant first 0 first
   Moves : {n slot : ℕ} {a b : MachineValue P M} → MovesInARow store flush_number meant first n a → MachineStepContract store flush_number meant a (step.Step slot) Moved b → IsSound store b → MovesInARow store flush_number meant first (suc n) b
 
--- Of such a machine no more steps come out as `Moved` in a row than the pages tell, whichever slots they are of
+-- Of such a machine no more steps come out as `Moved` in a row than follows from the pages, whichever slots they are of
 abbrev pub MovesLaw : {P M : Type 0} → (P → Store) → (P → ℕ) → (M → Merge) → Type 0
 MovesLaw {P} {M} store flush_number meant = (first : MachineValue P M) → IsReached store flush_number meant first
     → (n : ℕ) (last : MachineValue P M) → MovesInARow store flush_number meant first n last → n ≤ moves_bound (now (store first.db.pages)) (flights_of first)
@@ -79,7 +79,7 @@ pub data IsEnding {P M : Type 0} (store : P → Store) (flush_number : P → ℕ
   Ends : {m : MachineValue P M} → ((slot : ℕ) (f : InFlight) (o : Outcome) (next : MachineValue P M) → kept_at m.flights slot ≡ Some f → IsOnKey f.job.call
       → MachineStepContract store flush_number meant m (step.Step slot) o next → IsSound store next → IsEnding store flush_number meant next) → IsEnding store flush_number meant m
 
--- So it is of each machine that began with no call in flight: no list of steps of its calls on keys goes on for ever. So where each step is
--- of a call on a key that is in flight, none is left in the end
+-- So it is of each machine that began with no call in flight: no list of steps of its calls on keys goes on for ever. So if each step is of
+-- a call on a key that is in flight, none is left in the end
 abbrev pub EndsLaw : {P M : Type 0} → (P → Store) → (P → ℕ) → (M → Merge) → Type 0
 EndsLaw {P} {M} store flush_number meant = (m : MachineValue P M) → IsReached store flush_number meant m → IsEnding store flush_number meant m

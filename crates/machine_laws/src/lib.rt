@@ -2,9 +2,8 @@
 //!
 //! A machine's calls in flight share their pages: each repairs what others left half done, and what one changes sends others back to the
 //! root. Here it is said that they do not do so for ever. No more steps come out as `Moved` in a row than `moves_bound` of `move_laws`
-//! tells, a number of the pages and of the calls in flight, whichever slot each step is of. So of one step more at least one tells its
-//! caller something: a reply, a pair, or why the call is refused. As each of them ends a call on a key, steps of such calls end
-//! (`law_ends`).
+//! says, a number of the pages and of the calls in flight, whichever slot each step is of. So of one step more at least one returns
+//! something: a reply, a pair, or why the call is refused. As each of them ends a call on a key, steps of such calls end (`law_ends`).
 //!
 //! It is said of the calls together: one of them may be overtaken for ever by others that are decided, if new calls begin. Nothing is said
 //! of the time that a step takes.
@@ -29,7 +28,7 @@ pub fn law_machine_halves<P: Pages, M: MergeOperator>()
 {}
 
 /// Does nothing. Of a machine that began with no call in flight no more steps come out as `Moved` in a row than `moves_bound` of
-/// `move_laws` tells of the pages and the calls in flight as the row begins. So it is whichever slot each step is of, however many calls
+/// `move_laws` says of the pages and the calls in flight as the row begins. So it is whichever slot each step is of, however many calls
 /// there are, scans among them, at whatever stages, and whatever was left half done.
 ///
 /// ```
@@ -39,9 +38,9 @@ pub fn law_moves<P: Pages, M: MergeOperator>()
     ensures { MovesLaw P.store P.flush_number M.meant }
 {}
 
-/// Does nothing. Of a machine that began with no call in flight steps of its calls on keys do not go on for ever, whichever slot each is of,
-/// if no call begins: each goes on, and of those there are few in a row, or is decided or refused. So if each step is of such a call that
-/// is in flight, none is left in the end. Scans may be in flight beside them, but are not stepped.
+/// Does nothing. Of a machine that began with no call in flight steps of its calls on keys do not go on for ever, whichever slot each is
+/// of, if no call begins. Each goes on, and of those there are few in a row, or is decided or refused. So if each step is of such a call
+/// that is in flight, none is left in the end. Scans may be in flight beside them, but are not stepped.
 ///
 /// ```
 /// law_ends::<MemPages, Adds>(); // From here on a proof knows it.

@@ -42,12 +42,12 @@ pub record GoesOnAmong (numbers : Tree → Option ℕ) (given : ℕ → Bool) (o
   pub begins : was ≡ Root → is_up_to course.aim [] ≡ true
   pub others : (f : Flight) → In f (before ++ behind) → Knows (snapshot_of new numbers given) v f.course f.stage
 
--- where a scan goes on behind its leaf: at the key where that ends or, backwards, just below the one where it begins
+-- the place at which a scan goes on after its leaf: at the key at which that ends or, backwards, just below the one at which it begins
 abbrev pub bound_behind : Node → Bool → Bound Key
 bound_behind n true = Excluded n.lo
 bound_behind n false = Included n.hi
 
--- A scan that has its leaf sets out from the root again, to what lies behind the leaf. That is no step of its own
+-- A scan that has its leaf sets out from the root again, to what is after the leaf. That is no step of its own
 pub record SetsOut (fs gs : List Flight) : Type 0 where
   pub course : Course
   pub leaf : Giving
@@ -65,8 +65,8 @@ pub data MovesAmong (numbers : Tree → Option ℕ) (given : ℕ → Bool) (s : 
   Moves : {n : ℕ} {b c : Store} {gs hs : List Flight} {u v : Forest} → MovesAmong numbers given s fs w n b gs u → GoesOnAmong numbers given b gs u c hs v → MovesAmong numbers given s fs w (suc n) c hs v
   Turns : {n : ℕ} {b : Store} {gs hs : List Flight} {u : Forest} → MovesAmong numbers given s fs w n b gs u → SetsOut gs hs → MovesAmong numbers given s fs w n b hs u
 
--- Of calls on keys and scans in flight, however many there are, whatever their stages are and whatever was left half done, no more steps go
--- on in a row than the pages tell, whichever call does each of them
+-- Of calls on keys and scans in flight, however many there are, whatever their stages and whatever was left half done, no more steps go on
+-- in a row than follows from the pages, whichever call does each of them
 abbrev pub AmongLaw : Type 0
 AmongLaw = (numbers : Tree → Option ℕ) (given : ℕ → Bool) (s : Store) (fs : List Flight) (w : Forest) → HasForest (snapshot_of s numbers given) w → ((f : Flight) → In f fs → IsUnderWay numbers given s w f)
     → (n : ℕ) (new : Store) (gs : List Flight) (v : Forest) → MovesAmong numbers given s fs w n new gs v → n ≤ moves_bound (now s) fs

@@ -1,5 +1,5 @@
--- What several calls in flight may have to repair, as a number: what is left to repair in their trees, and what more there is to come
--- where a page grew after a call chose to merge it.
+-- What several calls in flight may have to repair, as a number: what is left to repair in their trees, and what more there is to come if a
+-- page grew after a call chose to merge it.
 use Rattle.std.specs.Prelude.{ℕ, ◌+◌, ◌-◌, ◌*◌, Bool, false, nat_eq, flat_map, sum_by, List, [], ◌∷◌, Option, Some, None, if◌then◌else◌}
 use Rattle.sled_nodes.specs.Node.{count}
 use Rattle.sled_nodes.specs.Ranges.{Range}
@@ -27,7 +27,7 @@ abbrev pub has_version : Option Page → ℕ → Bool
 has_version None version = false
 has_version (Some page) version = nat_eq page.version version
 
--- the page that a call is to make a merging child, where the index is as the call read it
+-- the page that a call is to make a merging child, if the index is as the call read it
 abbrev pub meant_by : State → Stage → List ℕ
 meant_by s (stage.Intend a) = if has_version (s.pages a.parent.pid) a.parent.version then a.child ∷ [] else []
 meant_by s other = []
@@ -41,7 +41,7 @@ abbrev pub sum_once : (ℕ → ℕ) → List ℕ → ℕ
 sum_once f [] = 0
 sum_once f (p ∷ ps) = (if is_in p ps then 0 else f p) + sum_once f ps
 
--- a page merges for its 3 entries or fewer; where it has more by then, each of them counts 8
+-- a page merges for its 3 entries or fewer; if it has more by then, each of them counts 8
 abbrev pub grown : Option Node → ℕ
 grown None = 0
 grown (Some n) = 8 * (count n.content - 3)

@@ -35,9 +35,9 @@ module _ {P M : Type 0} (store : P → Store) (flush_number : P → ℕ) (meant 
   both_brings old tree one other value true turns = (run : DbValue P M) × TakesIds store meant old run × (turns ≡ turns_of_group store flush_number meant run ((tree, both_writes one other value) ∷ []))
   both_brings old tree one other value false turns = turns ≡ []
 
-  -- An insert, a transaction, another insert of the key, and then a subscriber is told what is next. While its count was never at the greatest,
-  -- that, then what it missed since, and then what waits is what waited at first, and then what the three brought under its prefix
-  -- of its tree, each event once and in their order. Each was made on the database that the one before left
+  -- An insert, a transaction, another insert of the key, and then the `next` of a subscriber. While its count was never at the greatest,
+  -- that, then what it missed since, and then what waits is what waited at first, and what the three brought under its prefix of its tree,
+  -- each event once, in order. Each was made on the database that the one before left
   pub record HearsWrites (old : DbValue P M) (tree : Tree) (subscriber : ℕ) (key first second one other : Key) (wrote : Wrote) (next : Option Next) (new : DbValue P M) : Type 0 where
     pub middle : DbValue P M
     pub last : DbValue P M
@@ -56,7 +56,7 @@ module _ {P M : Type 0} (store : P → Store) (flush_number : P → ℕ) (meant 
         → CountsAll subscriber (insert ++ (both ++ (later ++ Takes subscriber ∷ []))) (queues_at (alone old)) → (all : List Event) → Holds q.backlog all
         → Hears (option_to_list next) (all ++ brought q (insert ++ (both ++ (later ++ Takes subscriber ∷ [])))) (backlog_in (queues_at (alone new) subscriber))
 
--- A subscriber that keeps a copy of its part of a tree changes it by what it is told next. Where it missed none and the database is open, that
+-- A subscriber that keeps a copy of its part of a tree changes it by what `next` returns. If it missed none and the database is open, that
 -- is, once what waits has changed it too, a copy of the tree's map
 pub record FollowsTree {P M : Type 0} (store : P → Store) (meant : M → Merge) (old : DbValue P M) (subscriber : ℕ) (next : Option Next) (new : DbValue P M) : Type 0 where
   pub is : IsDb store old → (db_state store meant new).is_open ≡ true → (q : Queue) → queues_at (alone old) subscriber ≡ Some q

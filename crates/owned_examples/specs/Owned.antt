@@ -55,8 +55,8 @@ pub record IsOrder (tree : Tree) (key first second one other : Key) (written : W
   pub flushes : IsFlush written.flush flush
   pub inserts_later : IsInsert tree key second written.later later
 
--- A database was opened over these maps, its owner made these calls, which came out so, its store crashed, and what was left was opened again.
--- What is found is one of the maps that a crash may leave of the calls that succeeded: each of them replied and wrote what it does at its place
+-- A database was opened over these maps, its owner made these calls, which came out so, its store crashed, and what was left was opened.
+-- What is found is one of the maps that a crash may leave of the calls that succeeded: each replied and wrote what it does at its place
 pub record FoundAfter (before found : Maps) (key first second one other : Key) (written : Written) : Type 0 where
   pub start : Maps
   pub opens : start ≡ with_default before

@@ -1,5 +1,5 @@
-//! A caller that owns its database: it writes by direct calls, by transactions and by flushes, and says of all of them together what a crash
-//! leaves and what a subscriber hears, from public contracts alone.
+//! A caller that owns its database: it writes by direct calls, by transactions and by flushes, and says of all of them together what a
+//! crash leaves and what a subscriber hears, from public contracts alone.
 #![tactic(auto)]
 
 mod owned;

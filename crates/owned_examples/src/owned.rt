@@ -88,7 +88,7 @@ fn settle<P: Pages, M: MergeOperator>(db: &mut Db<P, M>) -> bool
     flushed.is_ok()
 }
 
-// Sets a key, writes two others in a transaction, makes all durable, and sets the first one anew, whatever comes of each.
+// Sets a key, writes two others in a transaction, makes all durable, and sets the first one anew, whatever the outcome of each.
 fn write<P: Pages, M: MergeOperator>(
     db: &mut Db<P, M>,
     tree: &Tree,
@@ -113,11 +113,11 @@ fn write<P: Pages, M: MergeOperator>(
     }
 }
 
-/// Opens a database over new pages, and makes an insert of a key, a transaction that writes two others, a flush and another insert of the key,
-/// each whatever came of those before. Then its store crashes, and keeps at most so many of the last actions, and what is left is opened again.
-/// Returns which of the four succeeded, and the pages. What is found is what a crash may leave of the calls that succeeded, in this order.
-/// If the flush succeeded, it is what they gave up to there, or up to the last of them; else it is what some beginning of them gave.
-/// Refused as an opening is, and with `NoMemory`.
+/// Opens a database over new pages, and makes an insert of a key, a transaction that writes two others, a flush and another insert of the
+/// key, each whatever the outcome of those before. Then its store crashes, and keeps at most so many of the last actions, and what is left
+/// is opened again. Returns which of the four succeeded, and the pages. What is found is what a crash may leave of the calls that
+/// succeeded, in this order. If the flush succeeded, it is what they gave up to there, or up to the last of them; else it is what some
+/// beginning of them gave. Refused as an opening is, and with `NoMemory`.
 ///
 /// ```
 /// let (written, pages) = write_and_crash(alloc, b"shop", b"order", b"17", b"18", b"stock", b"log", 3)?;
@@ -165,9 +165,9 @@ pub fn write_and_crash(
     }
 }
 
-/// Makes an insert of a key, a transaction that writes two others and another insert of the key, each whatever came of those before, and asks
-/// what a subscriber is told next. Returns which of the three succeeded, and that. A subscriber hears of what they wrote in their order, and if
-/// it keeps a copy of its tree by what it is told, the copy follows the tree. It is never refused.
+/// Makes an insert of a key, a transaction that writes two others and another insert of the key, each whatever the outcome of those before,
+/// and then the `next` of a subscriber. Returns which of the three succeeded, and that. A subscriber hears of what they wrote in their
+/// order, and if it keeps a copy of its tree by what it gets, the copy follows the tree. It is never refused.
 ///
 /// ```
 /// let (wrote, next) = write_and_hear(&mut db, &tree, &subscriber, b"order", b"17", b"18", b"stock", b"log");

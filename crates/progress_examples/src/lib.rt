@@ -1,4 +1,4 @@
-//! A caller that steps calls of a machine in turn, and knows within how many steps one of them tells something. It is proved from the
+//! A caller that steps calls of a machine in turn, and knows within how many steps one of them returns something. It is proved from the
 //! public contracts of a machine and from the law of few moves alone (`law_moves` of `machine_laws`).
 #![tactic(auto)]
 

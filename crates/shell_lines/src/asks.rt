@@ -70,7 +70,7 @@ impl<P: Pages, H: Home<Store = P, Opened = Db<P, Operator>>> Shell<P, H> {
         told
     }
 
-    // Takes what a subscriber is told next, or ends it.
+    // Takes what comes next for a subscriber, or ends it.
     fn hear(&mut self, session: &mut Session<P, Operator>, verb: Verb) -> Result<()> {
         match self.subscribers.named(self.lines.arguments.number()) {
             Some(subscriber) => self.whole(session, hearing(verb, subscriber)),
@@ -152,15 +152,15 @@ impl<P: Pages, H: Home<Store = P, Opened = Db<P, Operator>>> Shell<P, H> {
         )
     }
 
-    // Says how large all trees are, and the files, where there are some.
+    // Says how large all trees are, and the files, if there are some.
     fn stats(&mut self, session: &Session<P, Operator>) -> Result<()> {
         let told = tell_stats(session.db(), &mut self.lines.out);
         let files = H::tell_files(session.db().pages(), &mut self.lines.out);
         told.and(files)
     }
 
-    // Takes a session apart, makes the call of its database that the line says, and makes a session again, where the same tree is current.
-    // The calls in flight are given up.
+    // Takes a session apart, makes the call of its database that the line says, and makes a session again, with the same current tree. The
+    // calls in flight are abandoned.
     fn on_parts(
         &mut self,
         session: Session<P, Operator>,

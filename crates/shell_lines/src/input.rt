@@ -1,4 +1,4 @@
-//! Where a session has its lines from.
+//! What a session reads its lines from.
 
 use hostile_lines::source::Source;
 use line_words::input::{Stopped, read_line};

@@ -48,7 +48,7 @@ pub struct Shell<P: Pages, H: Home<Store = P, Opened = Db<P, Operator>>> {
     /// The subscribers that they got.
     pub subscribers: Subscribers,
     home: H,
-    // The name of the tree that was current before a crash, up to the opening behind it.
+    // The name of the tree that was current before a crash, up to the opening after it.
     before: Option<IVec>,
 }
 
@@ -208,7 +208,7 @@ impl<P: Pages, H: Home<Store = P, Opened = Db<P, Operator>>> Shell<P, H> {
         Ok(Verb::Quit)
     }
 
-    // Opens nothing after a refusal, which is told.
+    // Opens nothing after a refusal, which is printed.
     fn shut(&mut self, held: H::Held, error: Error) -> Result<State<P, H>> {
         match tell_verdict(&mut self.lines.out, error) {
             Ok(()) => Ok(State::Shut(held)),
@@ -241,7 +241,7 @@ impl<P: Pages, H: Home<Store = P, Opened = Db<P, Operator>>> Shell<P, H> {
         }
     }
 
-    // Takes down the trees that an opening got, and tells of it; of the current tree where it is another one than before.
+    // Notes the trees that an opening got, and adds its line; the current tree too if it is another one than before.
     fn tell_opened(&mut self, session: &mut Session<P, Operator>) -> Result<()> {
         self.names.begin(session.tree())?;
         let is_same = self.take_again(session)?;
@@ -254,7 +254,7 @@ impl<P: Pages, H: Home<Store = P, Opened = Db<P, Operator>>> Shell<P, H> {
         tell(&mut self.lines.out, &[Text(b"\n")])
     }
 
-    // A session over a database, whose opening is told.
+    // A session over a database, whose opening is printed.
     fn begin(&mut self, db: Db<P, Operator>) -> Result<State<P, H>> {
         self.subscribers.clear();
         let mut session = match Session::over(self.lines.alloc, db) {
@@ -281,14 +281,14 @@ impl<P: Pages, H: Home<Store = P, Opened = Db<P, Operator>>> Shell<P, H> {
         }
     }
 
-    // Takes down what is to be current again behind what a line asks for.
+    // Notes what is to be current again after what a line asks for.
     fn note_before(&mut self, state: &State<P, H>, verb: Verb) -> Result<()> {
         let old = std::mem::replace(&mut self.before, state.name_behind(verb)?);
         drop(old);
         Ok(())
     }
 
-    // Opens a store, where there is one; else has it written why not.
+    // Opens a store, if there is one; else writes why not.
     fn open_told<W: Write>(
         &mut self,
         held: Result<H::Held>,
@@ -440,7 +440,7 @@ impl<P: Pages, H: Home<Store = P, Opened = Db<P, Operator>>> Shell<P, H> {
         }
     }
 
-    // Ends a session at the end of its lines. Where what was done stays, all of it is durable then.
+    // Ends a session at the end of its lines. If what was done lasts, all of it is durable then.
     fn close<W: Write>(&mut self, state: State<P, H>, output: &mut W) -> Result<()> {
         match state {
             State::Open(session) if H::lasts() => self.flush_last(session)?,

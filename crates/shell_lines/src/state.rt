@@ -18,8 +18,8 @@ pub enum State<P: Pages, H: Home<Store = P, Opened = Db<P, Operator>>> {
 }
 
 impl<P: Pages, H: Home<Store = P, Opened = Db<P, Operator>>> State<P, H> {
-    /// The name of the tree that is to be current again behind what a line asks for: that of the current tree, behind a crash and a log
-    /// that is begun anew.
+    /// The name of the tree that is to be current again after what a line asks for: that of the current tree, after a crash and a log that
+    /// is begun anew.
     pub fn name_behind(&self, verb: Verb) -> Result<Option<IVec>> {
         match (self, verb) {
             (State::Open(session), Verb::Crash | Verb::Compact) => {
@@ -30,7 +30,7 @@ impl<P: Pages, H: Home<Store = P, Opened = Db<P, Operator>>> State<P, H> {
         }
     }
 
-    /// The store, between two openings. The calls in flight are given up.
+    /// The store, between two openings. The calls in flight are abandoned.
     pub fn into_held(self) -> H::Held {
         match self {
             State::Open(session) => H::held_of(session.into_db()),

@@ -4,7 +4,7 @@ use Rattle.sled_store.specs.Store.{Store, now}
 use Rattle.tree_laws.specs.Crashes.{IsValid, IsCrashConsistent}
 use Rattle.sled.specs.declared.TheConstants.{DEFAULT_TREE}
 
--- the pages are well formed, and where `crashes` says so every state that a crash may leave is. They can be opened where no group is open
+-- the pages are well formed, and if `crashes` says so every state that a crash may leave is. They can be opened if no group is open
 pub record IsKept (crashes : Bool) (s : Store) : Type 0 where
   pub well : IsValid (now s)
   pub safe : crashes ≡ true → IsCrashConsistent s

@@ -16,7 +16,7 @@ fn check_pages<P: Pages>(alloc: Global, pages: &P) -> sled_nodes::Result<()> {
     verify_integrity(alloc, pages)
 }
 
-/// Checks pages, and adds what that came to. Those of a closed database are well formed too, but that a group is open.
+/// Checks pages, and adds the outcome. Those of a closed database are well formed too, but that a group is open.
 pub fn tell_check<P: Pages>(
     alloc: Global,
     pages: &P,

@@ -10,7 +10,7 @@ use sled_pages::MemPages;
 use sled_store::Pages;
 use std::alloc::Global;
 
-/// Adds a drawing of a tree, with links only where its pages are kept in memory; or how many pages it has.
+/// Adds a drawing of a tree, with links only if its pages are kept in memory; or how many pages it has.
 pub fn tell_drawn<P: Pages, M: MergeOperator>(
     alloc: Global,
     db: &Db<P, M>,

@@ -1,4 +1,4 @@
-//! Pages between two openings: those of a database, or those that somebody else made.
+//! Pages between two openings: those of a database, or those that were made elsewhere.
 
 use crate::store::Kept;
 use hostile_lines::image::pages_after;
@@ -20,7 +20,7 @@ pub enum Held {
 }
 
 impl Held {
-    /// Opens the pages under a name, those of which nothing is known after a check. Where that is refused it gives them back.
+    /// Opens the pages under a name, those of which nothing is known after a check. If that is refused it returns them.
     pub fn open<M: MergeOperator>(
         self,
         alloc: Global,
@@ -99,7 +99,7 @@ impl Held {
     }
 }
 
-// Has the pages of these numbers read no more.
+// Makes the pages of these numbers unreadable.
 fn take_all(pages: &mut MemPages, pids: &[u64]) -> Result<(), Error> {
     for pid in pids {
         pages.unreadable(Pid(*pid))?;

@@ -6,19 +6,19 @@ use shell_words::tell::{Result, Told};
 use sled_nodes::Error;
 use sled_pages::MemPages;
 
-/// What the database of a shell lives in: how its store is made and opened, what lines make of it between two openings, and what is told
+/// What the database of a shell lives in: how its store is made and opened, what lines make of it between two openings, and what is printed
 /// of it.
 pub trait Home: Drop {
-    /// The store of the database. Whoever asks for a home says that it is one of pages: here no block could be proved whose store is generic.
+    /// The database's store. A function that takes a home says that it is one of pages: no block could be proved whose store is generic.
     type Store: Drop;
 
     /// The store between two openings.
     type Held: Drop;
 
-    /// The database over it. Its type is named by whoever asks for a home, since a block cannot be proved whose methods name it.
+    /// The database over it. A function that takes a home names its type, since a block cannot be proved whose methods name it.
     type Opened: Drop;
 
-    /// The store as it is at first. Where there is none, why not is added.
+    /// The store as it is at first. If there is none, adds why not.
     fn first(&mut self, out: &mut Told) -> Result<Self::Held>;
 
     /// The store of a database that ends.
@@ -27,7 +27,7 @@ pub trait Home: Drop {
     /// The store between two openings, to be looked at.
     fn store(held: &Self::Held) -> &Self::Store;
 
-    /// The pages of a store, where they are in memory and so say as what each of them is kept.
+    /// The pages of a store, if they are in memory and so say as what each of them is kept.
     fn kept(store: &Self::Store) -> Option<&MemPages>;
 
     /// Why a line is not for this store, if it is not.
@@ -36,10 +36,10 @@ pub trait Home: Drop {
     /// Below which mark no line sets ids aside.
     fn mark(&self) -> u64;
 
-    /// Notes a page of an image, which the words behind a line's own spell.
+    /// Notes a page of an image, which the words after a line's first spell.
     fn note_page(&mut self, words: &[u8], out: &mut Told) -> Result<()>;
 
-    /// Notes a root of an image, which the words behind a line's own spell.
+    /// Notes a root of an image, which the words after a line's first spell.
     fn note_root(&mut self, words: &[u8], out: &mut Told) -> Result<()>;
 
     /// What is made of the store by a line that changes it, which is opened then.
@@ -51,7 +51,7 @@ pub trait Home: Drop {
         out: &mut Told,
     ) -> Result<Self::Held>;
 
-    /// Opens the store under a name. Where that is refused it gives it back.
+    /// Opens the store under a name. If that is refused it returns the store.
     fn open(
         &mut self,
         held: Self::Held,
@@ -61,9 +61,9 @@ pub trait Home: Drop {
     /// Adds what there is to say of the opening after the last change, without the end of its line: whether there is something.
     fn tell_opening(&self, db: &Self::Opened, out: &mut Told) -> Result<bool>;
 
-    /// Adds how large the files are, where there are some.
+    /// Adds how large the files are, if there are some.
     fn tell_files(store: &Self::Store, out: &mut Told) -> Result<()>;
 
-    /// Whether what was done stays behind the end of the lines.
+    /// Whether what was done lasts after the end of the lines.
     fn lasts() -> bool;
 }

@@ -14,7 +14,7 @@ use std::alloc::Global;
 use std::iter::{DoubleEndedIterator, Iterator};
 use std::ops::Bound;
 
-// What a call of a database answers.
+// What a call of a database returns.
 type Answer<T> = sled_nodes::Result<T>;
 
 // A bound, if the word is one.
@@ -56,7 +56,7 @@ fn tell_names(out: &mut Told, names: Answer<Vec<IVec>>) -> Result<()> {
     }
 }
 
-/// Adds the value that stands at a key, or none.
+/// Adds the value at a key, or none.
 pub fn tell_value(out: &mut Told, value: Answer<Option<IVec>>) -> Result<()> {
     match value {
         Ok(Some(value)) => {
@@ -99,7 +99,7 @@ fn is_back(from: Side, turn: u64) -> bool {
     }
 }
 
-// What is asked of an iterator behind an item.
+// What is asked of an iterator after an item.
 #[derive(Clone, Copy)]
 enum Next {
     More,
@@ -108,7 +108,7 @@ enum Next {
     Nothing,
 }
 
-// Adds what is told of the end of an iterator that gave so many items, or of a refusal.
+// Adds the line for the end of an iterator that gave so many items, or for a refusal.
 fn tell_last(out: &mut Told, refused: Option<Error>, count: u64) -> Result<Next> {
     match refused {
         Some(e) => tell_refused(out, e).map(|()| Next::Once),
@@ -116,7 +116,7 @@ fn tell_last(out: &mut Told, refused: Option<Error>, count: u64) -> Result<Next>
     }
 }
 
-// What a byte string is called that stands alone in its line.
+// What a byte string is called that is alone in its line.
 #[derive(Clone, Copy)]
 enum Called {
     Key,
@@ -146,7 +146,7 @@ impl Item for IVec {
     }
 }
 
-// What is called so of which a read has that alone.
+// What the items of a read are called that has keys or values alone.
 fn name_of(look: Look) -> Called {
     match look {
         Look::Keys(_) => Called::Key,
@@ -208,7 +208,7 @@ fn tell_range<P: Pages>(out: &mut Told, pairs: Answer<Iter<'_, P>>, look: Look) 
     }
 }
 
-// Adds what a read of one key or prefix answers.
+// Adds what a read of one key or prefix returns.
 fn look_at<P: Pages, M: MergeOperator>(
     db: &Db<P, M>,
     tree: &Tree,
@@ -225,7 +225,7 @@ fn look_at<P: Pages, M: MergeOperator>(
     }
 }
 
-// Adds what a read between two bounds answers.
+// Adds what a read between two bounds returns.
 fn look_between<P: Pages, M: MergeOperator>(
     alloc: Global,
     db: &Db<P, M>,
@@ -248,7 +248,7 @@ fn look_between<P: Pages, M: MergeOperator>(
     told
 }
 
-/// Adds what a read answers, with the words that its line has.
+/// Adds what a read returns, with the words that its line has.
 pub fn tell_look<P: Pages, M: MergeOperator>(
     alloc: Global,
     db: &Db<P, M>,

@@ -41,7 +41,7 @@ impl Memory {
         }
     }
 
-    // Sets ids aside; where that is refused the pages are not opened.
+    // Sets ids aside; if that is refused the pages are not opened.
     fn set_aside(&mut self, held: Held, upto: u64) -> Held {
         let (held, done) = held.set_aside(upto);
         match done {
@@ -143,7 +143,7 @@ impl Home for Memory {
         }
     }
 
-    // Of the first opening nothing is told.
+    // Nothing is printed of the first opening.
     fn tell_opening(&self, _db: &Db<MemPages, Operator>, out: &mut Told) -> Result<bool, Stopped> {
         match self.last {
             Verb::Quit => Ok(false),

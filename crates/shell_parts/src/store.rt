@@ -12,15 +12,15 @@ use sled_store::Pages;
 use std::alloc::Global;
 use std::marker::Model;
 
-/// Well-formed pages. They can be opened where no group is open.
+/// Well-formed pages. They can be opened if no group is open.
 pub struct Kept {
     pages: MemPages,
-    // Whether a crash may keep some of the actions since the last flush. No contract says so where an opening was refused that
-    // had to make the default tree; but then there was no database yet.
+    // Whether a crash may keep some of the actions since the last flush. No contract says so if an opening was refused that had to make the
+    // default tree; but then there was no database yet.
     crashes: bool,
 }
 
-// By hand, so that whoever lets go of kept pages cites this, and need not prove again how each of its parts goes.
+// By hand, so that code that drops kept pages cites this, and need not prove again how each of its parts is dropped.
 impl Drop for Kept {
     fn drop(self) {
         let Kept { pages, crashes: _ } = self;
@@ -75,7 +75,7 @@ impl Kept {
         &self.pages
     }
 
-    /// The pages, and whether a crash may keep some of their actions also where an opening is refused.
+    /// The pages, and whether a crash may keep some of their actions also if an opening is refused.
     pub fn into_pages(self) -> (MemPages, bool)
         ensures can { IsKept result.1 (store_of result.0) }
         ensures default { result.1 ≡ true → HasDefault (store_of result.0) }
@@ -85,7 +85,7 @@ impl Kept {
         (pages, crashes && has_default)
     }
 
-    /// Opens the pages under a name, unless a group is open in them. Where that is refused it gives them back.
+    /// Opens the pages under a name, unless a group is open in them. If that is refused it returns them.
     pub fn open<M: MergeOperator>(
         self,
         alloc: Global,
@@ -101,7 +101,7 @@ impl Kept {
         }
     }
 
-    /// What a crash leaves that keeps so many actions. Where nothing is known of that it is an empty store.
+    /// What a crash leaves that keeps so many actions. If nothing is known of that it is an empty store.
     pub fn crash(self, alloc: Global, keep: u64) -> Result<Kept, Stopped> {
         let keep = usize::try_from(keep).unwrap_or(usize::MAX);
         let Kept { pages, crashes } = self;

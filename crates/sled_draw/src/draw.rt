@@ -27,11 +27,11 @@ struct Pointed {
     place: Place,
 }
 
-// What is drawn so far. Want of memory for a part is kept in mind, so that no part has to tell it: then the drawing is cut.
+// What is drawn so far. Want of memory for a part is noted here, so that no part has to return it: then the drawing is cut.
 #[derive(Drop)]
 struct Picture<'a> {
     alloc: Global,
-    // The pages, where they are in memory and so say as what each of them is kept.
+    // The pages, if they are in memory and so say as what each of them is kept.
     kept: Option<&'a MemPages>,
     drawing: Drawing,
     out: Vec<u8>,
@@ -121,7 +121,7 @@ impl Picture<'_> {
         }
     }
 
-    // Adds as what a page is kept, where that is asked for.
+    // Adds as what a page is kept, if that is asked for.
     fn parts(&mut self, parts: Option<Parts>) {
         if let (Drawing::Links, Some(parts)) = (self.drawing, parts) {
             self.text(" base ");
@@ -215,7 +215,7 @@ impl Picture<'_> {
         self.text("\n");
     }
 
-    // Takes down the pages that a page points to.
+    // Notes the pages that a page points to.
     fn take_down(&mut self, below: &mut Vec<Pointed>, parent: Pid, pointers: &[(IVec, Pid)]) {
         for pointer in pointers {
             let (pid, place) = (pointer.1, Place::Under(parent));
@@ -231,7 +231,7 @@ impl Picture<'_> {
         }
     }
 
-    // Adds a page, and takes down the pages that it points to.
+    // Adds a page, and notes the pages that it points to.
     fn node(
         &mut self,
         below: &mut Vec<Pointed>,
@@ -268,7 +268,7 @@ impl Picture<'_> {
         added.map(|()| next)
     }
 
-    // Adds a level, from the first of the pages that the level above points to, and takes down the pages that it points to.
+    // Adds a level, from the first of the pages that the level above points to, and notes the pages that it points to.
     fn level<P: Pages>(
         &mut self,
         pages: &P,
@@ -346,8 +346,8 @@ fn place_of(pointed: &[Pointed], pid: Pid) -> Place {
     Place::Unpointed
 }
 
-/// Adds a drawing of the tree of this name. Where its pages are in memory they may say as what each of them is kept. Refused where a page cannot be read, or with `NoMemory`; then there is what was drawn
-/// so far.
+/// Adds a drawing of the tree of this name. If its pages are in memory they may say as what each of them is kept. Refused if a page cannot
+/// be read, or with `NoMemory`; then there is what was drawn so far.
 pub fn draw<P: Pages>(
     alloc: Global,
     pages: &P,

@@ -16,7 +16,7 @@ struct Level {
     below: Option<Pid>,
 }
 
-// Counts a page of a level, and answers the next one.
+// Counts a page of a level, and returns the next one.
 fn count<P: Pages>(alloc: Global, pages: &P, pid: Pid, level: &mut Level) -> Result<Option<Pid>> {
     let Some(view) = pages.read(alloc, pid)? else {
         return Ok(None);
@@ -51,7 +51,7 @@ fn level_from<P: Pages>(alloc: Global, pages: &P, first: Pid) -> Result<Level> {
     Ok(level)
 }
 
-// Adds the line of the level that begins with a page, and answers the first page of the level below.
+// Adds the line of the level that begins with a page, and returns the first page of the level below.
 fn push_level<P: Pages>(
     alloc: Global,
     pages: &P,
@@ -67,7 +67,7 @@ fn push_level<P: Pages>(
     Ok(level.below)
 }
 
-/// Adds a line for each level of the tree of this name, from the root down. Refused where a page cannot be read, or with `NoMemory`.
+/// Adds a line for each level of the tree of this name, from the root down. Refused if a page cannot be read, or with `NoMemory`.
 pub fn count_levels<P: Pages>(
     alloc: Global,
     pages: &P,

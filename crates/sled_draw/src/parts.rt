@@ -44,7 +44,7 @@ pub fn push_parts(parts: Option<Parts>, out: &mut Vec<u8>) -> Result<()> {
     )
 }
 
-// Adds what each key has behind what all of them begin with.
+// Adds what each key has after what all of them begin with.
 fn push_each<V>(rests: &[(IVec, V)], out: &mut Vec<u8>) -> Result<()> {
     for rest in rests {
         push_text(out, b" ")?;
@@ -53,7 +53,7 @@ fn push_each<V>(rests: &[(IVec, V)], out: &mut Vec<u8>) -> Result<()> {
     Ok(())
 }
 
-/// Adds the line of what all keys of a page begin with, and what each of them has behind that.
+/// Adds the line of what all keys of a page begin with, and what each of them has after that.
 pub fn push_rests(node: &Node, out: &mut Vec<u8>) -> Result<()> {
     push_text(out, b"rests ")?;
     match &node.content {

@@ -19,7 +19,7 @@ disk_failed = 5
 abbrev pub fault_of : ℕ → ℕ → Error
 fault_of counted code = if nat_lt counted (2 ^ 64 - 1) then Io (record { 0 = code }) else NoMemory
 
--- what a refusal of the files comes to
+-- the error of a refusal of the files
 abbrev pub error_of : ℕ → DiskError → Error
 error_of counted disk.NoMemory = NoMemory
 error_of counted disk.Full = fault_of counted disk_full

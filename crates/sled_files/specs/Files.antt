@@ -7,7 +7,7 @@ use Rattle.sled_files.specs.Change.{Durable}
 use Rattle.sled_files.specs.Standing.{StandsAt, IsBlank, IsOlder, AreFor}
 use Rattle.sled_files.specs.Lasting.{EachPair}
 
--- The files, whether the second is the one that counts, where the closed gate of its log is, how long the snapshot is that it begins
+-- The files, whether the second is the one that counts, the place of the closed gate of its log, how long the snapshot is that it begins
 -- with, and its generation. And whether a call of a disk was refused: then nothing is known of its file but what a crash may leave
 pub record Files (D : Type 0) : Type 0 where
   pub first : D

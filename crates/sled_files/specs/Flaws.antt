@@ -10,7 +10,7 @@ use Rattle.sled_files.specs.Change.{nothing_yet, changed_all, AreOfStore}
 use Rattle.sled_files.specs.Header.{magic, format, header}
 use Rattle.sled_files.specs.Standing.{all_changes, IsBlank, OfGeneration, IsOlder}
 
--- the bytes say whose file it is, where the header of the first block is
+-- the bytes say whose file it is, at the place of the header of the first block
 abbrev pub HasMagic : List ℕ → Type 0
 HasMagic bytes = take 8 (drop 17 bytes) ≡ magic
 

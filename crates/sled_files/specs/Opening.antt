@@ -41,7 +41,7 @@ is_why_unopened NoMemory first second = Unit {0}
 is_why_unopened (Disk e) first second = ⊥
 is_why_unopened e first second = AreOfNone first second × is_flaw e first second
 
--- a fault of a disk: want of memory is told by its own name
+-- a fault of a disk: want of memory has an error of its own
 abbrev pub is_fault : DiskError → Type 0
 is_fault full.NoMemory = ⊥
 is_fault e = Unit {0}
@@ -57,13 +57,13 @@ abbrev pub is_why_closed : OpenError → List ℕ → List ℕ → Type 0
 is_why_closed (Disk e) first second = is_fault e
 is_why_closed e first second = is_why_unopened e first second
 
--- what an opening told of two files, where this is wrong with them: it, or that a disk refused a call
+-- the error of an opening of two files, if this is wrong with them: it, or that a disk refused a call
 abbrev pub IsTold : OpenError → OpenError → Type 0
 IsTold flaw told = (told ≡ flaw) ⊎ is_refusal told
 
--- What a crash leaves of two disks from when they are given to be opened until they are given back, in a store or as they were refused.
--- Of each it is what might have been left of it before. Of the first, where both files are blank, it is also what is left of a store's
--- first file while it is begun
+-- What a crash leaves of two disks from when they are given to be opened until they are given back, in a store or as they were refused. Of
+-- each it is what might have been left of it before. Of the first, if both files are blank, it is also what is left of a store's first file
+-- while it is begun
 pub record LeavesWhileOpened {D : Type 0} (seen : D → List ℕ) (moment : D → ℕ) (left_since : D → ℕ → List ℕ → Type 0) (may_leave : D → List ℕ → Type 0) (first second first_then second_then : D) : Type 0 where
   pub first_is : (c : List ℕ) → left_since first_then (moment first) c → may_leave first c ⊎ (AreBlank (seen first) (seen second) × IsBegun (seen first) 1 nothing_yet c)
   pub second_is : (c : List ℕ) → left_since second_then (moment second) c → may_leave second c
@@ -78,7 +78,7 @@ pub record StayAsTheyWere {D : Type 0} (seen : D → List ℕ) (may_leave : D �
   pub first_only : Only (seen first) (may_leave first_then)
   pub second_only : Only (seen second) (may_leave second_then)
 
--- a read of two disks returns what it did. Where both were blank, the first may have what begins a store
+-- a read of two disks returns what it did. If both were blank, the first may have what begins a store
 abbrev pub AreSeenAsBefore : {D : Type 0} → (D → List ℕ) → D → D → D → D → Type 0
 AreSeenAsBefore seen first second first_then second_then = ((seen first_then ≡ seen first) ⊎ AreBlank (seen first) (seen second)) × (seen second_then ≡ seen second)
 
@@ -105,7 +105,7 @@ pub record Recovers {D : Type 0} (seen : D → List ℕ) (may_leave : D → List
   pub second_stays : seen files.second ≡ second
   pub reopened : IsReopened durable s
 
--- a new store was begun, where both files were blank
+-- both files were blank, and a new store was begun
 pub record Begins {D : Type 0} (seen : D → List ℕ) (may_leave : D → List ℕ → Type 0) (first second : List ℕ) (files : Files D) (s : Store) : Type 0 where
   pub blanks : AreBlank first second
   pub ready : IsReady seen may_leave files nothing_yet

@@ -55,7 +55,7 @@ pub record IsSound {D : Type 0} (seen : D → List ℕ) (may_leave : D → List 
   pub lasts : Lasts may_leave (asked_of f.asked) f.limits (stored_as f) f.files
   pub within : AreWithin f.limits (stored_as f)
 
--- a flush answers how many actions it makes durable
+-- a flush returns how many actions it makes durable
 abbrev pub flush_number_in : {D : Type 0} → Stored D → ℕ
 flush_number_in f = flush_number_of f.pages
 
@@ -76,6 +76,6 @@ pub record KeepsRule {D : Type 0} (old new : Stored D) : Type 0 where
 abbrev pub is_due : {D : Type 0} → Stored D → Bool
 is_due f = not f.files.failed && (nat_lt f.longest f.files.gate && nat_lt f.files.snapshot (f.files.gate / 2))
 
--- a refused mark is asked for where a disk refused it just now, and no other is then
+-- the mark that is asked for stays, or it is this one, and a disk refused it just now
 pub record AsksFor {D : Type 0} (upto : ℕ) (old new : Stored D) : Type 0 where
   pub is : (new.asked ≡ old.asked) ⊎ ((new.asked ≡ Some upto) × (old.files.failed ≡ false) × (new.files.failed ≡ true))

@@ -73,9 +73,9 @@ pub(crate) fn empty<D: Disk>(disk: &mut D) -> Result<()>
     cut_through(disk, 1)
 }
 
-/// Makes of a file one of this generation that stands for these changes, and for nothing that it had before, and answers the place of
-/// its closed gate. At any moment a crash leaves the file as it was, one in which nothing counts, or the new one. What is refused is
-/// refused for want of memory or by the disk: then it is one of these three, and which is for the next opening to see.
+/// Makes of a file one of this generation that stands for these changes, and for nothing that it had before, and returns the place of its
+/// closed gate. At any moment a crash leaves the file as it was, one in which nothing counts, or the new one. What is refused is refused
+/// for want of memory or by the disk: then it is one of these three, and which is for the next opening to see.
 ///
 /// ```
 /// let mut file = MemoryDisk::new(alloc, Vec::new(alloc))?;

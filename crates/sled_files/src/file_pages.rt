@@ -42,9 +42,9 @@ pub struct FileStats {
     pub missed: u64,
 }
 
-/// A store of pages in two files. Its pages are in memory too, where they are read. The changing calls change them there, and note what
-/// a flush adds to the files; a mark is added to the files at once. A crash leaves in the files what `Pages` allows, so the store is
-/// there again when they are opened.
+/// A store of pages in two files. Its pages are in memory too, and are read there. The changing calls change them there, and note what a
+/// flush adds to the files; a mark is added to the files at once. A crash leaves in the files what `Pages` allows, so the store is there
+/// again when they are opened.
 ///
 /// Page numbers and versions are given below limits that are in the files before: of a store that is opened again all below them count
 /// as given. A call that reaches a limit raises it first. Once a disk refused a call, each flush, each mark and each raise is refused.
@@ -80,7 +80,7 @@ impl<D: Disk> Model for FilePages<D> {
     ghost invariant = { λ f. IsSound D.seen D.may_leave (record { pages = f.pages; files = f.files; pending = f.pending.items; mark = f.mark; limits = record { pids = f.limit_pids; versions = f.limit_versions }; asked = f.asked; faults = f.faults; longest = f.longest; missed = f.missed }) };
 }
 
-// By hand, so that whoever lets go of a store cites this, and need not prove again how each of its parts goes.
+// By hand, so that code that drops a store cites this, and need not prove again how each of its parts is dropped.
 impl<D: Disk> Drop for FilePages<D> {
     fn drop(self) {
         let files = self.into_files();
@@ -174,7 +174,7 @@ impl<D: Disk> FilePages<D> {
     }
 }
 
-// The length of the log from which on a flush begins it anew, where none is set.
+// The length of the log from which on a flush begins it anew, if none is set.
 const LONGEST: usize = 4_000_000;
 
 // Whether a log is to be begun anew: it is longer than this, and longer than twice its snapshot.
@@ -197,7 +197,7 @@ fn raised(limit: u64, next: u64) -> u64
     limit.max(next.saturating_add(SET_ASIDE))
 }
 
-// The limits that a flush sets: those that there are, or, where what comes next is near and there is a block to be added, higher ones.
+// The limits that a flush sets: those that there are, or, if what comes next is near and there is a block to be added, higher ones.
 fn ahead(pages: &MemPages, is_idle: bool, pids: u64, versions: u64) -> (u64, u64)
     ensures pids { pids ≤ result.0 }
     ensures versions { versions ≤ result.1 }
@@ -292,8 +292,8 @@ impl<D: Disk> FilePages<D> {
     ghost use Rattle.sled_files.specs.Lasting.{IsLasting};
 
     /// Flushes, and begins the other file anew with a snapshot of all that the store is, which counts from then on. At any moment a crash
-    /// leaves files that are right for the store before. Nothing is done where a group is open. Refused for want of memory, and then
-    /// nothing changed, or by a disk.
+    /// leaves files that are right for the store before. Nothing is done if a group is open. Refused for want of memory, and then nothing
+    /// changed, or by a disk.
     ///
     /// ```
     /// store.compact()?; // The log has one block.
@@ -324,7 +324,7 @@ impl<D: Disk> FilePages<D> {
     }
 
     /// Sets the length of the log, in bytes, above which a flush begins it anew once it is twice as long as the last snapshot. It is
-    /// 4,000,000 where none was set. What the store means stays the same.
+    /// 4,000,000 if none was set. What the store means stays the same.
     ///
     /// ```
     /// store.compact_from(1000);
@@ -708,8 +708,8 @@ impl<D: Disk + Send> Pages for FilePages<D> {
     ghost given = { λ f. given_over f };
 }
 
-/// Does nothing. It tells that whatever a crash leaves of the two files now is right for the store. They have a state that `Pages`
-/// allows, its mark or one that a disk refused, and limits below which are all page numbers and versions that were given.
+/// Does nothing. It says that whatever a crash leaves of the two files now is right for the store. They have a state that `Pages` allows,
+/// its mark or one that a disk refused, and limits below which are all page numbers and versions that were given.
 ///
 /// ```
 /// law_lasts(&store); // From here on a proof knows what a crash may leave now.

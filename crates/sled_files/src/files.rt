@@ -167,8 +167,8 @@ fn files_of<D: Disk>(alloc: Global, first: D, second: D, opened: Opened) -> (Two
     )
 }
 
-/// Opens two disks as the files of a store: the store that they stand for, or a new one where both are blank. Refused where they
-/// stand for none, for want of memory, or by a disk.
+/// Opens two disks as the files of a store: the store that they stand for, or a new one if both are blank. Refused if they stand for none,
+/// for want of memory, or by a disk.
 pub fn open_files<D: Disk>(
     alloc: Global,
     first: D,

@@ -138,7 +138,7 @@ fn found_of<'a>(log: Log<'a>) -> Result<Option<Found<'a>>, OpenError>
     }
 }
 
-/// What a file is: none where it is blank, or a file of a store. Refused where it is neither.
+/// What a file is: none if it is blank, or a file of a store. Refused if it is neither.
 pub fn read_file(alloc: Global, bytes: &[u8]) -> Result<Option<Found<'_>>, OpenError>
     ensures ok { IfOk result (λ o. MatchOption o (IsBlank bytes.now) (λ f. IsFileOf bytes.now f.generation f.gate f.first.now (drop 1 (map (λ p. p.now) f.payloads.items)))) }
     ensures err { IfErr result (λ e. is_why_no_file e bytes.now) }

@@ -19,10 +19,10 @@ use std::alloc::Global;
 impl<D: Disk> FilePages<D> {
     ghost use Rattle.sled_files.specs.Stored.{stored_as};
 
-    /// Opens a store in two files: the one that they stand for, as a crash or a drop left it, or a new one where both are blank. What
-    /// the files have is brought to the disks first. Refused where they are of none (`NotAStore`, `OtherFormat`, `Decayed`), for want
-    /// of memory, or by a disk. Then the disks are handed back: a read returns what it did, and a crash leaves what it might have left
-    /// before. Where both were blank, the first may have a part of a new store.
+    /// Opens a store in two files: the one that they stand for, as a crash or a drop left it, or a new one if both are blank. What the
+    /// files have is brought to the disks first. Refused if they are of none (`NotAStore`, `OtherFormat`, `Decayed`), for want of memory,
+    /// or by a disk. Then the disks are handed back: a read returns what it did, and a crash leaves what it might have left before. If both
+    /// were blank, the first may have a part of a new store.
     ///
     /// ```
     /// match FilePages::open(alloc, first, second) {
@@ -45,10 +45,10 @@ impl<D: Disk> FilePages<D> {
         ensures lasts { IfOk result (λ f. (asked : List ℕ) (limits : Limits) (s : Store) → EachPair (D.may_leave first) (D.may_leave second) (IsLasting asked limits s) → EachPair (D.left_since f.files.first (D.moment first)) (D.left_since f.files.second (D.moment second)) (IsLasting asked limits s)) }
         ensures calm { IfOk result (λ f. faults_in D.faults f.files ≡ D.faults first + D.faults second) }
         ensures err { IfErr result (λ x. is_why_closed x.error (D.seen first) (D.seen second)) }
-        // And where something is wrong with them, it is told, unless a disk refuses a call or there is no memory.
+        // And if something is wrong with them, the error says it, unless a disk refuses a call or there is no memory.
         ensures sound { IfOk result (λ _. (e : OpenError) → is_flaw e (D.seen first) (D.seen second) → ⊥) }
         ensures told { IfErr result (λ x. (e : OpenError) → is_flaw e (D.seen first) (D.seen second) → IsTold e x.error) }
-        // Where they stand for a store, or for one that is still to be made, it is refused for want of memory or by a disk alone.
+        // If they stand for a store, or for one that is still to be made, it is refused for want of memory or by a disk alone.
         ensures refused { IfErr result (λ x. AreOpenable (D.seen first) (D.seen second) → is_refusal x.error) }
         // A disk's refusal is counted, and no other.
         ensures cause { IfErr result (λ x. is_counted (D.faults first + D.faults second) (D.faults x.first + D.faults x.second) x.error) }

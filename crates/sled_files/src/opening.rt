@@ -9,7 +9,7 @@ use crate::found::{Found, OpenError, read_file};
 use crate::replay::{Halt, Made, replay_all};
 use std::alloc::Global;
 
-/// A store that was found in two files: whether the second counts, where the closed gate of the log is that counts, how long its
+/// A store that was found in two files: whether the second counts, the place of the closed gate of the log that counts, how long its
 /// snapshot is, its generation, and the store.
 #[derive(Drop)]
 pub struct Opened {
@@ -43,7 +43,7 @@ fn make(alloc: Global, found: &Found<'_>) -> Result<Made, OpenError>
     }
 }
 
-// Opens a store of the file that counts, where the other is blank or older.
+// Opens a store of the file that counts, if the other is blank or older.
 fn open_one(alloc: Global, found: &Found<'_>, is_second: bool) -> Result<Opened, OpenError>
     ensures ok { IfOk result (λ o. (first second : List ℕ) → IsFileIn (if is_second then second else first) found.now.generation found.now.gate found.now.first.now (map (λ p. p.now) found.now.payloads.items) → IsBehind found.now.generation (if is_second then first else second) → IsOpened first second o.is_second o.gate o.snapshot o.generation o.store) }
     ensures err { IfErr result (λ e. (first second : List ℕ) → IsFileIn (if is_second then second else first) found.now.generation found.now.gate found.now.first.now (map (λ p. p.now) found.now.payloads.items) → IsBehind found.now.generation (if is_second then first else second) → is_why_unopened e first second) }
@@ -105,7 +105,7 @@ fn open_found(
     }
 }
 
-/// The store that the bytes of two files stand for, or none where both are blank. Refused where they stand for none.
+/// The store that the bytes of two files stand for, or none if both are blank. Refused if they stand for none.
 pub fn open_bytes(alloc: Global, first: &[u8], second: &[u8]) -> Result<Option<Opened>, OpenError>
     ensures ok { IfOk result (λ o. MatchOption o (AreBlank first.now second.now) (λ x. IsOpened first.now second.now x.is_second x.gate x.snapshot x.generation x.store)) }
     ensures err { IfErr result (λ e. is_why_unopened e first.now second.now) }

@@ -113,7 +113,7 @@ impl Replay {
         }
     }
 
-    /// Replays a change more. Refused with `NoMemory`, or with `Flawed` where no store made the change, and then nothing was replayed.
+    /// Replays a change more. Refused with `NoMemory`, or with `Flawed` if no store made the change, and then nothing was replayed.
     pub fn apply(&mut self, change: Change) -> Result<(), Halt>
         ensures ok { OnOk result (replayed_of self.new ≡ changed change (replayed_of self.old)) }
         ensures numbers { OnOk result (numbers_of self.new ≡ numbers_after change (numbers_of self.old)) }
@@ -162,8 +162,8 @@ impl Replay {
         }
     }
 
-    /// The store of all that was replayed. None where a group is open in it, or where a page or a version has a number that is not below
-    /// the limits: no store left that.
+    /// The store of all that was replayed. None if a group is open in it, or if a page or a version has a number that is not below the
+    /// limits: no store left that.
     pub fn finish(self) -> Option<Made>
         ensures reopened { MatchOption result (IsWhole self → ⊥) (λ made. IsWhole self × IsReopened (replayed_of self) (store_of made.pages)) }
         ensures limits { IfSome result (λ made. (made.pids ≡ self.pids) × (made.versions ≡ self.versions)) }

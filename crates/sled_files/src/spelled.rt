@@ -42,7 +42,7 @@ pub fn spelled(alloc: Global, change: Change) -> Result<Vec<u8>>
     }
 }
 
-/// Adds the limits to what is pending, where they are others than those that the files have.
+/// Adds the limits to what is pending, if they are others than those that the files have.
 pub fn spell_limits(
     pending: &mut Vec<u8>,
     old_pids: u64,

@@ -33,7 +33,7 @@ pub fn fault(faults: &mut u64, code: u32) -> Error
     Error::Io(Fault(code))
 }
 
-// What a refusal of the files comes to.
+// The error of a refusal of the files.
 fn refusal(faults: &mut u64, e: DiskError) -> Error
     ensures counted { IsFault faults.old faults.new result }
     ensures is { result ≡ error_of faults.old e }
@@ -45,7 +45,7 @@ fn refusal(faults: &mut u64, e: DiskError) -> Error
     }
 }
 
-/// Adds changes to the files, and does nothing where there is none. Once a disk refused a call, the files stay as they are.
+/// Adds changes to the files, and does nothing if there are none. Once a disk refused a call, the files stay as they are.
 pub fn add<D: Disk>(files: &mut TwoFiles<D>, faults: &mut u64, payload: &[u8]) -> Result<()>
     ensures ready { OnOk result ((d : Durable) (changes : List Change) → IsReady D.seen D.may_leave files.old d → Spells payload.now changes → AreAdded changes d → IsReady D.seen D.may_leave files.new (changed_all changes d)) }
     ensures any_moment { (d : Durable) (changes : List Change) → IsReady D.seen D.may_leave files.old d → Spells payload.now changes → AreAdded changes d → LeavesPairs D.moment D.left_since D.may_leave files.old files.new (AreForEither d (changed_all changes d)) }

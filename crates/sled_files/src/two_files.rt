@@ -142,7 +142,7 @@ impl<D: Disk> Model for TwoFiles<D> {
 impl<D: Disk> TwoFiles<D> {
     ghost use Rattle.sled_files.specs.Files.{Files, IsReady, LeavesPairs, AreForEither, IsRefused, faults_in, one_of, other_of};
 
-    /// Two files as they were opened: the one that counts, where the closed gate of its log is, how long the snapshot is that it begins
+    /// Two files as they were opened: the one that counts, the place of the closed gate of its log, how long the snapshot is that it begins
     /// with, and its generation.
     ///
     /// ```
@@ -267,11 +267,10 @@ impl<D: Disk> TwoFiles<D> {
         self.snapshot
     }
 
-    /// Adds changes to those for which the files stand, as one block of the log that counts, and brings them to the disk. Then it
-    /// empties the other file, if that was not done before. At any moment a crash leaves files that stand for what they stood for,
-    /// or for that with all of the changes. Refused with `NoMemory`
-    /// or, where the log would be too long, `Full`, and then nothing changed; by the disk, and then all calls are refused from then
-    /// on, with `Failed`.
+    /// Adds changes to those for which the files stand, as one block of the log that counts, and brings them to the disk. Then it empties
+    /// the other file, if that was not done before. At any moment a crash leaves files that stand for what they stood for, or for that with
+    /// all of the changes. Refused with `NoMemory` or, if the log would be too long, `Full`, and then nothing changed; by the disk, and
+    /// then all calls are refused from then on, with `Failed`.
     ///
     /// ```
     /// files.append(&[5, 6])?; // A group begins, and ends. No crash takes it back.
@@ -312,9 +311,9 @@ impl<D: Disk> TwoFiles<D> {
         Ok(())
     }
 
-    /// Makes the files stand for these changes alone: begins the other file anew, of the next generation, and from then on that one
-    /// counts. At any moment a crash leaves files that stand for what they stood for, or for the changes. Refused as `append` is,
-    /// with `Full` where there is no greater generation.
+    /// Makes the files stand for these changes alone: begins the other file anew, of the next generation, and from then on that one counts.
+    /// At any moment a crash leaves files that stand for what they stood for, or for the changes. Refused as `append` is, with `Full` if
+    /// there is no greater generation.
     ///
     /// ```
     /// files.rewrite(&[])?; // All that the store is, in one block: nothing.

@@ -62,7 +62,7 @@ fn number_at(bytes: &[u8], at: usize) -> u64
     }
 }
 
-// The payload of a block, of the bytes behind its gate, where they have all of the block and its digest fits.
+// The payload of a block, of the bytes behind its gate, if they have all of the block and its digest fits.
 fn payload_behind(bytes: &[u8]) -> Option<&[u8]>
     ensures { option_map (λ p. p.now) result ≡ payload_of digest bytes.now }
 {
@@ -81,7 +81,7 @@ fn payload_behind(bytes: &[u8]) -> Option<&[u8]>
     }
 }
 
-// What stands at a gate, the first of the bytes: none where it is closed, or the payload of an open block.
+// What is at a gate, the first of the bytes: none if it is closed, or the payload of an open block.
 fn next_payload(bytes: &[u8]) -> Result<Option<&[u8]>, ()>
     ensures next { IfOk result (λ next. next_of digest bytes.now ≡ Ok (option_map (λ p. p.now) next)) }
     ensures fits { IfOk result (λ next. IfSome next (λ p. 17 + length p.now ≤ length bytes.now)) }
@@ -102,8 +102,8 @@ fn next_payload(bytes: &[u8]) -> Result<Option<&[u8]>, ()>
     }
 }
 
-/// Reads a log: the payloads of its blocks up to the closed gate, whatever stands behind it. Refused with `NoMemory`, or with
-/// `Decayed` and the place of the first fault.
+/// Reads a log: the payloads of its blocks up to the closed gate, whatever is behind it. Refused with `NoMemory`, or with `Decayed` and the
+/// place of the first fault.
 ///
 /// ```
 /// if let Ok(log) = read_log(alloc, disk.bytes()) {

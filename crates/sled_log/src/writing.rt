@@ -85,7 +85,7 @@ pub fn append<D: Disk>(disk: &mut D, gate: usize, block: &[u8]) -> Result<()>
     requires on_disk { Only (D.seen disk.old) (D.may_leave disk.old) }
     ensures written { OnOk result (D.seen disk.new ≡ written gate (opened ∷ []) (written (gate + 1) block.now (D.seen disk.old))) }
     ensures durable { OnOk result (Only (D.seen disk.new) (D.may_leave disk.new)) }
-    // Then the log has the new payload, and its closed gate stands behind the block.
+    // Then the log has the new payload, and its closed gate is behind the block.
     ensures acknowledged { OnOk result ((b : IsBlockFor (D.seen disk.old) gate block.now) → log_of b.digest (D.seen disk.new) ≡ Ok (b.payloads ++ b.payload ∷ [])) }
     ensures next { OnOk result ((b : IsBlockFor (D.seen disk.old) gate block.now) → IsLog b.digest (D.seen disk.new) (b.payloads ++ b.payload ∷ []) (gate + length block.now)) }
     // A crash at any moment of the call leaves a log of the payloads from before it, with the new one or without.

@@ -1,4 +1,4 @@
--- What comes of opening a database in a folder.
+-- The outcome of opening a database in a folder.
 use Rattle.std.specs.Prelude.{◌≡◌, ◌⊎◌, ℕ, List}
 use Rattle.sled_nodes.specs.Order.{Key}
 use Rattle.sled_nodes.specs.declared.error.Error.{Error}
@@ -18,8 +18,8 @@ use Rattle.sled.specs.Checked.{RefusesChecked, IsFit}
 use Rattle.sled_path.specs.declared.error.OpenError.{OpenError}
 use Rattle.sled_path.specs.declared.error.OpenError.TheVariants.{NotAStore, OtherFormat, Decayed, Locked, Io, Disk, Database}
 
--- A database of this name was opened over the store that the bytes of two files stand for, or over a new one where both are blank. Its
--- pages are those of a database
+-- A database of this name was opened over the store that the bytes of two files stand for, or over a new one if both are blank. Its pages
+-- are those of a database
 pub record OpensIn {M : Type 0} (name : Key) (db : DbValue (Stored HostFile) M) : Type 0 where
   pub first : List ℕ
   pub second : List ℕ

@@ -8,10 +8,9 @@ use sled_files::FilePages;
 use sled_host::{HostFile, Opening, Pair, open_pair};
 use sled_model::MergeOperator;
 
-/// Opens the database in the folder of this path, under this name: the one that was left there by a drop or a crash, or a new one where
-/// there is none. The folder is made in one that is there. No other process can open it as long as the database lives; where the file
-/// system has no locks it is refused, and `open_with` opens it all the same. Its merge operators are of the type M, as after
-/// `Db::with_operators`.
+/// Opens the database in the folder of this path, under this name: the one that was left there by a drop or a crash, or a new one if there
+/// is none. The folder is made in one that is there. No other process can open it as long as the database lives; if the file system has no
+/// locks it is refused, and `open_with` opens it all the same. Its merge operators are of the type M, as after `Db::with_operators`.
 ///
 /// ```
 /// match open::<Adds>(rt, "people.db", b"people") {
@@ -37,8 +36,7 @@ pub fn open<M: MergeOperator>(
     }
 }
 
-/// The same, by these options, and whether the files are locked. Where they are not, the user has to see to it that nobody else opens
-/// them.
+/// The same, by these options, and whether the files are locked. If they are not, the user has to make sure that nothing else opens them.
 ///
 /// ```
 /// let only_old = Opening { creates: false, needs_lock: true };

@@ -10,7 +10,7 @@ use Rattle.sled_shared.specs.Values.{SharedValue, StateValue}
 abbrev pub NoneAbove : List EntryValue → ℕ → Type 0
 NoneAbove history number = All (λ e. e.by ≤ number) history
 
--- so many callers share it, none of whom has a handle yet, and their numbers come behind all those in the history
+-- so many callers share it, none of which has a handle yet, and their numbers follow all those in the history
 pub record SharesAgain {P M : Type 0} (state : StateValue P M) (callers : ℕ) (shared : SharedValue) : Type 0 where
   pub callers_are : shared.callers ≡ callers
   pub none : shared.given ≡ 0

@@ -93,8 +93,8 @@ left_by (PartsMade whole number) through left = left ++ through
 left_by (ReadMade read) through left = left ++ through
 left_by (TransactionMade batches stood) through left = left ++ through
 
--- From the old maps on, where a crash might leave the first list, each entry is what its call makes there, the maps after the last are the
--- new ones, and a crash may leave the second list
+-- From the old maps on, of which a crash might leave the first list, each entry is what its call makes there, the maps after the last are
+-- the new ones, and a crash may leave the second list
 pub data LeadsThrough : Maps → List Maps → List EntryValue → Maps → List Maps → Type 0 where
   LeadsNoMore : {m : Maps} {left : List Maps} → LeadsThrough m left [] m left
   LeadsOneMore : {a m b : Maps} {left last : List Maps} {e : EntryValue} {es : List EntryValue} (through : List Maps) → makes_as a e.made m → through_as a e.made through m

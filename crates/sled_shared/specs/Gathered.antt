@@ -19,7 +19,7 @@ times callers n = count_by (λ c. nat_eq n c.number) callers
 abbrev pub EachOnce : ℕ → List CallerValue → Type 0
 EachOnce given callers = (n : ℕ) → IsGiven given n → times callers n ≡ 1
 
--- .. and so each number behind those of callers before
+-- .. and so each number above those of callers before
 abbrev pub EachOnceBehind : ℕ → ℕ → List CallerValue → Type 0
 EachOnceBehind before given callers = (n : ℕ) → IsGiven given n → times callers (before + n) ≡ 1
 
@@ -31,7 +31,7 @@ IsMadeIn history c = c.made ≡ made_by c.number history
 abbrev pub IsOfGiven : ℕ → EntryValue → Type 0
 IsOfGiven given e = IsGiven given e.by
 
--- there is no handle more where all callers have one, and else for want of memory alone
+-- no more handle is made if all callers have one, and else for want of memory alone
 abbrev pub refuses_handle_as : SharedValue → Error → Type 0
 refuses_handle_as d NoMemory = d.given < d.callers
 refuses_handle_as d (Unsupported text) = (text.now ≡ NUMBERS_USED_UP.now) × (d.given ≡ d.callers)

@@ -18,7 +18,7 @@ use Rattle.sled_shared.specs.Reads.{reads_as}
 use Rattle.sled_shared.specs.Stood.{stood_in}
 use Rattle.sled_shared.specs.WholeMade.{makes_whole_as, makes_parts_as}
 
--- What a call may come to where this value stands: a merge writes what its reply tells, and all others come to what they do by whatever
+-- How a call may be decided if this value is there: a merge writes what its reply says, and all others are decided as they are by any
 -- operator
 abbrev pub comes_to : Call → Option Key → Decision → Type 0
 comes_to (Merge k bytes) value d = (new : Option Key) × (d ≡ decision_of_write new)
@@ -33,7 +33,7 @@ pub record MakesPoint (old : Maps) (tree : Tree) (call : Call) (reply : Reply) (
   pub replies : reply ≡ decision.reply
   pub is : new ≡ put_name old tree.name (Some (map_after decision.effect (key_of call) map))
 
--- what was made at these maps leaves those. A transaction is the group that it wrote, and at the keys of its writes stood what it tells
+-- what was made at these maps leaves those. A transaction is the group that it wrote, and it notes what was at the keys of its writes
 abbrev pub makes_as : Maps → MadeValue → Maps → Type 0
 makes_as old (PointMade tree call reply) new = MakesPoint old tree call reply new
 makes_as old (WholeMade whole reply) new = makes_whole_as old whole reply new

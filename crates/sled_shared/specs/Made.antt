@@ -15,9 +15,8 @@ use Rattle.sled_shared.specs.declared.entry.Made.{Made}
 use Rattle.sled_shared.specs.declared.entry.Made.TheVariants as made
 use Rattle.sled_shared.specs.declared.read.Read.{Read}
 
--- What was made: a call on a key of a tree that was decided, with its reply; a whole call that was decided, with its reply; so many
--- parts of a whole call that was refused after them; a read, with what it told; or what a transaction wrote, with what stood before at the key
--- of each of its writes
+-- What was made: a decided call on a key of a tree, or a decided whole call, with its reply; so many parts of a whole call that was refused
+-- after them; a read, with what it returned. Or it is what a transaction wrote, with what was before at the key of each of its writes
 pub data MadeValue : Type 0 where
   PointMade : (tree : Tree) (call : Call) (reply : Reply) → MadeValue
   WholeMade : (whole : WholeValue) (reply : Reply) → MadeValue

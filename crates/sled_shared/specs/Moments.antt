@@ -4,8 +4,8 @@ use Rattle.sled_model.specs.Maps.{Maps}
 use Rattle.sled_shared.specs.History.{makes_as}
 use Rattle.sled_shared.specs.Made.{EntryValue}
 
--- From the first maps on each entry is what its call makes there, to the last ones, and these are the maps at each moment: before the first entry,
--- and after each
+-- From the first maps on each entry is what its call makes there, to the last ones, and these are the maps at each moment: before the first
+-- entry, and after each
 pub data AreMoments : Maps → List EntryValue → Maps → List Maps → Type 0 where
   LastMoment : {m : Maps} → AreMoments m [] m (m ∷ [])
   OneMoment : {a m b : Maps} {e : EntryValue} {es : List EntryValue} {moments : List Maps} → makes_as a e.made m → AreMoments m es b moments → AreMoments a (e ∷ es) b (a ∷ moments)

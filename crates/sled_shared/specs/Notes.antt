@@ -26,17 +26,17 @@ noted_in o slot = []
 abbrev pub entries_of : ℕ → List MadeValue → List EntryValue
 entries_of n made = map (λ m. record { by = n; made = m }) made
 
--- what is noted of this call on a key: the call with its reply where it is decided, and else nothing
+-- what is noted of this call on a key: the call with its reply if it is decided, and else nothing
 abbrev pub noted_of : Outcome → Tree → Call → List MadeValue
 noted_of (Decided reply) tree call = PointMade tree call reply ∷ []
 noted_of o tree call = []
 
--- a reply, but that of a scan that has ended, comes to the end of a list with some call
+-- a reply, but that of a scan that has ended, is added at the end of a list with some call
 abbrev pub AddsReply : Reply → List MadeValue → List MadeValue → Type 0
 AddsReply End made more = more ≡ made
 AddsReply reply made more = (tree : Tree) × (call : Call) × (more ≡ made ++ PointMade tree call reply ∷ [])
 
--- a step that tells a reply adds it to a list, and any other adds nothing. No step begins a call or gives one up
+-- a step that returns a reply adds it to a list, and any other adds nothing. No step begins a call or abandons one
 abbrev pub AddsStep : Outcome → List MadeValue → List MadeValue → Type 0
 AddsStep (Decided reply) made more = AddsReply reply made more
 AddsStep (Begun slot) made more = ⊥
@@ -50,7 +50,7 @@ IsEnd (Refused e) = Unit {0}
 IsEnd NoSuchSlot = Unit {0}
 IsEnd o = ⊥
 
--- a call is given up, or the slot has none, or the database was taken out of its lock
+-- a call is abandoned, or the slot has none, or the database was taken out of its lock
 abbrev pub IsGivenUp : Outcome → Type 0
 IsGivenUp Abandoned = Unit {0}
 IsGivenUp NoSuchSlot = Unit {0}

@@ -1,4 +1,4 @@
--- What reads under one lock tell.
+-- What reads under one lock return.
 use Rattle.std.specs.Prelude.{◌≡◌, ◌↔◌, ℕ, ◌≤◌, ◌-◌, nat_lt, nat_eq, Bool, true, false, ◌&&◌, ◌||◌, IsTrue, All, List, [], length, take, slice_get, Option, Some, None, is_some}
 use Rattle.std.specs.Option.{option_map}
 use Rattle.std.specs.FinMap.Entries.{find, is_sorted}
@@ -24,11 +24,11 @@ use Rattle.sled_shared.specs.declared.read.Read.TheVariants as read
 abbrev pub page_of : Bound Key → Bound Key → Bool → ℕ → Map → List (Key × Key)
 page_of lo hi back most map = take most (in_order back (pairs_within lo hi map))
 
--- a pair of which this holds, if there is one, is told
+-- the answer is a pair, if there is one, of which this holds
 abbrev pub TellsPair : (Option (Key × Key) → Type 0) → Answer → Type 0
 TellsPair claim answer = (found : Option (Key × Key)) × claim found × (answer ≡ Pair found)
 
--- what a question about a map is answered
+-- the answer to a question about a map
 abbrev pub answers_as : Map → Question → Answer → Type 0
 answers_as map (Get key) answer = answer ≡ Value (find key_cmp key map)
 answers_as map (ContainsKey key) answer = answer ≡ Flag (is_some (find key_cmp key map))
@@ -40,7 +40,7 @@ answers_as map Len answer = answer ≡ Count (length map)
 answers_as map IsEmpty answer = (empty : Bool) × (IsTrue empty ↔ (map ≡ [])) × (answer ≡ Flag empty)
 answers_as map (Page lo hi back most) answer = answer ≡ Pairs (page_of lo hi back most map)
 
--- the question about a tree is answered by its map
+-- the answer to a question about a tree is that of its map
 pub record AnswersIn (maps : Maps) (tree : Tree) (question : Question) (answer : Answer) : Type 0 where
   pub map : Map
   pub there : maps tree.name ≡ Some map
@@ -52,13 +52,13 @@ pub record NamesIn (maps : Maps) (names : List Key) : Type 0 where
   pub each : (name : Key) → In name names → is_some (maps name) ≡ true
   pub all : (name : Key) → is_some (maps name) ≡ true → In name names
 
--- what was read tells what these maps are
+-- what was read says what these maps are
 abbrev pub reads_as : Maps → Read → Type 0
 reads_as maps (read.Tree tree question answer) = AnswersIn maps tree question answer
 reads_as maps (read.Names names) = NamesIn maps names
 reads_as maps (read.Export all) = maps ≡ maps_from all
 
--- of the kinds of answers each
+-- the kinds of answers
 abbrev pub IsValue : Answer → Type 0
 IsValue answer = (value : Option Key) × (answer ≡ Value value)
 
@@ -71,17 +71,17 @@ IsPair answer = (pair : Option (Key × Key)) × (answer ≡ Pair pair)
 abbrev pub IsCount : Answer → Type 0
 IsCount answer = (count : ℕ) × (answer ≡ Count count)
 
--- the key lies within two bounds
+-- the key is within two bounds
 abbrev pub is_within : Bound Key → Bound Key → Key → Bool
 is_within lo hi key = is_from lo key && is_up_to hi key
 
--- a part of a range: so many pairs at the most, whose keys lie within the bounds and rise or, back, fall
+-- a part of a range: so many pairs at the most, whose keys are within the bounds and rise or, back, fall
 pub record IsPart (lo hi : Bound Key) (back : Bool) (most : ℕ) (pairs : List (Key × Key)) : Type 0 where
   pub few : length pairs ≤ most
   pub within : All (λ p. is_within lo hi p.0 ≡ true) (in_order back pairs)
   pub order : is_sorted key_cmp (in_order back pairs) ≡ true
 
--- .. is answered
+-- .. is the answer
 pub record IsPageOf (lo hi : Bound Key) (back : Bool) (most : ℕ) (answer : Answer) : Type 0 where
   pub pairs : List (Key × Key)
   pub is : answer ≡ Pairs pairs

@@ -16,7 +16,7 @@ use Rattle.sled_shared.specs.Wholes.{WholeValue}
 use Rattle.sled_shared.specs.declared.call_error.CallError.{CallError}
 use Rattle.sled_shared.specs.declared.call_error.CallError.TheVariants.{Refused, NoSuchSlot}
 
--- a pair, yes or no, and what a subscriber is told are replied
+-- a reply is a pair, yes or no, or what a subscriber gets
 abbrev pub TellsPair : Reply → Type 0
 TellsPair reply = (pair : Option (Key × Key)) × (reply ≡ told.Pair pair)
 
@@ -46,7 +46,7 @@ abbrev pub RepliesTo : Whole → Outcome → Type 0
 RepliesTo whole (outcome.Decided reply) = IsReplyTo whole reply
 RepliesTo whole o = Unit {0}
 
--- a call that was refused comes to the end of a list with the parts that it did, if it did any
+-- a call that was refused is added at the end of a list with the parts that it did, if it did any
 abbrev pub AddsParts : WholeValue → List MadeValue → List MadeValue → Type 0
 AddsParts whole made more = (number : ℕ) × (more ≡ made ++ noted_with whole None number)
 

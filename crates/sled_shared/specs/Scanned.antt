@@ -35,7 +35,7 @@ IsKeyOf tree key maps = (value : Key) × IsPairOf tree (key, value) maps
 
 -- What a scan gave that began in this slot, at this length of the history, with these bounds in the tree
 pub record GaveAllOf (moments : List Maps) (notes : List ScanNote) (slot from : ℕ) (tree : Tree) (bounds : Range) : Type 0 where
-  -- the keys that it gave strictly rise or, backwards, fall; and they lie within the bounds
+  -- the keys that it gave strictly rise or, backwards, fall; and they are within the bounds
   pub ordered : InOrder bounds.back (gave_in slot notes)
   pub within : (e : Key × Key) → In e (gave_in slot notes) → is_in_range bounds e.0 ≡ true
   -- each pair was in the tree's map at some moment from the begin to the step that gave it

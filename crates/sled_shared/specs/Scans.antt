@@ -30,7 +30,7 @@ begun_of tree call = []
 abbrev pub noted_at : ℕ → ℕ → List Scanned → List ScanNote
 noted_at slot length all = map (λ d. record { slot = slot; at = length; did = d }) all
 
--- These are noted behind all others, or none is since none are kept. Or there was no memory for them, and from there on none are kept
+-- These are noted after all others, or none is since none are kept. Or there was no memory for them, and from there on none are kept
 pub data NotesScan (old : ScansValue) (notes : List ScanNote) (new : ScansValue) : Type 0 where
   AreNoted : old.keeps ≡ true → new ≡ record { keeps = true; notes = old.notes ++ notes } → NotesScan old notes new
   AreNotKept : old.keeps ≡ false → new ≡ old → NotesScan old notes new

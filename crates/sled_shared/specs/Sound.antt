@@ -19,7 +19,7 @@ use Rattle.sled_shared.specs.Values.{StateValue}
 abbrev pub IsOpen : {P M : Type 0} → (P → Store) → MachineValue P M → Type 0
 IsOpen store m = not (now (store m.db.pages)).in_group ≡ true
 
--- the maps of a machine now. No operator is asked for them
+-- the maps of a machine now. No operator is needed for them
 abbrev pub maps_now : {P M : Type 0} → (P → Store) → MachineValue P M → Maps
 maps_now {P = P} {M = M} store m = maps_of (db_state store (λ (o : M) k value bytes. None) m.db)
 
@@ -28,9 +28,9 @@ pub record Leads (opening : List Content) (history : List EntryValue) : Type 0 w
   pub last : Maps
   pub legal : IsLegal (maps_from opening) history last
 
--- A history leads from the opening to some maps, which are the maps now while the database is open. What a crash may leave are, in order: what
--- it might have left as the database was shared, of which the opening is the last; and then the maps after each entry of the history, and
--- after each of its parts. From the last flush in the history on it may leave those after it alone
+-- A history leads from the opening to some maps, which are the maps now while the database is open. What a crash may leave are, in order:
+-- what it might have left as the database was shared, the opening last; and then the maps after each entry of the history, and after each
+-- of its parts. From the last flush in the history on it may leave those after it alone
 pub record CrashLeaves {P M : Type 0} (store : P → Store) (m : MachineValue P M) (opening : List Content) (history : List EntryValue) : Type 0 where
   pub earlier : List Maps
   pub last : Maps
@@ -42,8 +42,8 @@ pub record CrashLeaves {P M : Type 0} (store : P → Store) (m : MachineValue P 
   pub now : IsOpen store m → last ≡ maps_now store m
   pub leaves : AreCrashMaps (store m.db.pages) left
 
--- While the database is open the history is legal, from the opening to the maps now; open or closed, it is legal to some maps, and so is what
--- a crash may leave. The ids in it rise, up to the greatest that was given; and each entry is counted
+-- While the database is open the history is legal, from the opening to the maps now; open or closed, it is legal to some maps, and so is
+-- what a crash may leave. The ids in it rise, up to the greatest that was given; and each entry is counted
 pub record IsState {P M : Type 0} (store : P → Store) (m : MachineValue P M) (opening : List Content) (history : List EntryValue) (total : ℕ) : Type 0 where
   pub legal : IsOpen store m → IsLegal (maps_from opening) history (maps_now store m)
   pub leads : Leads opening history
@@ -59,12 +59,12 @@ HasLegalHistory store s = IsOpen store s.machine → IsLegal (maps_from s.openin
 abbrev pub HasHistory : {P M : Type 0} → StateValue P M → Type 0
 HasHistory s = Leads s.opening s.history
 
--- .. and what a crash may leave of its database goes along with it
+-- .. and what a crash may leave of its database follows it
 abbrev pub HasCrashMaps : {P M : Type 0} → (P → Store) → StateValue P M → Type 0
 HasCrashMaps store s = CrashLeaves store s.machine s.opening s.history
 
--- .. and by the maps at each moment of its history, the last of which are the maps now while the database is open, each scan whose begin was noted
--- gave what scans give
+-- .. and by the maps at each moment of its history, the last of which are the maps now while the database is open, each scan whose begin
+-- was noted gave what scans give
 pub record HasScans {P M : Type 0} (store : P → Store) (s : StateValue P M) : Type 0 where
   pub moments : List Maps
   pub last : Maps

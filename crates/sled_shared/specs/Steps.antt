@@ -14,8 +14,8 @@ use Rattle.sled_shared.specs.Sound.{HasLegalHistory, HasScans}
 use Rattle.sled_shared.specs.Values.{StateValue}
 
 -- A step of a slot is a step of the model. It keeps the pages well formed, does at most one changing action, and leaves the other slots and
--- the pages of the trees as they were. It follows from the stage of its call, but where it is refused for want of memory, which may be that
--- for what is to be noted; and it says what a step of a machine says of a clean path and of the pages of its call
+-- the pages of the trees as they were. It follows from the stage of its call, unless it is refused for want of memory, which may be that
+-- for what is to be noted. It says what a step of a machine says of a clean path and of the pages of its call
 pub record SlotStep {P M : Type 0} (store : P → Store) (flush_number : P → ℕ) (meant : M → Merge) (old : MachineValue P M) (slot : ℕ) (o : Outcome) (new : MachineValue P M) : Type 0 where
   pub step : MachineStep store flush_number meant old (Step slot) o new
   pub sound : MachineSound store old new
@@ -26,9 +26,9 @@ pub record SlotStep {P M : Type 0} (store : P → Store) (flush_number : P → �
   pub passes : MachinePasses store old (Step slot) o new
   pub leaves : MachineLeaksNoPage store old (Step slot) o new
 
--- A step that a caller makes of a slot under the lock, from a state to the next. The history is longer by what it notes for this caller, and what a
--- scan did is noted where that is. Of the state after it the history is legal, and so each pair that is noted was in its map at some moment since
--- its scan began
+-- A step that a caller makes of a slot under the lock, from a state to the next. The history is longer by what it notes for this caller,
+-- and what a scan did is noted if such notes are kept. Of the state after it the history is legal, and so each pair that is noted was in
+-- its map at some moment since its scan began
 pub record StepUnderLock {P M : Type 0} (store : P → Store) (flush_number : P → ℕ) (meant : M → Merge) (by slot : ℕ) (o : Outcome) : Type 0 where
   pub old : StateValue P M
   pub new : StateValue P M

@@ -1,4 +1,4 @@
--- A closure that is run as a transaction by a caller: what it wrote is noted as a group, with what stood at the keys of its writes.
+-- A closure that is run as a transaction by a caller: what it wrote is noted as a group, with what was at the keys of its writes.
 use Rattle.std.specs.Prelude.{◌≡◌, ◌⊎◌, ℕ, Bool, true, false, ◌&&◌, List, [], ◌∷◌, ◌++◌, map, Option, Some, None, Result, Ok, Err, slice_get}
 use Rattle.std.specs.Option.{unwrap_or}
 use Rattle.std.specs.FinMap.Entries.{find}
@@ -66,15 +66,15 @@ batches_of_tree tree writes = (tree, writes) ∷ []
 abbrev pub transaction_made : Maps → List (Tree × Writes) → MadeValue
 transaction_made maps batches = TransactionMade batches (stood_in maps batches)
 
--- a flush is noted with its number where one was asked for
+-- a flush is noted with its number if one was asked for
 abbrev pub flush_noted : Bool → List MadeValue → Type 0
 flush_noted false noted = noted ≡ []
 flush_noted true noted = (number : ℕ) × (noted ≡ WholeMade value.Flush (Number number) ∷ [])
 
--- Of a transaction it is told over which maps its closure was run to what end, which batches are made of what it wrote, and whether there are
--- any trees: without trees a flush that is asked for is passed over
+-- What is noted of a transaction follows from the maps over which its closure was run and to what end, from the batches of what it wrote,
+-- and from whether there are any trees. Without trees a flush that is asked for is left out
 module _ {A E W : Type 0} (reaches : Maps → Result (Commit A W) (TransactionError E) → Type 0) (batches_of : W → List (Tree × Writes)) (has_trees : Bool) where
-  -- The closure answered this over these maps. What it wrote is noted with what stood in them, and behind it the flush that it asked for
+  -- The closure returned this over these maps. What it wrote is noted with what was in them, and after it the flush that it asked for
   pub record Notes (answer : A) (noted : List MadeValue) : Type 0 where
     pub commit : Commit A W
     pub maps : Maps
@@ -84,7 +84,7 @@ module _ {A E W : Type 0} (reaches : Maps → Result (Commit A W) (TransactionEr
     pub flushed : flush_noted (has_trees && commit.flushes) flush
     pub is : noted ≡ transaction_made maps (batches_of commit.writes) ∷ flush
 
-  -- the flush that the closure asked for was refused, and what it wrote stands
+  -- the flush that the closure asked for was refused, and what it wrote is made
   pub record LacksFlush (noted : List MadeValue) : Type 0 where
     pub commit : Commit A W
     pub maps : Maps
@@ -92,24 +92,24 @@ module _ {A E W : Type 0} (reaches : Maps → Result (Commit A W) (TransactionEr
     pub asked : has_trees && commit.flushes ≡ true
     pub is : noted ≡ transaction_made maps (batches_of commit.writes) ∷ []
 
-  -- the closure gave it up, or it was refused: nothing is noted, but for what it wrote where its flush was refused
+  -- the closure aborted it, or it was refused: nothing is noted, but for what it wrote if only its flush was refused
   abbrev pub notes_failed : TransactionError E → List MadeValue → Type 0
   notes_failed (Abort e) noted = ((maps : Maps) × reaches maps (Err (Abort e))) × (noted ≡ [])
   notes_failed (Storage e) noted = (noted ≡ []) ⊎ LacksFlush noted
 
-  -- how a transaction ends that answers so: what is noted of it
+  -- what is noted of a transaction that returns this
   abbrev pub notes_ended : Result A (TransactionError E) → List MadeValue → Type 0
   notes_ended (Ok answer) noted = Notes answer noted
   notes_ended (Err e) noted = notes_failed e noted
 
-  -- .. and comes to the end of a list
+  -- .. and is added at the end of a list
   pub record AddsTransaction (ended : Result A (TransactionError E)) (made more : List MadeValue) : Type 0 where
     pub noted : List MadeValue
     pub notes : notes_ended ended noted
     pub adds : more ≡ made ++ noted
 
--- What a read of a key shows inside a closure that is run at a tree over pages that are lent: its own write of the key, and where there is none
--- the value in the map of the tree
+-- What a read of a key shows inside a closure that is run at a tree over pages that are lent: its own write of the key, and if there is
+-- none the value in the map of the tree
 abbrev pub ShowsInsideLaw : {P M : Type 0} → (P → Store) → (M → Merge) → Type 0
 ShowsInsideLaw {P} {M} store meant = (d : DbValue P M) (tree : Tree) (given : TransactionalTree (Lent P)) (key : Key) (value : Option Key) → IsDb store d
     → must_refuse_of (db_state store meant d) (tree ∷ []) ≡ None → (now (store d.pages)).roots tree.name ≡ Some given.root → OnlyRaises (store d.pages) (store_lent store given.pages.now)

@@ -37,8 +37,8 @@ pub record IsNumbered (tree : Tree) (s : State) : Type 0 where
 abbrev pub IsOfMoment : List Maps → ℕ → ℕ → State → Type 0
 IsOfMoment moments from to s = AtOneMoment moments from to (λ m. maps_of s ≡ m)
 
--- What was done since a scan began is a run of the model, with changes beside it, up to the calls that are in flight now: in it the scan gave what is
--- noted of its slot, and its maps are those of moments since
+-- What was done since a scan began is a run of the model, with changes beside it, up to the calls that are in flight now. In it the scan
+-- gave what is noted of its slot, and its maps are those of moments since
 pub record IsUnderWay (moments : List Maps) (notes : List ScanNote) (slot from to : ℕ) (tree : Tree) (lo hi : Bound Key) (back : Bool) (slots : ℕ → Option CallInFlight) (slots_given : ℕ) : Type 0 where
   pub before : Configuration
   pub begun : Configuration
@@ -56,8 +56,8 @@ pub record IsUnderWay (moments : List Maps) (notes : List ScanNote) (slot from t
   pub moments_are : Throughout (IsOfMoment moments from to) run
   pub numbered : AtOwnSteps slot (IsNumbered tree) run
 
--- What is known of the scans that were noted: what they gave; and while notes are kept and the database is open, how those that are in flight came
--- to what they gave
+-- What is known of the scans that were noted: what they gave; and while notes are kept and the database is open, by which steps those that
+-- are in flight gave it
 pub record ScansAre (is_open : Bool) (slots : ℕ → Option CallInFlight) (slots_given : ℕ) (moments : List Maps) (to : ℕ) (scans : ScansValue) : Type 0 where
   pub gave : AreScanned moments scans.notes
   pub bounded : (n : ScanNote) → In n scans.notes → (n.slot ≤ slots_given) × (n.at ≤ to)

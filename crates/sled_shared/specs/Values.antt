@@ -17,7 +17,7 @@ pub record CallerValue : Type 0 where
   pub number : ℕ
   pub made : List MadeValue
 
--- how many callers there may be, how many of them have a handle, up to which number those are whose calls were made before it was shared, and the
+-- how many callers there may be, how many of them have a handle, up to which number callers had theirs before it was shared, and the
 -- collections that the database began with
 pub record SharedValue : Type 0 where
   pub callers : ℕ

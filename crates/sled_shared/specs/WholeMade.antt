@@ -19,7 +19,7 @@ use Rattle.sled_model.specs.declared.reply.Reply.TheVariants as told
 use Rattle.sled.specs.Parts.{told_parts}
 use Rattle.sled_shared.specs.Wholes.{WholeValue, Flush, PopMin, PopMax, Clear, Group, OpenTree, DropTree, GenerateId, Import, Watch, Next, Unsubscribe}
 
--- the map after a removal or an insert was made there, which no operator is asked for
+-- the map after a removal or an insert was made there, which needs no operator
 abbrev pub map_with : Call → Map → Map
 map_with call map = (answer_of None call map).map
 
@@ -28,7 +28,7 @@ abbrev pub map_popped : Option (Key × Key) → Map → Map
 map_popped None map = map
 map_popped (Some pair) map = map_with (Remove pair.0) map
 
--- A pop takes out the pair at one end of a tree's map, and its reply tells it; of an empty map it tells none
+-- A pop takes out the pair at one end of a tree's map, and returns it; of an empty map it returns none
 pub record MakesPop (is_end : Map → Option (Key × Key) → Type 0) (old : Maps) (tree : Tree) (reply : Reply) (new : Maps) : Type 0 where
   pub map : Map
   pub there : old tree.name ≡ Some map
@@ -69,7 +69,7 @@ pub data TakesLeast (name : Key) : Maps → ℕ → Maps → Type 0 where
   TakesOne : {a b : Maps} {n : ℕ} (pair : Key × Key) (rest : Map) → a name ≡ Some (pair ∷ rest)
       → TakesLeast name (put_name a name (Some (map_with (Remove pair.0) (pair ∷ rest)))) n b → TakesLeast name a (suc n) b
 
--- a pair is put into the map of a name, where its key was absent
+-- a pair is put into the map of a name, in which its key was absent
 pub record MakesPut (old : Maps) (name key value : Key) (new : Maps) : Type 0 where
   pub map : Map
   pub there : old name ≡ Some map
@@ -96,9 +96,9 @@ TellsTree name reply = (database : Key) × (number : ℕ) × (reply ≡ told.Tre
 abbrev pub TellsSubscriber : Reply → Type 0
 TellsSubscriber reply = (number : ℕ) × (reply ≡ told.Subscriber number)
 
--- A whole call, made at these maps, replies so and leaves those. A group is one of trees that are there, an import is one of trees and
--- does all its parts, and a name that is dropped is not the default tree's and has no map then. What tells something, and what is about
--- subscribers, leaves the maps as they were; what a subscriber was told is not noted
+-- A whole call, made at these maps, replies so and leaves those. A group is one of trees that are there, an import is one of trees and does
+-- all its parts, and a name that is dropped is not the default tree's and has no map then. A flush, an id, and what is about subscribers
+-- leave the maps as they were; what a subscriber got is not noted
 abbrev pub makes_whole_as : Maps → WholeValue → Reply → Maps → Type 0
 makes_whole_as old Flush reply new = TellsNumber reply × (new ≡ old)
 makes_whole_as old (PopMin tree) reply new = MakesPop IsLeast old tree reply new

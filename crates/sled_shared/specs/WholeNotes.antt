@@ -1,4 +1,4 @@
--- What a whole call notes, and that it is refused where it cannot be noted.
+-- What a whole call notes, and that it is refused if it cannot be noted.
 use Rattle.std.specs.Prelude.{◌≡◌, ◌≢◌, ◌⊎◌, ℕ, zero, suc, List, [], ◌∷◌, ◌++◌, Option, Some, None}
 use Rattle.sled_store.specs.Store.{Store}
 use Rattle.sled_nodes.specs.declared.error.Error.TheVariants.{NoMemory}
@@ -26,7 +26,7 @@ noted_with whole (Some kept) number = WholeMade whole kept.0 ∷ []
 noted_with whole None zero = []
 noted_with whole None (suc n) = PartsMade whole (suc n) ∷ []
 
--- What a whole call notes that came out so and did so many parts. Of what a subscriber is told next, which is told once, `Done` is kept
+-- What a whole call notes that came out so and did so many parts. Of what a subscriber gets next, which it gets once, `Done` is kept
 abbrev pub noted_whole : Whole → Outcome → ℕ → List MadeValue
 noted_whole whole o number = noted_with (whole_value whole) (kept_of_whole whole o) number
 

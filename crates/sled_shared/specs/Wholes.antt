@@ -5,7 +5,7 @@ use Rattle.sled_batch.specs.Batch.{Writes}
 use Rattle.sled_model.specs.Collections.{Content}
 use Rattle.sled_model.specs.declared.tree.Tree.{Tree}
 
--- a whole call by what it holds: a group its batches, and an import its collections, wherever their vectors lie
+-- a whole call by what it holds: a group its batches, and an import its collections, wherever their vectors are
 pub data WholeValue : Type 0 where
   Flush : WholeValue
   PopMin : (tree : Tree) → WholeValue

@@ -17,7 +17,7 @@ use std::sync::{Arc, Mutex, Wait};
 // The collections that a database began with.
 type Opening = Arc<Vec<Collection>>;
 
-// What a state lies under.
+// The lock of a state.
 type Lock<P, L, M> = Arc<Mutex<Option<State<P, L, M>>>>;
 
 // The greater of two numbers.
@@ -60,9 +60,9 @@ fn opening_and_lock<P: Pages, L: Ledger, M: MergeOperator>(
 }
 
 impl<P: Pages, L: Ledger, M: MergeOperator> Db<P, L, M> {
-    /// Shares a state again, as one that was gathered, among so many callers. The calls in flight stay in their slots, and the history goes on.
-    /// The numbers of its callers go on too: those of the new ones come behind the greatest in the history. The ledger is handed in as for
-    /// `new`. Refused with `Unsupported` (`numbers used up`) where there are not so many numbers left, and with `NoMemory`; the state is given
+    /// Shares a state again, as one that was gathered, among so many callers. The calls in flight stay in their slots, and the history goes
+    /// on. The numbers of its callers go on too: those of the new ones follow the greatest in the history. The ledger is handed in as for
+    /// `new`. Refused with `Unsupported` (`numbers used up`) if there are not so many numbers left, and with `NoMemory`; the state is given
     /// back then.
     ///
     /// ```text

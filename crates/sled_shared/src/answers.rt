@@ -42,7 +42,7 @@ fn page_in<P: Pages, M: MergeOperator>(
     }
 }
 
-// What stands at a key.
+// The value at a key.
 fn value_at<P: Pages, M: MergeOperator>(
     machine: &Machine<P, M>,
     tree: &Tree,

@@ -8,15 +8,15 @@ use sled_model::{Outcome, Reply};
 use sled_nodes::Error;
 use std::fmt::{self, Display, Formatter, Write};
 
-/// What a call by a handle answers that may be refused.
+/// What a call by a handle returns that may be refused.
 pub type CallResult<T> = std::result::Result<T, CallError>;
 
-/// Why a call by a handle has no answer.
+/// Why a call by a handle returns no reply.
 #[derive(Debug, Drop, PartialEq, Eq)]
 pub enum CallError {
     /// The call was refused.
     Refused(Error),
-    /// Another caller ended the call's slot, by a step or as it gave the call up. A whole call takes no slot, so this is none of its errors.
+    /// Another caller ended the call's slot, by a step or by `abandon`. A whole call takes no slot, so this is none of its errors.
     NoSuchSlot,
 }
 
@@ -39,7 +39,7 @@ impl From<Error> for CallError {
     }
 }
 
-/// The reply of a call that has ended, as `call`, its short forms and `whole` answer it, or why it has none.
+/// The reply of a call that has ended, as `call`, its short forms and `whole` return it, or why it has none.
 ///
 /// ```
 /// let reply = reply_of(handle.get(rt, alloc, &tree, b"ulm"))?; // `Reply::Value(..)`.

@@ -1,4 +1,4 @@
-//! Steps of a call whose copies come along: they are made once, before it begins, and a step that does not decide the call makes none.
+//! Steps of a call with copies of it: they are made once, before it begins, and a step that does not decide the call makes none.
 ghost use Rattle.std.specs.Prelude.{◌≡◌, ◌++◌, IfNone, IfSome, Some};
 ghost use Rattle.std.specs.Option.{option_map};
 ghost use Rattle.sled_model.specs.State.{IsOnKey};
@@ -23,7 +23,7 @@ pub(crate) enum Stepped {
     On(Slot, Jobs),
 }
 
-// Whether the call goes on that is left with these copies. Without copies it has ended.
+// Whether the call goes on that left these copies. Without copies it has ended.
 fn taken_on(outcome: Outcome, slot: Slot, left: Option<Jobs>) -> Stepped
     requires { IfNone left (IsEnd outcome) }
     ensures { TakesOn outcome slot left result }
@@ -34,7 +34,7 @@ fn taken_on(outcome: Outcome, slot: Slot, left: Option<Jobs>) -> Stepped
             drop(jobs);
             Stepped::Ended(end)
         }
-        // a call on a key comes to nothing else than `Moved`
+        // a call on a key that is not decided or refused returns `Moved`
         (other, Some(jobs)) => {
             drop(other);
             Stepped::On(slot, jobs)
@@ -43,8 +43,8 @@ fn taken_on(outcome: Outcome, slot: Slot, left: Option<Jobs>) -> Stepped
 }
 
 impl<P: Pages, L: Ledger, M: MergeOperator> State<P, L, M> {
-    // One step of this call on a key, which has the slot. It is noted as a bare step is, but of the copies that come along. Those are left
-    // where it is not decided.
+    // One step of this call on a key, which has the slot. It is noted as a bare step is, but from these copies. Those are left if it is not
+    // decided.
     fn step_copied(&mut self, me: &mut Caller<L>, slot: Slot, jobs: Jobs) -> (Outcome, Option<Jobs>)
         requires here { option_map job_of_call (slots_of self.old.machine.flights slot) ≡ Some (job_pair jobs.0.tree jobs.0.call) }
         requires second { jobs.1 ≡ jobs.0 }

@@ -20,7 +20,7 @@ pub(crate) fn are_same_collections(a: &[Collection], b: &[Collection]) -> bool
 }
 
 // Whether the same was made, with the same reply or as many parts: a group is the same with the same batches, and an import with the same
-// collections, wherever their vectors lie.
+// collections, wherever their vectors are.
 fn is_same(a: &Made, b: &Made) -> bool
     ensures { result ≡ true → made_value a.now ≡ made_value b.now }
 {
@@ -95,7 +95,7 @@ fn count_of<P: Pages, L: Ledger, M>(handles: &[Handle<P, L, M>], number: u64) ->
     count
 }
 
-// Whether there are as many handles as numbers were given behind these, and each of those is that of one handle.
+// Whether there are as many handles as numbers were given above these, and each of those is that of one handle.
 pub(crate) fn are_all<P: Pages, L: Ledger, M>(
     handles: &[Handle<P, L, M>],
     before: u64,

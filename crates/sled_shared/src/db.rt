@@ -121,7 +121,7 @@ fn first_state<P: Pages, L: Ledger, M: MergeOperator>(
 
 impl<P: Pages, L: Ledger, M: MergeOperator> Db<P, L, M> {
     /// Shares a database among so many callers. Its ledger is the one that is handed in unopened, with a part for each caller and one more.
-    /// Refused as an export is, with the database given back as it was: with `Closed`, with `Io` where a page cannot be read, and with
+    /// Refused as an export is, with the database given back as it was: with `Closed`, with `Io` if a page cannot be read, and with
     /// `NoMemory`.
     ///
     /// ```
@@ -219,8 +219,8 @@ impl<P: Pages, L: Ledger, M: MergeOperator> Db<P, L, M> {
         })
     }
 
-    /// A handle for one caller more, whose number is the next, from 1 or from behind those of callers before. Refused with `Unsupported` (`numbers used up`) where all callers
-    /// have one, and with `NoMemory`; nothing changes then.
+    /// A handle for one caller more, whose number is the next, from 1 or above those of callers before. Refused with `Unsupported`
+    /// (`numbers used up`) if all callers have one, and with `NoMemory`; nothing changes then.
     ///
     /// ```
     /// let one = shared.handle(alloc)?; // For one thread,

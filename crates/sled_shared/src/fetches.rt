@@ -1,5 +1,5 @@
-//! Fetches that are noted, over the parts of a state: the value at a key is read, a closure makes the new one of it, and the one is swapped for
-//! the other, all in one step.
+//! Fetches that are noted, over the parts of a state: the value at a key is read, a closure makes the new one from it, and the one is
+//! swapped for the other, all in one step.
 ghost use Rattle.std.specs.Prelude.{◌≡◌, ◌<◌, ◌∷◌, [], Ok, IfOk, OnOk, OnErr, IfSome, vec_len, vec_capacity};
 ghost use Rattle.std.specs.Option.{option_copied, option_map};
 ghost use Rattle.sled_model.specs.declared.call.Call.TheVariants as call;
@@ -18,7 +18,7 @@ use sled_nodes::{Error, IVec, Result};
 use sled_store::Pages;
 use std::alloc::{AllocError, Global};
 
-// What the closure makes of the value that stands, if there is one.
+// What the closure makes from the value that is there, if there is one.
 fn ask<F>(stood: &Option<IVec>, mut f: F) -> Result<Option<Vec<u8>>>
 where
     F: FnMut(Option<&[u8]>) -> std::result::Result<Option<Vec<u8>>, AllocError>,
@@ -117,7 +117,7 @@ fn room_and_swaps(
     }
 }
 
-// The value that stands at the key, and what the closure makes of it.
+// The value at the key, and what the closure makes from it.
 fn read_and_ask<P: Pages, M: MergeOperator, F>(
     machine: &Machine<P, M>,
     tree: &Tree,
@@ -140,7 +140,7 @@ where
     }
 }
 
-// Swaps the value that stands for another.
+// Swaps the value that is there for another.
 fn swap_now<P: Pages, M: MergeOperator>(
     machine: &mut Machine<P, M>,
     tree: &Tree,
@@ -164,8 +164,8 @@ fn swap_now<P: Pages, M: MergeOperator>(
     )
 }
 
-// A fetch, and what is to be noted of it, twice, with room for it in both lists. Room and copies are made before the swap, and want of memory
-// for them refuses it.
+// A fetch, and what is to be noted of it, twice, with room for it in both lists. Room and copies are made before the swap, and want of
+// memory for them refuses it.
 pub(crate) fn fetch_noting<P: Pages, M: MergeOperator, F>(
     machine: &mut Machine<P, M>,
     history: &mut Vec<Entry>,

@@ -37,13 +37,13 @@ fn began_with<P: Pages, L: Ledger, M: MergeOperator>(
 }
 
 impl<P: Pages, L: Ledger, M: MergeOperator> Db<P, L, M> {
-    /// Takes the state out, once all callers are done. All handles that were made must be handed in, in any order; where none was made the
-    /// empty list is all. Each handle's list is compared with the history: it must be that of the entries with its number, in order. The
-    /// history must have no others, and the state must have begun with what the database had when it was shared. Where it is not so, the
-    /// database and the handles are given back, and the state stays under its lock.
+    /// Takes the state out, once all callers are done. All handles that were made must be handed in, in any order; if none was made, an
+    /// empty list. Each handle's list is compared with the history: it must be that of the entries with its number, in order. The history
+    /// must have no others, and the state must have begun with what the database had when it was shared. If it is not so, the database and
+    /// the handles are given back, and the state stays under its lock.
     ///
-    /// The history of the state is legal, up to the maps now while its database is open. A crash may leave the maps after each entry and part
-    /// of it, from the last flush on. The ids in it rise.
+    /// The history of the state is legal, up to the maps now while its database is open. A crash may leave the maps after each entry and
+    /// part of it, from the last flush on. The ids in it rise.
     ///
     /// ```
     /// match shared.gather(rt, handles) {
@@ -79,9 +79,9 @@ impl<P: Pages, L: Ledger, M: MergeOperator> Db<P, L, M> {
         }
     }
 
-    /// Takes the state out though handles were lost, as with a thread that ended, where no handle is left: each was dropped. Else the
-    /// database is given back, and the state stays under its lock. With a handle the list of its caller is gone, so none is compared with
-    /// the history. Of that the same holds as of one that is gathered.
+    /// Takes the state out though handles were lost, as with a thread that ended, if no handle is left: each was dropped. Else the database
+    /// is given back, and the state stays under its lock. With a handle the list of its caller is gone, so none is compared with the
+    /// history. Of that the same holds as of one that is gathered.
     ///
     /// ```
     /// match shared.reclaim(rt) {
@@ -108,7 +108,7 @@ impl<P: Pages, L: Ledger, M: MergeOperator> Db<P, L, M> {
         }
     }
 
-    // The state, where no handle is left; else it stays.
+    // The state, if no handle is left; else it stays.
     fn take_left(&self, rt: &impl Wait) -> Option<State<P, L, M>>
         ensures { IfSome result (λ s. s.opening ≡ self.now.opening) }
     {
@@ -119,7 +119,7 @@ impl<P: Pages, L: Ledger, M: MergeOperator> Db<P, L, M> {
         take_begun(&mut *guard, self.opening.as_slice())
     }
 
-    // The state, where all handles are there and agree with it; else it stays.
+    // The state, if all handles are there and agree with it; else it stays.
     fn take_if(&self, rt: &impl Wait, handles: &[Handle<P, L, M>]) -> Option<State<P, L, M>>
         ensures count { IfSome result (λ s. length handles.now ≡ self.now.given) }
         ensures numbers { IfSome result (λ s. EachOnceBehind self.now.before self.now.given handles.now) }
@@ -136,7 +136,7 @@ impl<P: Pages, L: Ledger, M: MergeOperator> Db<P, L, M> {
     }
 }
 
-// The state, where it agrees with the handles; else it stays.
+// The state, if it agrees with the handles; else it stays.
 fn take_agreeing<P: Pages, L: Ledger, M: MergeOperator>(
     slot: &mut Option<State<P, L, M>>,
     handles: &[Handle<P, L, M>],
@@ -154,7 +154,7 @@ fn take_agreeing<P: Pages, L: Ledger, M: MergeOperator>(
     if agrees { slot.take() } else { None }
 }
 
-// The state, where it began with these collections; else it stays.
+// The state, if it began with these collections; else it stays.
 fn take_begun<P: Pages, L: Ledger, M: MergeOperator>(
     slot: &mut Option<State<P, L, M>>,
     opening: &[Collection],

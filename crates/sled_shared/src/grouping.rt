@@ -1,4 +1,4 @@
-//! Groups that transactions wrote, each noted with what stood before at the keys of its writes; over the parts of a state.
+//! Groups that transactions wrote, each noted with what was before at the keys of its writes; over the parts of a state.
 ghost use Rattle.std.specs.Prelude.{◌≡◌, ◌<◌, ◌++◌, ◌∷◌, [], map, IfOk, OnOk, OnErr, IfSome, vec_len, vec_capacity};
 ghost use Rattle.sled_nodes.specs.Order.{Key};
 ghost use Rattle.sled_model.specs.Groups.{writes_on};
@@ -36,7 +36,7 @@ fn stood_at<P: Pages, M: MergeOperator>(
     machine.db().get(tree, key.as_ref())
 }
 
-// What stands at the keys of a batch comes behind what is there.
+// Adds what is at the keys of a batch to a list.
 fn add_stood<P: Pages, M: MergeOperator>(
     machine: &Machine<P, M>,
     tree: &Tree,
@@ -51,7 +51,7 @@ fn add_stood<P: Pages, M: MergeOperator>(
     Ok(())
 }
 
-// What stands at the keys of all batches of a group.
+// What is at the keys of all batches of a group.
 fn stood_in<P: Pages, M: MergeOperator>(
     machine: &Machine<P, M>,
     group: &[(Tree, Batch)],
@@ -104,7 +104,7 @@ fn copied_group(alloc: Global, group: &[(Tree, Batch)]) -> Result<Vec<(Tree, Bat
     Ok(copy)
 }
 
-// A group, with what stood at its keys, as it is noted.
+// A group, with what was at its keys, as it is noted.
 fn made_of(alloc: Global, group: &[(Tree, Batch)], stood: Vec<Option<IVec>>) -> Result<Made>
     ensures { IfOk result (λ made. made_value made ≡ TransactionMade group.now stood.items) }
 {
@@ -179,7 +179,7 @@ pub(crate) fn decided(outcome: Outcome) -> Result<()>
             Ok(())
         }
         Outcome::Refused(e) => Err(e),
-        // no whole call comes to anything else
+        // no whole call has another outcome
         other => {
             drop(other);
             Err(Error::Closed)
@@ -200,8 +200,8 @@ fn make_now<P: Pages, M: MergeOperator>(
     decided(outcome)
 }
 
-// Makes a group, and what is to be noted of it, twice, with room for it in both lists. Room and copies are made before it, and want of memory
-// for them refuses it.
+// Makes a group, and what is to be noted of it, twice, with room for it in both lists. Room and copies are made before it, and want of
+// memory for them refuses it.
 fn group_noting<P: Pages, M: MergeOperator>(
     machine: &mut Machine<P, M>,
     history: &mut Vec<Entry>,
@@ -235,7 +235,7 @@ fn group_noting<P: Pages, M: MergeOperator>(
 }
 
 impl<P: Pages, L: Ledger, M: MergeOperator> State<P, L, M> {
-    // Makes a group that a transaction wrote, and notes it as this caller's, with what stood before at the keys of its writes.
+    // Makes a group that a transaction wrote, and notes it as this caller's, with what was before at the keys of its writes.
     pub(crate) fn make(&mut self, me: &mut Caller<L>, group: Vec<(Tree, Batch)>) -> Result<()>
         ensures ok { OnOk result (me.new.made ≡ me.old.made ++ transaction_made (maps_of (db_state P.store M.meant self.old.machine.db)) group.items ∷ []) }
         ensures err { OnErr result (me.new.made ≡ me.old.made) }

@@ -29,7 +29,7 @@ use std::sync::{Arc, Mutex, Wait};
 
 /// What is called between two steps of a call, while the lock is free.
 pub trait Gate {
-    /// Is called after each step that went on.
+    /// Called after each step that went on.
     fn between(&self);
 }
 
@@ -40,7 +40,7 @@ impl Gate for NoGate {
     fn between(&self) {}
 }
 
-/// A caller's way to a database that is shared. It goes to a thread by value, and comes back to `gather`.
+/// A caller's way to a database that is shared. It is given to a thread by value, and back to `gather`.
 pub struct Handle<P: Pages, L: Ledger, M = Box<dyn MergeOperator + Send>> {
     pub(crate) lock: Arc<Mutex<Option<State<P, L, M>>>>,
     pub(crate) me: Caller<L>,
@@ -74,7 +74,7 @@ impl<P: Pages, L: Ledger, M> Handle<P, L, M> {
     }
 
     /// What this caller made, in order. It has each of its calls on a key and of its whole calls that was decided, with its reply, and the
-    /// parts of those that were refused after some. It has each of its reads, with what it told, and each of its transactions.
+    /// parts of those that were refused after some. It has each of its reads, with what it returned, and each of its transactions.
     ///
     /// ```
     /// let count = handle.made().len();
@@ -101,8 +101,8 @@ impl<P: Pages, L: Ledger, M: MergeOperator> Handle<P, L, M> {
         begun
     }
 
-    /// One step of the call in the slot, whoever began it. A call on a key that it decides becomes this caller's. The contract says so of
-    /// some state with a legal history; that this is the state under the lock is tested.
+    /// One step of the call in the slot, whichever caller began it. A call on a key that it decides becomes this caller's. The contract
+    /// says this of some state with a legal history; that it is the state under the lock is tested.
     ///
     /// ```
     /// let outcome = handle.step(rt, slot);
@@ -118,7 +118,7 @@ impl<P: Pages, L: Ledger, M: MergeOperator> Handle<P, L, M> {
         outcome
     }
 
-    /// Gives the call in the slot up, whoever began it. Where the slot has no call the answer is `NoSuchSlot`.
+    /// Abandons the call in the slot, whichever caller began it. If the slot has no call it returns `NoSuchSlot`.
     ///
     /// ```
     /// let outcome = handle.abandon(rt, slot); // `Abandoned`, or `NoSuchSlot`.
@@ -133,9 +133,9 @@ impl<P: Pages, L: Ledger, M: MergeOperator> Handle<P, L, M> {
         outcome
     }
 
-    /// Does a whole call, in one step under the lock. One that is decided becomes this caller's, with its reply; of `Next`, which tells each
-    /// event once, the reply is noted as `Done`. A `Clear` or an `Import` that is refused midway becomes this caller's with the parts that
-    /// it did, if it did any.
+    /// Does a whole call, in one step under the lock. One that is decided becomes this caller's, with its reply; of `Next`, which returns
+    /// each event once, the reply is noted as `Done`. A `Clear` or an `Import` that is refused midway becomes this caller's with the parts
+    /// that it did, if it did any.
     ///
     /// ```
     /// let outcome = handle.whole(rt, Whole::PopMin(tree)); // `Decided(Reply::Pair(..))`, or why not.
@@ -151,7 +151,7 @@ impl<P: Pages, L: Ledger, M: MergeOperator> Handle<P, L, M> {
         outcome
     }
 
-    // Makes the new value at a key of the one that stands there. It answers both values.
+    // Makes the new value at a key from the one that is there. Returns both values.
     fn fetch<F>(
         &mut self,
         rt: &impl Wait,
@@ -172,12 +172,12 @@ impl<P: Pages, L: Ledger, M: MergeOperator> Handle<P, L, M> {
         fetched
     }
 
-    /// Sets the value at a key to what the closure makes of the value that stands there, or takes the key out where it answers `None`. It
-    /// answers the new value. It is one step under the lock, so nobody writes between. It comes to the end of this caller's list as the swap of
-    /// the one value for the other.
+    /// Sets the value at a key to what the closure makes from the value that is there, or removes the key if that is `None`. Returns the
+    /// new value. It is one step under the lock, so no other caller writes between. It is added to this caller's list as the swap of the
+    /// one value for the other.
     ///
-    /// Refused as a read and a swap are, and with `NoMemory` where the closure tells want of memory; then nothing is written, and nothing comes
-    /// to the list. The closure is called while the lock is held: it must make no call on this database.
+    /// Refused as a read and a swap are, and with `NoMemory` if the closure returns its want of memory; then nothing is written, and
+    /// nothing is added to the list. The closure is called while the lock is held: it must make no call on this database.
     ///
     /// ```
     /// // The value is taken out, whatever it is.
@@ -206,7 +206,7 @@ impl<P: Pages, L: Ledger, M: MergeOperator> Handle<P, L, M> {
         }
     }
 
-    /// The same, but that it answers the value that stood there before.
+    /// The same, but it returns the value that was there before.
     ///
     /// ```
     /// let taken = handle.fetch_and_update(rt, &tree, b"ulm", |_| Ok(None))?;
@@ -280,9 +280,8 @@ impl<P: Pages, L: Ledger, M: MergeOperator> Handle<P, L, M> {
     }
 
     /// Makes a call on a key of a tree, step by step until it is decided or refused. The lock is taken for each step and is free between
-    /// two, where the gate is called. A call that is decided comes to the end of this caller's list, with its reply. It must be no scan:
-    /// that it is none is what `Call::is_on_key` tells. Where another caller ended the slot the answer is `NoSuchSlot`, and nothing comes
-    /// to the list.
+    /// two, when the gate is called. A call that is decided is added to this caller's list, with its reply. It must be no scan:
+    /// `Call::is_on_key` says so. If another caller ended the slot it returns `NoSuchSlot`, and nothing is added to the list.
     ///
     /// ```
     /// let outcome = handle.call(rt, &tree, Call::insert(alloc, b"ulm", b"21")?, &NoGate);
@@ -306,7 +305,7 @@ impl<P: Pages, L: Ledger, M: MergeOperator> Handle<P, L, M> {
         }
     }
 
-    // The same without a gate, where there was memory to make the call.
+    // The same without a gate, if there was memory to make the call.
     fn call_made(&mut self, rt: &impl Wait, tree: &Tree, made: Result<Call>) -> Outcome
         requires { IfOk made IsOnKey }
         ensures made { (call : Call) → IfOk made (λ it. it ≡ call) → self.new.made ≡ self.old.made ++ noted_of result tree.now call }
@@ -333,7 +332,7 @@ impl<P: Pages, L: Ledger, M: MergeOperator> Handle<P, L, M> {
         self.call_made(rt, tree, Call::get(alloc, key))
     }
 
-    /// Sets the value at a key, and replies with the value that stood there.
+    /// Sets the value at a key, and replies with the value that was there.
     ///
     /// ```
     /// let outcome = handle.insert(rt, alloc, &tree, b"ulm", b"21");
@@ -354,7 +353,7 @@ impl<P: Pages, L: Ledger, M: MergeOperator> Handle<P, L, M> {
         self.call_made(rt, tree, Call::insert(alloc, key, value))
     }
 
-    /// Takes a key out, and replies with the value that stood there.
+    /// Removes a key, and replies with the value that was there.
     ///
     /// ```
     /// let outcome = handle.remove(rt, alloc, &tree, b"ulm");
@@ -368,7 +367,7 @@ impl<P: Pages, L: Ledger, M: MergeOperator> Handle<P, L, M> {
         self.call_made(rt, tree, Call::remove(alloc, key))
     }
 
-    /// Where the first value stands at a key it becomes the second one; `None` is no value.
+    /// If the first value is at a key it becomes the second one; `None` is no value.
     ///
     /// ```
     /// let outcome = handle.compare_and_swap(rt, alloc, &tree, b"ulm", Some(b"21"), None); // Takes the key out where `21` stands.

@@ -1,4 +1,4 @@
-//! Reads by a handle, each under one lock. They take no slot, and no map changes. Where another caller writes beside them each tells what
+//! Reads by a handle, each under one lock. They take no slot, and no map changes. If another caller writes beside them each returns what
 //! there is at its own place in the history.
 ghost use Rattle.std.specs.Prelude.{◌≡◌, ◌++◌, ◌∷◌, [], IfOk, OnErr};
 ghost use Rattle.sled_nodes.specs.Among.{bound_of};
@@ -21,7 +21,7 @@ use std::ops::Bound;
 use std::sync::Wait;
 use std::sync::ledger::Ledger;
 
-// The value that was told.
+// The value of an answer.
 fn value_of(answer: Answer) -> Option<IVec>
     requires { IsValue answer }
     ensures { answer ≡ told.Value result }
@@ -32,7 +32,7 @@ fn value_of(answer: Answer) -> Option<IVec>
     }
 }
 
-// Yes or no, as it was told.
+// Yes or no, of an answer.
 fn flag_of(answer: Answer) -> bool
     requires { IsFlag answer }
     ensures { answer ≡ told.Flag result }
@@ -43,7 +43,7 @@ fn flag_of(answer: Answer) -> bool
     }
 }
 
-// The pair that was told.
+// The pair of an answer.
 fn pair_of(answer: Answer) -> Option<(IVec, IVec)>
     requires { IsPair answer }
     ensures { answer ≡ told.Pair result }
@@ -54,7 +54,7 @@ fn pair_of(answer: Answer) -> Option<(IVec, IVec)>
     }
 }
 
-// The count that was told.
+// The count of an answer.
 fn count_of(answer: Answer) -> usize
     requires { IsCount answer }
     ensures { answer ≡ told.Count result }
@@ -65,7 +65,7 @@ fn count_of(answer: Answer) -> usize
     }
 }
 
-// The pairs that were told.
+// The pairs of an answer.
 pub(crate) fn pairs_of(answer: Answer) -> Pairs
     requires { IsPage answer }
     ensures { answer ≡ told.Pairs result }
@@ -97,8 +97,8 @@ fn page_between(
 }
 
 impl<P: Pages, L: Ledger, M: MergeOperator> Handle<P, L, M> {
-    /// What a tree answers to a question, in one step under the lock. It comes to the end of this caller's list with its answer. Refused as
-    /// the read of a database is that asks the same, and with `NoMemory` where there is none to note it; nothing comes to the list then.
+    /// What a tree answers to a question, in one step under the lock. It is added to this caller's list with its answer. Refused as the
+    /// same read of a database is, and with `NoMemory` if there is none to note it; nothing is added to the list then.
     ///
     /// ```
     /// let answer = handle.read(rt, &tree, Question::Len)?; // `Answer::Count(..)`.
@@ -115,7 +115,7 @@ impl<P: Pages, L: Ledger, M: MergeOperator> Handle<P, L, M> {
         answer
     }
 
-    /// The value at a key, or `None` where it is absent, in one step under the lock. Refused as `read` is, as all that follow.
+    /// The value at a key, or `None` if it is absent, in one step under the lock. Refused as `read` is, as all that follow.
     ///
     /// ```
     /// let value = handle.get_now(rt, alloc, &tree, b"ulm")?;
@@ -321,7 +321,7 @@ impl<P: Pages, L: Ledger, M: MergeOperator> Handle<P, L, M> {
     }
 
     /// The collection of every tree, in the order of the names, its pairs ascending by key, as an export of the database gives them. It
-    /// reads all pages under the lock. The list has what was exported, shared and not copied, so it is kept until the list is let go.
+    /// reads all pages under the lock. The list has what was exported, shared and not copied, so it is kept until the list is dropped.
     ///
     /// ```
     /// let all = handle.export(rt)?; // `all.as_slice()` lends the collections.

@@ -1,5 +1,5 @@
-//! Whole calls by a handle, each by its own name. Each is made in one step under the lock, and comes to the end of the caller's list with its
-//! reply where it is decided.
+//! Whole calls by a handle, each by its own name. Each is made in one step under the lock, and is added to the caller's list with its reply
+//! if it is decided.
 ghost use Rattle.std.specs.Prelude.{◌≡◌, ◌≢◌, ◌++◌, ◌∷◌, [], IfOk, IfErr, OnOk, OnErr};
 ghost use Rattle.sled_model.specs.Collections.{contents_of};
 ghost use Rattle.sled_model.specs.Transition.{kind_of, InParts};
@@ -23,7 +23,7 @@ use std::alloc::Global;
 use std::sync::Wait;
 use std::sync::ledger::Ledger;
 
-// The number that was told.
+// The number of a reply.
 fn number_of(reply: Reply) -> u64
     requires { TellsNumber reply }
     ensures { reply ≡ told.Number result }
@@ -34,7 +34,7 @@ fn number_of(reply: Reply) -> u64
     }
 }
 
-// The pair that was told.
+// The pair of a reply.
 fn pair_of(reply: Reply) -> Option<(IVec, IVec)>
     requires { TellsPair reply }
     ensures { reply ≡ told.Pair result }
@@ -45,7 +45,7 @@ fn pair_of(reply: Reply) -> Option<(IVec, IVec)>
     }
 }
 
-// Yes or no, as it was told.
+// Yes or no, of a reply.
 fn flag_of(reply: Reply) -> bool
     requires { TellsFlag reply }
     ensures { reply ≡ told.Flag result }
@@ -56,7 +56,7 @@ fn flag_of(reply: Reply) -> bool
     }
 }
 
-// The tree that was told, which has this name.
+// The tree of a reply, which has this name.
 fn tree_of(reply: Reply) -> Tree
     requires { (name : Key) × TellsTree name reply }
     ensures { reply ≡ told.Tree result }
@@ -67,7 +67,7 @@ fn tree_of(reply: Reply) -> Tree
     }
 }
 
-// The subscriber that was told.
+// The subscriber of a reply.
 fn subscriber_of(reply: Reply) -> Subscriber
     requires { TellsSubscriber reply }
     ensures { reply ≡ told.Subscriber result }
@@ -78,7 +78,7 @@ fn subscriber_of(reply: Reply) -> Subscriber
     }
 }
 
-// What a subscriber was told.
+// What a subscriber gets by a reply.
 fn next_of(reply: Reply) -> Option<Next>
     requires { TellsNext reply }
     ensures { reply ≡ told.Next result }
@@ -132,7 +132,7 @@ impl<P: Pages, L: Ledger, M: MergeOperator> Handle<P, L, M> {
         reply_of(self.whole(rt, whole))
     }
 
-    /// Makes all that was decided durable, and answers the store's number. Refused as the same call of a machine is, as all that follow.
+    /// Makes all that was decided durable, and returns the store's number. Refused as the same call of a machine is, as all that follow.
     ///
     /// ```
     /// let number = handle.flush(rt)?;
@@ -150,7 +150,7 @@ impl<P: Pages, L: Ledger, M: MergeOperator> Handle<P, L, M> {
         }
     }
 
-    /// Takes the pair with the least key out of a tree, if there is one, and answers it.
+    /// Takes the pair with the least key out of a tree, if there is one, and returns it.
     ///
     /// ```
     /// let pair = handle.pop_min(rt, &tree)?; // `None` of an empty tree.
@@ -168,7 +168,7 @@ impl<P: Pages, L: Ledger, M: MergeOperator> Handle<P, L, M> {
         }
     }
 
-    /// Takes the pair with the greatest key out of a tree, if there is one, and answers it.
+    /// Takes the pair with the greatest key out of a tree, if there is one, and returns it.
     ///
     /// ```
     /// let pair = handle.pop_max(rt, &tree)?;
@@ -186,7 +186,7 @@ impl<P: Pages, L: Ledger, M: MergeOperator> Handle<P, L, M> {
         }
     }
 
-    /// Takes all keys out of a tree. Refused midway it comes to the end of the list with the keys that it took out.
+    /// Takes all keys out of a tree. If it is refused midway it is added to the list with the number of keys that it took out.
     ///
     /// ```
     /// handle.clear(rt, &tree)?;
@@ -207,7 +207,7 @@ impl<P: Pages, L: Ledger, M: MergeOperator> Handle<P, L, M> {
         }
     }
 
-    /// Makes the writes of a batch in a tree, all or none. Refused midway it closes the database.
+    /// Makes the writes of a batch in a tree, all or none. If it is refused midway the database is closed.
     ///
     /// ```
     /// handle.apply_batch(rt, alloc, &tree, batch)?;
@@ -258,7 +258,7 @@ impl<P: Pages, L: Ledger, M: MergeOperator> Handle<P, L, M> {
         }
     }
 
-    /// Opens the tree of a name, which is made where the name has none.
+    /// Opens the tree of a name, which is made if the name has none.
     ///
     /// ```
     /// let tree = handle.open_tree(rt, alloc, b"weather")?;
@@ -277,7 +277,7 @@ impl<P: Pages, L: Ledger, M: MergeOperator> Handle<P, L, M> {
         }
     }
 
-    /// Drops the tree of a name, and answers whether there was one.
+    /// Drops the tree of a name, and returns whether there was one.
     ///
     /// ```
     /// let was_there = handle.drop_tree(rt, alloc, b"weather")?;
@@ -313,8 +313,8 @@ impl<P: Pages, L: Ledger, M: MergeOperator> Handle<P, L, M> {
         }
     }
 
-    /// Opens the tree of each collection and puts its pairs into it. Refused midway, as at a key that is present, it comes to the end of the
-    /// list with the trees that it opened and the pairs that it put in.
+    /// Opens the tree of each collection and puts its pairs into it. If it is refused midway, as at a key that is present, it is added to
+    /// the list with the number of trees opened and pairs put in.
     ///
     /// ```
     /// handle.import(rt, other.export()?)?; // What another database has.
@@ -359,8 +359,8 @@ impl<P: Pages, L: Ledger, M: MergeOperator> Handle<P, L, M> {
         }
     }
 
-    /// Tells a subscriber how many events it missed, or else takes the oldest event that waits for it, if there is either. What was told
-    /// is told once, so `Done` stands for it in the list.
+    /// Returns how many events a subscriber missed, or else the oldest event that waits for it, if there is either. Each is returned once,
+    /// so the list has `Done` for it.
     ///
     /// ```
     /// let next = handle.next(rt, &subscriber)?; // `None` where nothing waits.
@@ -378,7 +378,7 @@ impl<P: Pages, L: Ledger, M: MergeOperator> Handle<P, L, M> {
         }
     }
 
-    /// Gives up the queue of a subscriber, with what waits there.
+    /// Drops the queue of a subscriber, with what waits there.
     ///
     /// ```
     /// handle.unsubscribe(rt, &subscriber)?;

@@ -22,7 +22,7 @@ pub(crate) fn step<P: Pages, M: MergeOperator>(machine: &mut Machine<P, M>, slot
     machine.step(slot)
 }
 
-// A step of the call in the slot and, where it is decided, two copies of its reply, made before its deciding action.
+// A step of the call in the slot and, if it is decided, two copies of its reply, made before its deciding action.
 pub(crate) fn step_kept<P: Pages, M: MergeOperator>(
     machine: &mut Machine<P, M>,
     slot: Slot,
@@ -47,7 +47,7 @@ fn passes<P: Pages, M: MergeOperator>(machine: &Machine<P, M>, tree: &Tree, call
     }
 }
 
-// Whether the call in the slot passes the tests and has a turn left. One that has none is told so by its next step.
+// Whether the call in the slot passes the tests and has a turn left. If it has none its next step says so.
 fn can_step<P: Pages, M: MergeOperator>(machine: &Machine<P, M>, slot: Slot) -> bool
     ensures yes { result ≡ true → CanStep P.store M.meant machine.now slot }
     ensures no { CanStep P.store M.meant machine.now slot → result ≡ true }
@@ -72,8 +72,8 @@ fn refuse<P: Pages, M: MergeOperator>(machine: &mut Machine<P, M>, slot: Slot) -
     Outcome::Refused(Error::NoMemory)
 }
 
-// The step of a call that cannot be noted for want of memory: it is refused by a test or for its turns, where it would be, and else for
-// want of memory. It does no page action.
+// The step of a call that cannot be noted for want of memory: it is refused by a test or for its turns, if it would be, and else for want
+// of memory. It does no page action.
 pub(crate) fn refuse_step<P: Pages, M: MergeOperator>(
     machine: &mut Machine<P, M>,
     slot: Slot,

@@ -1,21 +1,21 @@
 //! One database for many callers, with the history of what they made.
 //!
-//! A `Db` holds a machine under a lock, and each caller has a `Handle` to it. The lock is taken for one step of one call, and is free between
-//! two steps, so the calls of several threads go on side by side. Each call on a key and each whole call that is decided is noted at the end
-//! of the history, with the number of the caller whose step decided it. It comes to the end of that caller's own list too. A `Clear` or an
-//! `Import` that is refused midway is noted with the parts that it did. A read under one lock, which takes no slot, is noted with what it
-//! told: a value, a pair, a count, a page of a range, the names of the trees, or an export (`specs/Reads`).
+//! A `Db` holds a machine under a lock, and each caller has a `Handle` to it. The lock is taken for one step of one call, and is free
+//! between two steps, so the calls of several threads go on side by side. Each call on a key and each whole call that is decided is noted
+//! at the end of the history, with the number of the caller whose step decided it, and at the end of that caller's own list. A `Clear` or
+//! an `Import` that is refused midway is noted with the parts that it did. A read under one lock, which takes no slot, is noted with what
+//! it returned: a value, a pair, a count, a page of a range, the names of the trees, or an export (`specs/Reads`).
 //!
 //! Whenever the lock is free the history is legal: from the collections that the database had when it was shared, each call replied and
-//! wrote what it would have, made alone at its place. As long as no group was refused midway, which closes the database, the maps after the
-//! last are the maps now (`specs/History`, `specs/Sound`). A merge wrote what its reply tells. What a crash may leave are the maps after each
-//! entry and part of the history, behind those that it might have left before; from the last flush on those alone (`specs/Crashes`). A
-//! caller's list is as long as its share of the entries, which a ledger counts. At the end `gather` takes all handles back and compares: each
-//! list is that of its caller's entries, and the history has no others. Where handles were lost `reclaim` takes the state without them.
-//! `share_again` shares such a state once more: its calls in flight stay in their slots, and its history and the numbers of its callers go on.
+//! wrote what it would have, made alone at its place. While no group was refused midway, which closes the database, the maps after the last
+//! are those now (`specs/History`, `specs/Sound`). A merge wrote what its reply says. What a crash may leave are the maps after each entry
+//! and part of the history, and those that it might have left before; from the last flush on only those after it (`specs/Crashes`). A
+//! caller's list is as long as its share of the entries, which a ledger counts. At the end `gather` takes all handles and compares: each
+//! list is that of its caller's entries, and the history has no others. If handles were lost `reclaim` takes the state without them.
+//! `share_again` shares such a state once more: its calls in flight stay in their slots, its history and numbers of callers go on.
 //!
 //! A closure is run as a transaction in one step under the lock, over the pages as they are. What it wrote is noted as one group, with what
-//! stood before at each key that it wrote (`specs/Transactions`).
+//! was before at each key that it wrote (`specs/Transactions`).
 //!
 //! ```
 //! // For two callers: a ledger with a part for each, and one more. At `Err` the database is given back.

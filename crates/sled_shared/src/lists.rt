@@ -164,7 +164,7 @@ fn flush_follows(trees: &[&Tree], flushes: bool) -> bool
     !trees.is_empty() && flushes
 }
 
-// Makes what was written of the trees of a list, and then all durable where that is asked for.
+// Makes what was written of the trees of a list, and then all durable if that is asked for.
 fn commit_list<P: Pages, L: Ledger, M: MergeOperator>(
     state: &mut State<P, L, M>,
     me: &mut Caller<L>,
@@ -246,11 +246,11 @@ where
 }
 
 impl<P: Pages + Sync, L: Ledger, M: MergeOperator> Handle<P, L, M> {
-    /// Runs a closure as a transaction of several trees, which it names by their positions in the list. It is as `transaction`, and all that it
-    /// writes comes to the list as one group, in the order of the trees.
+    /// Runs a closure as a transaction of several trees, which it names by their positions in the list. It is as `transaction`, and all
+    /// that it writes is added to the list as one group, in the order of the trees.
     ///
-    /// A tree that stands in the list twice has two positions, of which neither sees the other's writes; those of the later one come later. For
-    /// an empty list a flush that is asked for is passed over. Refused with `Unsupported`, with a text of its own, where a tree is another
+    /// A tree that is in the list twice has two positions, of which neither sees the other's writes; those of the later one are made later.
+    /// For an empty list a flush that is asked for is left out. Refused with `Unsupported`, with a text of its own, if a tree is another
     /// database's, and else as `transaction` is.
     ///
     /// ```

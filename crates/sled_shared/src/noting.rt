@@ -111,7 +111,7 @@ fn twice(jobs: Jobs, one: Reply, two: Reply) -> (Made, Made)
     )
 }
 
-// A step of a call on a key, whose job comes twice; what is to be noted of it, twice; and the jobs, where they are not noted.
+// A step of a call on a key, with two copies of its job; what is to be noted of it, twice; and the jobs, if they are not noted.
 #[tactic(auto, using(crate::proofs::Copied::kept_ends))]
 fn step_of_jobs<P: Pages, M: MergeOperator>(
     machine: &mut Machine<P, M>,
@@ -191,7 +191,7 @@ pub(crate) fn step_noting<P: Pages, M: MergeOperator>(
     }
 }
 
-// What was made comes to the end of the history, with the number of its caller, and of the caller's list.
+// Adds what was made at the end of the history, with the number of its caller, and of the caller's list.
 fn note(history: &mut Vec<Entry>, made: &mut Vec<Made>, number: u64, both: (Made, Made))
     requires room { vec_len history.old < vec_capacity history.old }
     requires room_there { vec_len made.old < vec_capacity made.old }
@@ -208,7 +208,7 @@ fn note(history: &mut Vec<Entry>, made: &mut Vec<Made>, number: u64, both: (Made
     made.push_reserved(two);
 }
 
-// What is to be noted, if anything is, comes to the ends of both lists, and is counted.
+// Adds what is to be noted, if anything is, at the ends of both lists, and counts it.
 pub(crate) fn note_and_count<L: Ledger>(
     history: &mut Vec<Entry>,
     calls: &mut Book<L>,

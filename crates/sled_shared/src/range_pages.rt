@@ -94,7 +94,7 @@ impl RangePages {
         }
     }
 
-    // Goes behind a key, with which so many pairs end.
+    // Goes past a key, with which so many pairs end.
     fn go_behind(&mut self, key: Option<IVec>, count: usize)
         ensures { self.new ≡ record self.old { lo = lo_behind self.old.back key self.old.lo; hi = hi_behind self.old.back key self.old.hi; ended = is_last_page self.old.most count } }
     {
@@ -110,7 +110,7 @@ impl RangePages {
         drop(passed);
     }
 
-    // Goes behind the pairs of a page.
+    // Goes past the pairs of a page.
     fn pass(&mut self, pairs: &Pairs) -> Result<()>
         ensures ok { OnOk result (self.new ≡ behind self.old pairs.now) }
         ensures err { IfErr result (λ e. (e ≡ NoMemory) × (self.new ≡ self.old)) }
@@ -149,11 +149,10 @@ impl RangePages {
         }
     }
 
-    /// The next page, in one step under the lock, or `None` where the last one was given: one of fewer pairs than there may be, or of none. It
-    /// comes to the end of the handle's list as a read, and begins behind the last key of the page before. After the last page there is only
-    /// `None`.
+    /// The next page, in one step under the lock, or `None` if the last one was given: one of fewer pairs than there may be, or of none. It
+    /// is added to the handle's list as a read, and begins after the last key of the page before. After the last page there is only `None`.
     ///
-    /// Refused as a read is, and may be asked for again. Where there is no memory to go behind it (`NoMemory`), what was read is in the list all
+    /// Refused as a read is, and may be asked for again. If there is no memory to go past it (`NoMemory`), what was read is in the list all
     /// the same.
     ///
     /// ```

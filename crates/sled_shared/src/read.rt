@@ -1,4 +1,4 @@
-//! What callers read under one lock, and what they were told.
+//! Reads by callers under one lock, and what they returned.
 ghost use Rattle.std.specs.Prelude.{◌≡◌, IfOk, IfErr};
 ghost use Rattle.sled_nodes.specs.declared.error.Error.TheVariants.{NoMemory};
 ghost use Rattle.sled_shared.specs.declared.read.Question.TheVariants as question;
@@ -41,7 +41,7 @@ pub enum Question {
 /// What a tree answers to a question.
 #[derive(Drop, PartialEq, Eq)]
 pub enum Answer {
-    /// The value that stands at the key, if any.
+    /// The value at the key, if any.
     Value(Option<IVec>),
     /// Yes or no.
     Flag(bool),
@@ -53,7 +53,7 @@ pub enum Answer {
     Pairs(Pairs),
 }
 
-/// A read of a database, with what it told.
+/// A read of a database, with what it returned.
 #[derive(Drop, PartialEq, Eq)]
 pub enum Read {
     /// A question about a tree, and its answer.
@@ -167,7 +167,7 @@ fn copied_answer(tree: &Tree, question: &Question, answer: &Answer) -> Result<Re
 }
 
 impl Read {
-    // The same read; what it told of many pairs or names is shared. Refused with `NoMemory` alone.
+    // The same read; lists of pairs or names that it returned are shared. Refused with `NoMemory` alone.
     pub(crate) fn clone(&self) -> Result<Read>
         ensures ok { IfOk result (λ copy. copy ≡ self.now) }
         ensures err { IfErr result (λ e. e ≡ NoMemory) }

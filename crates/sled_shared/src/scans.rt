@@ -32,7 +32,7 @@ pub struct ScanNote {
     pub did: Scanned,
 }
 
-// What scans did, where it is kept.
+// What scans did, if it is kept.
 pub(crate) struct Scans {
     pub(crate) keeps: bool,
     pub(crate) notes: Vec<ScanNote>,
@@ -118,7 +118,7 @@ impl Scans {
         }
     }
 
-    // Notes what a scan did, where it did something. At an error there was no memory to say what.
+    // Notes what a scan did, if it did something. At an error there was no memory to say what.
     pub(crate) fn note(&mut self, slot: Slot, at: u64, did: Result<Option<Scanned>>)
         ensures { (all : List Scanned) → IfOk did (λ d. self.old.keeps ≡ true → did_of d ≡ all) → OnErr did (all ≢ []) → NotesScan self.old (noted_at slot at all) self.new }
     {

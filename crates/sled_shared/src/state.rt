@@ -1,4 +1,4 @@
-//! What lies under the lock.
+//! What is under the lock.
 use crate::entry::Entry;
 use crate::scans::Scans;
 use sled_calls::Machine;
@@ -9,7 +9,7 @@ use std::sync::Arc;
 use std::sync::ledger::{Book, Ledger, Share};
 
 /// A machine, the collections that its database had when it was shared, and what callers made since, in order. This history is legal, which
-/// `audit` tells. Scans make no entry there; what they did is in a list of its own, where that was asked for.
+/// `audit` says. Scans make no entry there; what they did is in a list of its own, if that was asked for.
 pub struct State<P: Pages, L: Ledger, M = Box<dyn MergeOperator + Send>> {
     pub(crate) machine: Machine<P, M>,
     // shared with the database, which compares at the end
@@ -17,7 +17,7 @@ pub struct State<P: Pages, L: Ledger, M = Box<dyn MergeOperator + Send>> {
     pub(crate) history: Vec<Entry>,
     // as many as the history has entries
     pub(crate) calls: Book<L>,
-    // what scans did meanwhile, where that is noted
+    // what scans did meanwhile, if that is noted
     pub(crate) scans: Scans,
 }
 
@@ -43,7 +43,7 @@ impl<P: Pages, L: Ledger, M: MergeOperator> State<P, L, M> {
     ghost use Rattle.std.specs.Prelude.{◌≡◌, ◌<◌};
     ghost use Rattle.sled_shared.specs.Sound.{HasCrashMaps, HasHistory, HasLegalHistory, HasRisingIds, HasScans};
 
-    /// The machine, lent: its database, its pages and its calls in flight. So whoever holds a state can ask whether its database is open.
+    /// The machine, lent: its database, its pages and its calls in flight. So a program can ask whether the database of a state is open.
     ///
     /// ```
     /// let is_open = !state.machine().db().pages().in_group(); // While it is, the history leads to the maps now.
@@ -54,7 +54,7 @@ impl<P: Pages, L: Ledger, M: MergeOperator> State<P, L, M> {
         &self.machine
     }
 
-    /// The machine. The history, which is legal, is let go.
+    /// The machine. The history, which is legal, is dropped.
     ///
     /// ```
     /// let db = state.into_machine().into_db();
@@ -112,7 +112,7 @@ impl<P: Pages, L: Ledger, M: MergeOperator> State<P, L, M> {
     }
 }
 
-// By hand, so that whoever lets go of a state cites this, and need not prove again how each of its parts goes.
+// By hand, so that code that drops a state cites this, and need not prove again how each of its parts is dropped.
 impl<P: Pages, L: Ledger, M: Drop> Drop for State<P, L, M> {
     fn drop(self) {
         let State {

@@ -53,7 +53,7 @@ pub(crate) fn has_job<P: Pages, M: MergeOperator>(
 }
 
 impl<P: Pages, L: Ledger, M: MergeOperator> State<P, L, M> {
-    /// Begins a call on a tree, as `begin` of the machine does. Nothing comes to the history. That a scan begins is noted where scans are
+    /// Begins a call on a tree, as `begin` of the machine does. Nothing is added to the history. That a scan begins is noted if scans are
     /// ([`State::scans`]).
     ///
     /// ```
@@ -75,10 +75,10 @@ impl<P: Pages, L: Ledger, M: MergeOperator> State<P, L, M> {
         begun
     }
 
-    /// One step of the call in the slot, as `step` of the machine does it. A call on a key that is decided is noted as this caller's:
-    /// the history and the caller's list are longer by it and its reply. A scan never comes there; what it does is noted where scans are
-    /// ([`State::scans`]). Room and copies are made before the step: where there is no memory for them the call is refused with
-    /// `NoMemory`, and its slot is gone.
+    /// One step of the call in the slot, as `step` of the machine does it. A call on a key that is decided is noted as this caller's: the
+    /// history and the caller's list are longer by it and its reply. A scan is never added there; what it does is noted if scans are
+    /// ([`State::scans`]). Room and copies are made before the step: if there is no memory for them the call is refused with `NoMemory`,
+    /// and its slot is gone.
     ///
     /// A handle does this under the lock, with its own caller.
     ///
@@ -113,7 +113,7 @@ impl<P: Pages, L: Ledger, M: MergeOperator> State<P, L, M> {
         outcome
     }
 
-    /// Gives the call in the slot up, as `abandon` of the machine does. Nothing is noted, of a scan either.
+    /// Abandons the call in the slot, as `abandon` of the machine does. Nothing is noted, of a scan either.
     ///
     /// ```
     /// let outcome = state.abandon(slot); // `Abandoned`, or `NoSuchSlot`.
@@ -128,10 +128,10 @@ impl<P: Pages, L: Ledger, M: MergeOperator> State<P, L, M> {
         self.machine.abandon(slot)
     }
 
-    /// Does a whole call, as `whole` of the machine does it. Where it is decided it is noted as this caller's: the history and the caller's
-    /// list are longer by it and its reply; of `Next` the reply is noted as `Done`. A `Clear` or an `Import` that is refused midway is noted
-    /// with the parts that it did, if it did any. Room and copies are made before the call: where there is no memory for them a test that
-    /// would refuse it does, and else it is refused with `NoMemory`; nothing changes then.
+    /// Does a whole call, as `whole` of the machine does it. If it is decided it is noted as this caller's: the history and the caller's
+    /// list are longer by it and its reply; of `Next` the reply is noted as `Done`. A `Clear` or an `Import` that is refused midway is
+    /// noted with the parts that it did, if it did any. Room and copies are made before the call: if there is no memory for them a test
+    /// that would refuse it does, and else it is refused with `NoMemory`; nothing changes then.
     ///
     /// A handle does this under the lock, with its own caller.
     ///
@@ -162,8 +162,8 @@ impl<P: Pages, L: Ledger, M: MergeOperator> State<P, L, M> {
         outcome
     }
 
-    // Makes the new value at a key of the one that stands there, by a closure, and swaps the one for the other, in one step. The swap is noted as
-    // this caller's. It answers both values.
+    // Makes the new value at a key from the one that is there, by a closure, and swaps the one for the other, in one step. The swap is
+    // noted as this caller's. Returns both values.
     pub(crate) fn fetch<F>(
         &mut self,
         me: &mut Caller<L>,
@@ -234,9 +234,9 @@ impl<P: Pages, L: Ledger, M: MergeOperator> State<P, L, M> {
         self.history.as_slice()
     }
 
-    /// What scans did, in the order of their steps, each with its slot and the length of the history then: they began, gave a pair, or ended.
-    /// Those lengths never fall. As long as `keeps_scans` is true, each `begin` and each `step` notes what it was of a scan. Else it notes
-    /// nothing, as where the database was shared by `new`.
+    /// What scans did, in the order of their steps, each with its slot and the length of the history then: they began, gave a pair, or
+    /// ended. Those lengths never fall. As long as `keeps_scans` is true, each `begin` and each `step` notes what it was of a scan. Else it
+    /// notes nothing, as of a database that was shared by `new`.
     ///
     /// ```
     /// let gave = state.scans().len();
@@ -249,8 +249,8 @@ impl<P: Pages, L: Ledger, M: MergeOperator> State<P, L, M> {
         self.scans.notes.as_slice()
     }
 
-    /// Whether what scans do is noted. It is where the database was shared by `new_noting_scans`, until there is no memory for a note: from
-    /// there on none is made.
+    /// Whether what scans do is noted. It is if the database was shared by `new_noting_scans` and there was memory for each note; after the
+    /// first without memory none is made.
     ///
     /// ```
     /// let is_whole = state.keeps_scans(); // No note is missing at the end.
@@ -261,10 +261,10 @@ impl<P: Pages, L: Ledger, M: MergeOperator> State<P, L, M> {
         self.scans.keeps
     }
 
-    /// What holds of every state: the history is legal. From the opening on each entry's call replied and wrote what it would have, made alone
-    /// at its place, and while the database is open the maps after the last entry are the maps now. What a crash may leave are the maps after
-    /// each entry and part of it, from its last flush on. The ids in it rise, and none is above the greatest that the database gave. It does
-    /// nothing.
+    /// What holds of every state: the history is legal. From the opening on each entry's call replied and wrote what it would have, made
+    /// alone at its place, and while the database is open the maps after the last entry are the maps now. What a crash may leave are the
+    /// maps after each entry and part of it, from its last flush on. The ids in it rise, and none is above the greatest that the database
+    /// gave. It does nothing.
     ///
     /// ```
     /// state.audit(); // From here on a proof knows that the history is legal.
@@ -280,8 +280,8 @@ impl<P: Pages, L: Ledger, M: MergeOperator> State<P, L, M> {
     }
 }
 
-// The same calls of what a lock holds. What was taken from under it is closed. These say what comes to the caller's list by the outcome
-// alone.
+// The same calls of what a lock holds. What was taken from under it is closed. These say by the outcome alone what is added to the caller's
+// list.
 
 // Begins a call on a tree.
 pub(crate) fn begin_in<P: Pages, L: Ledger, M: MergeOperator>(
@@ -318,7 +318,7 @@ pub(crate) fn step_adding<P: Pages, L: Ledger, M: MergeOperator>(
     }
 }
 
-// Gives the call in the slot up.
+// Abandons the call in the slot.
 pub(crate) fn abandon_in<P: Pages, L: Ledger, M: MergeOperator>(
     held: &mut Option<State<P, L, M>>,
     slot: Slot,
@@ -351,7 +351,7 @@ pub(crate) fn whole_adding<P: Pages, L: Ledger, M: MergeOperator>(
     }
 }
 
-// Makes the new value at a key of the one that stands there.
+// Makes the new value at a key from the one that is there.
 pub(crate) fn fetch_adding<P: Pages, L: Ledger, M: MergeOperator, F>(
     held: &mut Option<State<P, L, M>>,
     me: &mut Caller<L>,

@@ -1,4 +1,4 @@
-//! Lists that reads tell. Each is shared by those who have it, and never changed; a clone copies nothing.
+//! Lists that reads return. Each is shared by its owners, and never changed; a clone copies nothing.
 ghost use Rattle.std.specs.Prelude.{◌≡◌, ◌&&◌, IfOk, IfErr};
 ghost use Rattle.std.specs.Cmp.{and_equiv, on_equiv, partial_equiv_from_equiv};
 ghost use Rattle.std.specs.Cmp.Lexicographic.{lists_equiv, nat_list_eq_equiv, pointwise};
@@ -77,7 +77,7 @@ impl Eq for Pairs {
     ghost laws = { lists_equiv (and_equiv (on_equiv (λ p. p.0) nat_list_eq_equiv) (on_equiv (λ p. p.1) nat_list_eq_equiv)) };
 }
 
-// By hand, so that whoever lets go of them cites this, and need not prove again how each of their parts goes.
+// By hand, so that code that drops them cites this, and need not prove again how each of their parts is dropped.
 impl Drop for Pairs {
     fn drop(self) {
         let Pairs { pairs } = self;

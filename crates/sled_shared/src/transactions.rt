@@ -97,7 +97,7 @@ fn make_flush<P: Pages, L: Ledger, M: MergeOperator>(
     decided(outcome)
 }
 
-// Makes a group that a transaction wrote, and then all durable where that is asked for.
+// Makes a group that a transaction wrote, and then all durable if that is asked for.
 pub(crate) fn commit<P: Pages, L: Ledger, M: MergeOperator>(
     state: &mut State<P, L, M>,
     me: &mut Caller<L>,
@@ -199,16 +199,16 @@ where
 }
 
 impl<P: Pages + Sync, L: Ledger, M: MergeOperator> Handle<P, L, M> {
-    /// Runs a closure as a transaction of a tree: all that it writes is made, or nothing. It is one step under the lock. What it wrote comes to
-    /// the end of this caller's list, also where that is nothing, with what stood before at each key that it wrote: the closure was run over
-    /// maps that had this there. Of keys that it read and did not write the list tells nothing.
+    /// Runs a closure as a transaction of a tree: all that it writes is made, or nothing. It is one step under the lock. What it wrote is
+    /// added to this caller's list, also if that is nothing, with what was before at each key that it wrote: the closure was run over maps
+    /// that had this there. Of keys that it read and did not write the list says nothing.
     ///
-    /// Behind it comes the flush that the closure asked for. Of a transaction that is given up or refused nothing comes to the list; but where
-    /// the flush is refused what it wrote stands, and is there.
+    /// After it the flush that the closure asked for is added. Of a transaction that is aborted or refused nothing is added to the list;
+    /// but if only the flush is refused what it wrote is made, and is in the list.
     ///
-    /// The closure ends as one of `transaction` of the database does, and is run again while it ends by `Conflict`. It is called while the lock
-    /// is held: it must make no call on this database. No ids are set aside for it, so `generate_id` inside is refused: take ids before.
-    /// Refused as `transaction` of the database is, and with `Closed` where the database was taken out of its lock.
+    /// The closure ends as one of `transaction` of the database does, and is run again while it ends by `Conflict`. It is called while the
+    /// lock is held: it must make no call on this database. No ids are set aside for it, so `generate_id` inside is refused: take ids
+    /// before. Refused as `transaction` of the database is, and with `Closed` if the database was taken out of its lock.
     ///
     /// ```
     /// // Moves the value of one key to another.
@@ -239,8 +239,8 @@ impl<P: Pages + Sync, L: Ledger, M: MergeOperator> Handle<P, L, M> {
     }
 }
 
-/// What a read shows inside a transaction by a handle, told over the maps: the transaction's own write of the key, and where there is none the
-/// value in the map of the tree. It does nothing.
+/// What a read shows inside a transaction by a handle, in terms of the maps: the transaction's own write of the key, and if there is none
+/// the value in the map of the tree. It does nothing.
 ///
 /// ```
 /// law_shows_inside::<MemPages, Box<dyn MergeOperator + Send>>(); // From here on a proof knows what reads inside show.

@@ -55,7 +55,7 @@ fn passes_on_each<P: Pages, M: MergeOperator>(
     true
 }
 
-// Whether the trees of all batches pass the tests together. Where each does alone they do, on a database that is open.
+// Whether the trees of all batches pass the tests together. If each does alone they do, on a database that is open.
 fn passes_on_all<P: Pages, M: MergeOperator>(
     machine: &Machine<P, M>,
     batches: &[(Tree, Batch)],

@@ -110,7 +110,7 @@ fn whole_kept<P: Pages, M: MergeOperator>(
     machine.whole_kept(whole)
 }
 
-// A whole call, which comes twice more; and what is to be noted of it, twice.
+// A whole call, with two copies of it; and what is to be noted of it, twice.
 #[tactic(auto, using(crate::proofs::WholeTests::does_whole))]
 fn make_whole<P: Pages, M: MergeOperator>(
     machine: &mut Machine<P, M>,
@@ -135,7 +135,7 @@ fn refuse_tested<P: Pages, M: MergeOperator>(machine: &mut Machine<P, M>, whole:
     machine.whole(whole)
 }
 
-// A whole call that cannot be noted for want of memory: it is refused by a test, where it would be, and else for want of memory. It does
+// A whole call that cannot be noted for want of memory: it is refused by a test, if it would be, and else for want of memory. It does
 // nothing.
 #[tactic(auto, using(crate::proofs::WholeTests::unnoted))]
 fn refuse_whole<P: Pages, M: MergeOperator>(machine: &mut Machine<P, M>, whole: Whole) -> Outcome

@@ -1,5 +1,5 @@
 //! Runs commands on a database in files: reads them line by line, and prints how each came out. Its argument is the folder of the database,
-//! which is made where it is not there. Beside the lines of `sledrun` it knows `stats` and `compact`. What it prints is not proved: it is
+//! which is made if it is not there. Beside the lines of `sledrun` it knows `stats` and `compact`. What it prints is not proved: it is
 //! safe, and it ends.
 #![tactic(auto)]
 
@@ -15,7 +15,7 @@ use std::env;
 use std::io::{BufRead, BufReader, BufWriter, Write};
 use std::process::ExitCode;
 
-// What comes behind lines that ended.
+// What follows lines that ended.
 #[derive(Drop)]
 enum Next {
     // The others, on this session.
@@ -30,7 +30,7 @@ fn close<W: Write>(session: Opened, is_read: bool, output: &mut W) -> Result<Nex
     Ok(Next::Nothing(is_read))
 }
 
-// Answers a line that `sledrun` does not know: the session that goes on, or the one that ends since nobody knows the line.
+// Answers a line that `sledrun` does not know: the session that goes on, or the one that ends since the line is unknown.
 fn answer<W: Write>(
     alloc: Global,
     session: Opened,
@@ -52,7 +52,7 @@ fn answer<W: Write>(
     }
 }
 
-// Does what is to be done behind lines that ended.
+// Does what is to be done after lines that ended.
 fn go_on<W: Write>(
     rt: &HostRuntime,
     path: &str,
@@ -120,7 +120,7 @@ fn run(rt: &HostRuntime) -> Result<bool, Stopped> {
     };
     let mut input = BufReader::new(rt.alloc(), rt.reader())?;
     let ran = run_in(rt, path.as_str(), &mut input, &mut output);
-    // Also where it stopped: it may have said why.
+    // Also if it stopped: it may have said why.
     output.flush()?;
     ran
 }

@@ -1,4 +1,4 @@
-//! A session on the database of a folder: how it is opened, what is told of it, and how it is let go.
+//! A session on the database of a folder: how it is opened, what is printed of it, and how it is dropped.
 
 use line_words::input::Stopped;
 use line_words::print::push_refused;
@@ -60,7 +60,7 @@ fn pages_found(session: &Opened) -> Option<u64> {
     }
 }
 
-// Says that the database was found, if it was, and which tree is current where it is not the one that was asked for.
+// Says that the database was found, if it was, and which tree is current if it is not the one that was asked for.
 fn tell_found<W: Write>(session: &Opened, is_same: bool, output: &mut W) -> Result<(), Stopped> {
     let Some(pages) = pages_found(session) else {
         return Ok(());
@@ -72,7 +72,7 @@ fn tell_found<W: Write>(session: &Opened, is_same: bool, output: &mut W) -> Resu
     Ok(writeln!(output)?)
 }
 
-/// Opens the database, which is made where it is not there, and says how many pages were found.
+/// Opens the database, which is made if it is not there, and says how many pages were found.
 pub fn open_first<W: Write>(
     rt: &HostRuntime,
     path: &str,
@@ -134,7 +134,7 @@ fn named(session: Opened) -> Result<(Opened, IVec), Stopped> {
     }
 }
 
-/// Lets go of the database without a flush, as a crash does, and opens it again. The same tree is current then, where it is there.
+/// Drops the database without a flush, as a crash does, and opens it again. The same tree is current then, if it is there.
 pub fn open_again<W: Write>(
     rt: &HostRuntime,
     path: &str,
@@ -194,7 +194,7 @@ fn open_pages<W: Write>(
     }
 }
 
-/// Makes all durable in a log that is begun anew. Calls in flight are given up; the same tree is current.
+/// Makes all durable in a log that is begun anew. Calls in flight are abandoned; the same tree is current.
 pub fn compact<W: Write>(
     alloc: Global,
     session: Opened,

@@ -13,7 +13,7 @@ use Rattle.call_laws.specs.Calls.{MakesCalls, alone}
 use Rattle.call_laws.specs.Hears.{IsKept, KeepsTree, turns_of_calls, told_to}
 
 module _ {P M : Type 0} (store : P → Store) (flush_number : P → ℕ) (meant : M → Merge) where
-  -- .. which did this to the queues and told subscribers this, and gave none up and dropped no tree
+  -- .. which did this to the queues and returned this to subscribers, and dropped no subscriber and no tree
   pub record Tells (old : DbValue P M) (turns : List Turn) (told : ℕ → List Next) (new : DbValue P M) : Type 0 where
     pub made : List MadeValue
     pub calls : MakesCalls store flush_number meant (alone old) made (alone new)
@@ -22,7 +22,7 @@ module _ {P M : Type 0} (store : P → Store) (flush_number : P → ℕ) (meant 
     pub kept : (n : ℕ) → IsKept n made
     pub keeps : (name : Key) → KeepsTree name made
 
-  -- .. which told nobody anything
+  -- .. which returned nothing to a subscriber
   pub record GoesQuietly (old : DbValue P M) (is_made : List MadeValue → Type 0) (brings : List Turn → Type 0) (new : DbValue P M) : Type 0 where
     pub turns : List Turn
     pub tells : Tells old turns (λ n. []) new

@@ -6,7 +6,7 @@ use Rattle.sled_files.specs.Change.{Durable, changed_all, IsWithin}
 use Rattle.sled_files.specs.Lasting.{Limits, AreLimits}
 use Rattle.sled_files.specs.Pending.{Spells}
 
--- what is pending, and then changes that set these limits, where they are others
+-- what is pending, and then changes that set these limits, if they are others
 pub record IsAhead (limits raised : Limits) (before after : List ℕ) : Type 0 where
   pub rest : List ℕ
   pub bytes : after ≡ before ++ rest

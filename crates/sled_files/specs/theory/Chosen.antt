@@ -30,8 +30,8 @@ is_why_unmade _ gate read = ⊥
 abbrev pub IsBehind : ℕ → List ℕ → Type 0
 IsBehind generation bytes = IsBlank bytes ⊎ IsOlder generation bytes
 
--- The store that two files stand for was opened: which of the two counts, where the closed gate of its log is, how long its
--- snapshot is, and its generation
+-- The store that two files stand for was opened: which of the two counts, the place of the closed gate of its log, how long its snapshot
+-- is, and its generation
 pub record IsOpened (first second : List ℕ) (is_second : Bool) (gate snapshot generation : ℕ) (store : Made) : Type 0 where
   pub durable : Durable
   pub stands : StandsAt (if is_second then second else first) gate generation durable

@@ -20,7 +20,7 @@ pub record OpensStore {D : Type 0} (seen : D → List ℕ) (may_leave : D → Li
   pub versions : store.versions ≡ durable.versions
   pub named : calls_refused store.pages ≡ []
 
--- a new store, where both files were blank
+-- a new store; both files were blank
 pub record OpensNew {D : Type 0} (seen : D → List ℕ) (may_leave : D → List ℕ → Type 0) (first second : List ℕ) (f : Files D) (store : Made) : Type 0 where
   pub blanks : AreBlank first second
   pub ready : IsReady seen may_leave f nothing_yet

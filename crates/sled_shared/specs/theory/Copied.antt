@@ -1,4 +1,4 @@
--- Of Notes, for proofs. A call whose copies come along, until they are noted.
+-- Of Notes, for proofs. A call with copies of it, until they are noted.
 use Rattle.std.specs.Prelude.{◌≡◌, ℕ, List, [], ◌++◌, Option, Some}
 use Rattle.sled_model.specs.declared.call.Call.{Call}
 use Rattle.sled_model.specs.declared.tree.Tree.{Tree}
@@ -14,7 +14,7 @@ pub record AreCopies (tree : Tree) (call : Call) (jobs : Job × Job) : Type 0 wh
   pub first : jobs.0 ≡ record { tree = tree; call = call }
   pub second : jobs.1 ≡ jobs.0
 
--- a step that ends the call tells how; and else the call goes on in its slot, and nothing is noted of it
+-- a step that ends the call says how; and else the call goes on in its slot, and nothing is noted of it
 abbrev pub TakesOn : Outcome → ℕ → Option (Job × Job) → Stepped → Type 0
 TakesOn o slot left (Ended e) = (e ≡ o) × IsEnd o
 TakesOn o slot left (On s jobs) = (s ≡ slot) × (left ≡ Some jobs) × ((tree : Tree) (call : Call) → noted_of o tree call ≡ [])

@@ -7,11 +7,11 @@ use Rattle.sled_shared.specs.Orders.{in_order}
 use Rattle.sled_shared.specs.declared.read.Answer.{Answer}
 use Rattle.sled_shared.specs.declared.read.Answer.TheVariants.{Pairs}
 
--- where no more is given nothing is left
+-- if no more is given nothing is left
 abbrev pub Begun : {P : Type 0} → Coming P → Type 0
 Begun c = c.ended ≡ true → c.pairs ≡ []
 
--- pairs are answered
+-- the answer is pairs
 abbrev pub IsPage : Answer → Type 0
 IsPage answer = (pairs : List (Key × Key)) × (answer ≡ Pairs pairs)
 

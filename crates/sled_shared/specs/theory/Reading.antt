@@ -7,7 +7,7 @@ use Rattle.sled_shared.specs.Reads.{reads_as}
 use Rattle.sled_shared.specs.Sound.{IsOpen, maps_now}
 use Rattle.sled_shared.specs.declared.read.Read.{Read}
 
--- the database is open, and what was read tells what its maps are
+-- the database is open, and what was read says what its maps are
 pub record ReadsNow {P M : Type 0} (store : P → Store) (m : MachineValue P M) (read : Read) : Type 0 where
   pub opens : IsOpen store m
   pub tells : reads_as (maps_now store m) read

@@ -28,7 +28,7 @@ abbrev pub is_undecided : Outcome → Type 0
 is_undecided (Decided reply) = ⊥
 is_undecided o = Unit {0}
 
--- a closure was run to this end; where it was refused the refusal may be another's
+-- a closure was run to this end; if it was refused the refusal may be another's
 abbrev pub ran_as : {E W : Type 0} → (Result W (TransactionError E) → Type 0) → Result W (TransactionError E) → Type 0
 ran_as reaches (Ok commit) = reaches (Ok commit)
 ran_as reaches (Err (Abort e)) = reaches (Err (Abort e))
@@ -50,16 +50,16 @@ module _ {P M : Type 0} (store : P → Store) (flush_number : P → ℕ) (meant 
   abbrev pub GroupUnmade : Type 0
   GroupUnmade = (new ≡ old) ⊎ GroupRefused
 
--- a flush came to a list, with its number
+-- a flush was added to a list, with its number
 abbrev pub AddsFlush : List MadeValue → List MadeValue → Type 0
 AddsFlush made more = (number : ℕ) × (more ≡ made ++ WholeMade value.Flush (Number number) ∷ [])
 
--- what was written came to a list, and a flush behind it where one was asked for
+-- what was written was added to a list, and a flush after it if one was asked for
 pub record AddsCommit (group : MadeValue) (flushes : Bool) (made more : List MadeValue) : Type 0 where
   pub flush : List MadeValue
   pub flushed : flush_noted flushes flush
   pub adds : more ≡ made ++ group ∷ flush
 
--- .. or nothing did, or only the flush was refused
+-- .. or nothing was, or only the flush was refused
 pub record StopsCommit (group : MadeValue) (flushes : Bool) (made more : List MadeValue) : Type 0 where
   pub is : (more ≡ made) ⊎ ((flushes ≡ true) × (more ≡ made ++ group ∷ []))
