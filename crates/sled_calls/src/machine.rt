@@ -316,7 +316,7 @@ impl<P: Pages, M: MergeOperator> Machine<P, M> {
         outcome
     }
 
-    /// Gives the call in the slot up. What it did to the pages stays, and no map changes.
+    /// Abandons the call in the slot. What it did to the pages stays, and no map changes.
     ///
     /// ```
     /// let outcome = machine.abandon(slot); // `Abandoned`, or `NoSuchSlot`.
