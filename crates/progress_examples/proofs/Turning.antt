@@ -5,11 +5,13 @@ use Rattle.sled_nodes.specs.declared.error.Error.{Error}
 use Rattle.sled_store.specs.Store.{Store}
 use Rattle.sled_model.specs.Maps.{Merge}
 use Rattle.sled_model.specs.declared.call.Call.{Call}
+use Rattle.sled_model.specs.declared.outcome.Outcome.{Outcome}
 use Rattle.sled_model.specs.declared.outcome.Outcome.TheVariants as outcome
 use Rattle.sled_model.specs.declared.outcome.Step.TheVariants as step
 use Rattle.sled_model.specs.declared.tree.Tree.{Tree}
 use Rattle.sled_calls.specs.Step.{MachineStepContract}
 use Rattle.sled_calls.specs.Values.{MachineValue, kept_at}
+use Rattle.progress_examples.specs.Turns.{TellsInTurn}
 use Rattle.machine_laws.specs.Moves.{IsSound, IsReached, BeginsEmpty, Steps, MovesInARow, Begins, Moves}
 
 -- the one whose turn it is
@@ -41,3 +43,8 @@ module _ {P M : Type 0} (store : P → Store) (number : P → ℕ) (meant : M �
 
   pub one_more : (first a b : MachineValue P M) (slot n : ℕ) → Turned first n a → MachineStepContract store number meant a (step.Step slot) outcome.Moved b → IsSound store b → Turned first (suc n) b
   one_more first a b slot n r k sound = record { row = Moves r.row k sound; reached = Steps r.reached k sound }
+
+  -- .. and one more of the slot whose turn it is, which comes out so
+  pub tells : (first a b : MachineValue P M) (slots : List ℕ) (slot n : ℕ) (o : Outcome) → Turned first n a → slice_get slots (n % length slots) ≡ Some slot → MachineStepContract store number meant a (step.Step slot) o b → IsSound store b
+      → TellsInTurn store number meant first slots o b × Reached b
+  tells first a b slots slot n o r turn k sound = (record { turns = n; before = a; row = r.row; slot = slot; turn = turn; tells = k }, Steps r.reached k sound)

@@ -1,6 +1,5 @@
 use Rattle.std.proofs.Common.{◌≡◌, ℕ, suc, ◌+◌, Some, sym, ap, ◌∙◌, subst, arith}
-use Rattle.machine_laws.specs.Moves.{Steps}
-use Rattle.progress_examples.proofs.Turning.{Turned, in_turn, none_turned, one_more}
+use Rattle.progress_examples.proofs.Turning.{Turned, in_turn, none_turned, one_more, tells}
 use Rattle.progress_examples.proofs.step_in_turn.Goals as goal
 
 pub loop-turn-init : goal.loop-turn-init
@@ -29,45 +28,22 @@ loop-turn-preserved g c =
     next n = omega arith
 
 pub returns-in_default : goal.returns-in_default
-returns-in_default g c = record {
-  told = (
-    c.in_default.not-Moved,
-    record {
-      turns = c.loop-turn.turn;
-      before = c.loop-turn.machine;
-      row = c.loop-turn.invariant.row;
-      slot = _;
-      turn = in_turn c.args.slots.now c.loop-turn.turn _ c.requires.some ∙ ap Some (sym c.index-slots-turn.is);
-      tells = record {
-        step = c.step-told.ensures.step;
-        sound = c.step-told.ensures.sound;
-        does = c.step-told.ensures.does;
-        follows = c.step-told.ensures.follows;
-        passes = c.step-told.ensures.passes;
-        slots = c.step-told.ensures.slots;
-        loses = c.step-told.ensures.loses;
-        leaves = c.step-told.ensures.leaves;
-        gives_up = record { is = tt };
-        tested = record { is = tt };
-        way = record { is = tt };
-      };
-    },
-  );
-  moves = tt;
-  few = tt;
-  reached = Steps c.loop-turn.invariant.reached
-      (record {
-        step = c.step-told.ensures.step;
-        sound = c.step-told.ensures.sound;
-        does = c.step-told.ensures.does;
-        follows = c.step-told.ensures.follows;
-        passes = c.step-told.ensures.passes;
-        slots = c.step-told.ensures.slots;
-        loses = c.step-told.ensures.loses;
-        leaves = c.step-told.ensures.leaves;
-        gives_up = record { is = tt };
-        tested = record { is = tt };
-        way = record { is = tt };
-      })
-      (record { db = c.audit.ensures.sound; calls = c.audit.ensures.known });
-}
+returns-in_default g c =
+    let told =
+    tells g.P.Pages.store g.P.Pages.flush_number g.M.MergeOperator.meant c.args.machine.now c.loop-turn.machine c.step-told.new.self c.args.slots.now c.index-slots-turn.result c.loop-turn.turn c.step-told.result c.loop-turn.invariant
+    (in_turn c.args.slots.now c.loop-turn.turn _ c.requires.some ∙ ap Some (sym c.index-slots-turn.is))
+    (record {
+      step = c.step-told.ensures.step;
+      sound = c.step-told.ensures.sound;
+      does = c.step-told.ensures.does;
+      follows = c.step-told.ensures.follows;
+      passes = c.step-told.ensures.passes;
+      slots = c.step-told.ensures.slots;
+      loses = c.step-told.ensures.loses;
+      leaves = c.step-told.ensures.leaves;
+      gives_up = record { is = tt };
+      tested = record { is = tt };
+      way = record { is = tt };
+    })
+    (record { db = c.audit.ensures.sound; calls = c.audit.ensures.known }) in
+    record { told = (c.in_default.not-Moved, told.0); moves = tt; few = tt; reached = told.1 }
