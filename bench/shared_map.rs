@@ -1,4 +1,4 @@
-//! The twin of `crates/thread_bench` over an ordered map of the standard library behind a lock: the same words, calls, output and
+//! The twin of `crates/bench_threads` over an ordered map of the standard library behind a lock: the same words, calls, output and
 //! checksums.
 //!
 //!     shared_map PAIRS CALLS SEED THREADS WORKLOAD..

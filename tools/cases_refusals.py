@@ -515,7 +515,7 @@ def a_crash_amid_every_stage(s):
 
 @crowd_case
 def words_of_many_calls_that_cannot_be_read(s):
-    """A line of the program `crowd` that cannot be read changes nothing, and the next one is read."""
+    """A line of the program `test_crowd` that cannot be read changes nothing, and the next one is read."""
     s.line('insert a 1', 'old -')
     s.begin(1, 'get a')
     for line in ('crowd 1 2', 'begin scan .. ..', 'load', 'load 1 2', 'load 1 2 3 4', 'find 1', 'find 1 -', 'overtake 1', 'overtake 1 2 3',

@@ -776,7 +776,7 @@ owned pop-max; owned clear; owned flush; owned id; owned drop NAME
 names; tree NAME; old-tree NAME; drop NAME; id; import NAME K V ..; import-type TYPE NAME K V ..; import-all TYPE NAME K V .. ; ..
 update K HOW; fetch K HOW; owned update K HOW; owned fetch K HOW
 watch P; next N; unwatch N; owned watch P; owned next N; owned unwatch N"""
-# What the program `crowd` knows beside the lines of `sledrun` and reads that take no slot: many calls at once.
+# What the program `test_crowd` knows beside the lines of `sledrun` and reads that take no slot: many calls at once.
 CROWD = """run STEP, ..; reads; load N MOST ALL; find N PAGES; overtake N COUNT; pages; turns N; new; drop NAME; why
 insert K V; get K; remove K; cas K OLD NEW; begin insert K V; begin get K; begin remove K; begin cas K OLD NEW
 step N; finish N; abandon N; batch K NEW ..; flush; crash N; dump; tree NAME

@@ -1,6 +1,7 @@
-"""Checks what `thread_rounds` prints (crates/thread_rounds/src/main.rs says which lines there are). Plain maps make the calls of a history once
+"""Checks what `test_rounds` prints (crates/test_rounds/src/main.rs says which lines there are). Plain maps make the calls of a history once
 more, and what each caller was told is compared with that. Keys and values stay as they are spelled, since no two spell the same bytes."""
 import bisect
+import collections
 import functools
 import itertools
 import re
@@ -9,6 +10,10 @@ import re
 NUMBERS = 2**64
 # The tree whose merge operator adds.
 FIRST = "__sled__default"
+# So many events wait for a subscriber at most.
+WAITING = 1024
+# What one gets for which none waits.
+NOTHING = ["event", "-"]
 # What a step of a call answers that goes on.
 GOES_ON = ("moved", "pair")
 # How it begins what is wrong with a line of another form.
@@ -52,12 +57,33 @@ def is_within(key, bounds):
     return above and (high == "all" or bytes_of(key) < bytes_of(hi) or high == "from" and hi == key)
 
 
+class Queue:
+    """What waits for a subscriber to the keys that begin with a prefix, and how many events it missed."""
+
+    def __init__(self, prefix):
+        self.prefix, self.missed, self.events = bytes_of(prefix), 0, collections.deque()
+
+    def add(self, key, event):
+        if not bytes_of(key).startswith(self.prefix):
+            return
+        if len(self.events) == WAITING:
+            self.events.popleft()
+            self.missed += 1
+        self.events.append(event)
+
+    def take(self):
+        if self.missed:
+            missed, self.missed = self.missed, 0
+            return ["event", "missed", str(missed)]
+        return self.events.popleft() if self.events else NOTHING
+
+
 class Tree:
-    """A tree of one opening: its pairs now, and what each key had since when. States are numbered: that before the history is 0, and that behind
-    its first entry 1."""
+    """A tree of one opening: its pairs now, what each key had since when, and its subscribers' queues. States are numbered: that before the
+    history is 0, and that behind its first entry 1."""
 
     def __init__(self, name, number, born, pairs=()):
-        self.name, self.number, self.born, self.died, self.pairs = name, number, born, None, dict(pairs)
+        self.name, self.number, self.born, self.died, self.pairs, self.queues = name, number, born, None, dict(pairs), {}
         self.log = {key: [(born, value)] for key, value in self.pairs.items()}
 
     def keys(self):
@@ -69,6 +95,9 @@ class Tree:
         else:
             self.pairs[key] = value
         self.log.setdefault(key, []).append((state, value))
+        event = ["event", "remove", key] if value == "-" else ["event", "insert", key, value]
+        for queue in self.queues.values():
+            queue.add(key, event)
 
     def values(self, key, first, last):
         """What a key had in the states from the first to the last, one after the other; `-` is nothing."""
@@ -90,6 +119,8 @@ class Maps:
     def __init__(self, pairs, last_id):
         self.trees = {name: Tree(name, None, 0, found) for name, found in pairs.items()}
         self.numbers, self.state, self.last_id = {}, 0, last_id
+        # How many subscribers there were, the queues of those that are left, and what was taken in the entry behind which a state is.
+        self.subscribers, self.queues, self.taken = 0, {}, {}
         # What a crash may leave: all maps since the last flush.
         self.left = [self.image()]
 
@@ -100,9 +131,13 @@ class Maps:
         """A tree by its name and its number. Those of an opening tell their numbers as they are named first."""
         tree = self.trees.get(name)
         if tree and tree.number is None and (name, number) not in self.numbers:
-            tree.number, self.numbers[name, number] = number, tree
+            self.give_number(tree, number)
         require((name, number) in self.numbers, "nobody opened the tree", name, number)
         return self.numbers[name, number]
+
+    def give_number(self, tree, number):
+        require(all(number != other for _, other in self.numbers), "the number", number, "of a tree is given twice")
+        tree.number, self.numbers[tree.name, number] = number, tree
 
     def living(self, name, number):
         tree = self.named(name, number)
@@ -123,6 +158,11 @@ class Maps:
     def put(self, tree, key, value):
         tree.put(self.state, key, value)
 
+    def write(self, tree, key, value):
+        """The same, but nothing happens where this is there already."""
+        if tree.pairs.get(key, "-") != value:
+            self.put(tree, key, value)
+
     def make_get(self, name, number, key):
         return ["value", self.living(name, number).pairs.get(key, "-")]
 
@@ -131,7 +171,7 @@ class Maps:
     def make_insert(self, name, number, key, value):
         tree = self.living(name, number)
         old = tree.pairs.get(key, "-")
-        self.put(tree, key, value)
+        self.write(tree, key, value)
         return ["value", old]
 
     def make_remove(self, name, number, key):
@@ -179,7 +219,7 @@ class Maps:
         for _ in range(int(count)):
             tree = self.living(next(words), next(words))
             for _ in range(int(next(words))):
-                self.put(tree, next(words), next(words))
+                self.write(tree, next(words), next(words))
         return ["done"]
 
     def make_transaction(self, count, *words):
@@ -189,8 +229,35 @@ class Maps:
             writes += [(tree, next(words), next(words)) for _ in range(int(next(words)))]
         stood = [tree.pairs.get(key, "-") for tree, key, _ in writes]
         for write in writes:
-            self.put(*write)
+            self.write(*write)
         return ["stood", *stood]
+
+    def make_import(self, *words):
+        """Opens trees and puts pairs into them, part by part, up to one that is there."""
+        for parts, (name, *pair) in enumerate(parts_of(words)):
+            tree = self.trees.setdefault(name, Tree(name, None, self.state))
+            if pair:
+                if pair[0] in tree.pairs:
+                    return ["parts", str(parts)]
+                self.put(tree, *pair)
+            self.left.append(self.image())
+        return ["done"]
+
+    def make_watch(self, name, number, prefix):
+        tree, self.subscribers = self.living(name, number), self.subscribers + 1
+        self.queues[str(self.subscribers)] = tree.queues[str(self.subscribers)] = Queue(prefix)
+        return ["subscriber", str(self.subscribers)]
+
+    def make_next(self, subscriber):
+        queue = self.queues.get(subscriber)
+        self.taken[self.state] = queue.take() if queue else NOTHING
+        return ["done"]
+
+    def make_unsubscribe(self, subscriber):
+        for tree in self.numbers.values():
+            tree.queues.pop(subscriber, None)
+        self.queues.pop(subscriber, None)
+        return ["done"]
 
     def make_flush(self):
         return ["number", None]
@@ -263,8 +330,8 @@ class Maps:
         if tree:
             require(self.named(name, number) is tree, "the tree", name, "has not the number", number)
             return
-        require(all(number != other for _, other in self.numbers), "the number", number, "of a tree is given twice")
-        self.trees[name] = self.numbers[name, number] = Tree(name, number, self.state)
+        self.trees[name] = Tree(name, None, self.state)
+        self.give_number(self.trees[name], number)
         self.left.append(self.image())
 
 
@@ -275,6 +342,16 @@ def words_of(image):
         keys = sorted(image[name], key=bytes_of)
         words += [name, str(len(keys)), *itertools.chain(*((key, image[name][key]) for key in keys))]
     return words
+
+
+def parts_of(words):
+    """The parts of an import: the name of a tree that is opened, or that and a pair."""
+    words = iter(words)
+    for _ in range(int(next(words))):
+        name, count = next(words), int(next(words))
+        yield (name,)
+        for _ in range(count):
+            yield name, next(words), next(words)
 
 
 def image_of(words):
@@ -372,6 +449,8 @@ class Opening:
     def made_by(self, event):
         """What a call should have come to the history as; a function says it of one whose entry is not known from this alone."""
         call, answer = event.call, event.answer
+        if call[0] == "import" and answer[0] == "refused":
+            return [lambda made: made[0] == call and made[1][0] == "parts"]
         if answer[0] in ("refused", "abandoned") or answer == ["no", "slot"] or call[0] == "begin":
             return []
         if call[0] == "step":
@@ -379,13 +458,11 @@ class Opening:
             return [] if answer[0] == "moved" or made[0] == "scan" else [(made, answer)]
         if call[0] in ("update", "fetch"):
             return [functools.partial(is_fetch, call, answer)]
-        if call[0] == "transfer":
-            (tree, (source, target, flushes)), value = (call[1:3], call[3:]), answer[1]
-            writes = {target: value} if source == target else {source: "-", target: value}
-            words = itertools.chain(*((key, writes[key]) for key in sorted(writes, key=bytes_of)))
-            wrote = functools.partial(is_transaction, ["transaction", "1", *tree, str(len(writes)), *words])
-            return [wrote, lambda made: made[0] == ["flush"]] if flushes == "yes" else [wrote]
-        return [(call, answer)]
+        if call[0] in ("transfer", "exchange"):
+            wrote = transfer_of(call, answer) if call[0] == "transfer" else exchange_of(call, answer)
+            return [wrote, is_flush] if call[-1] == "yes" else [wrote]
+        require(call[0] != "id_inside", "a transaction took an id:", event)
+        return [(call, ["done"] if call[0] == "next" else answer)]
 
     def match_all(self):
         """Each caller's calls are its entries, in order. Sets the event of each entry."""
@@ -409,6 +486,8 @@ class Opening:
             if event.call[0] == "transfer" and last is None:
                 stood = self.maps.named(*event.call[1:3]).values(event.call[3], at, at)
                 require(stood == [event.answer[1]], "a transaction read what did not stand there:", event)
+            if event.call[0] == "next":
+                require(event.answer == self.maps.taken[at + 1], "not that was next for the subscriber, but", self.maps.taken[at + 1], event)
             self.event_of[at], last = event, at
 
     def check_numbers(self):
@@ -449,9 +528,9 @@ class Opening:
 
     def check_refusal(self, event):
         call = self.slots[event.call[1]].call if event.call[0] == "step" else event.call[event.call[0] == "begin" :]
-        require(call[0] not in ("flush", "id", "names", "export", "open", "drop"), "a refusal:", event)
+        require(call[0] not in ("flush", "id", "names", "export", "open", "drop", "next", "unsubscribe"), "a refusal:", event)
         if event.answer == ["refused", "E2"]:
-            require(call[0] == "merge" and call[1] != FIRST, "there is an operator:", event)
+            require(call[0] in ("import", "id_inside") or call[0] == "merge" and call[1] != FIRST, "there is an operator:", event)
             return
         require(event.answer == ["refused", "E1"], "a refusal:", event)
         trees = list(trees_in(call))
@@ -462,7 +541,8 @@ class Opening:
         for event in self.events:
             if event.answer[0] == "refused":
                 self.check_refusal(event)
-            elif event.call[0] == "transfer" and event.answer[0] == "abandoned":
+            elif event.answer[0] == "abandoned" and event.call[0] != "abandon":
+                require(event.call[0] == "transfer", event, "is no answer")
                 values = self.values(self.maps.named(*event.call[1:3]), event.call[3], event.before, event.after)
                 require("-" in values, "there was a value:", event)
 
@@ -515,6 +595,25 @@ def is_fetch(call, answer, made):
     return swap[5] == added(swap[4], int(more)) and answer == ["value", swap[5 if kind == "update" else 4]]
 
 
+def transfer_of(call, answer):
+    """What a transaction wrote that moved a value from one key to another."""
+    (tree, (source, target)), value = (call[1:3], call[3:5]), answer[1]
+    writes = {target: value} if source == target else {source: "-", target: value}
+    words = itertools.chain(*((key, writes[key]) for key in sorted(writes, key=bytes_of)))
+    return functools.partial(is_transaction, ["transaction", "1", *tree, str(len(writes)), *words])
+
+
+def exchange_of(call, answer):
+    """The entry of a transaction of two trees, each of which got what the other had at a key."""
+    one, other, key, (first, second) = call[1:3], call[3:5], call[5], answer[1:]
+    return ["transaction", "2", *one, "1", key, second, *other, "1", key, first], ["stood", first, second]
+
+
+def is_flush(made):
+    """Whether an entry is that of a flush."""
+    return made[0] == ["flush"]
+
+
 def is_transaction(call, made):
     """Whether an entry is that of a transaction that wrote this. What was there is compared with the maps."""
     return made[0] == call
@@ -524,6 +623,8 @@ def trees_in(call):
     """The trees that a call names."""
     if call[0] not in ("group", "transaction"):
         yield tuple(call[1:3])
+        if call[0] == "exchange":
+            yield tuple(call[3:5])
         return
     words = iter(call[2:])
     for _ in range(int(call[1])):
@@ -536,7 +637,7 @@ class Checker:
     """Reads the lines one after the other."""
 
     def __init__(self):
-        self.last_id, self.opening, self.by, self.left, self.counts = 0, None, None, None, {"openings": 0, "calls": 0, "entries": 0, "pairs": 0}
+        self.last_id, self.opening, self.by, self.left, self.counts = 0, None, None, None, {"openings": 0, "calls": 0, "entries": 0, "pairs": 0, "events": 0, "missed": 0}
 
     def read(self, line):
         words = line.split(" ")
@@ -567,7 +668,9 @@ class Checker:
         opening.check(left)
         self.left, self.last_id = opening.maps.left, opening.maps.last_id
         given = sum(event.answer[0] == "pair" for slot in opening.slots.values() for event in slot.steps if slot.call[0] == "scan")
-        for name, more in (("openings", 1), ("calls", len(opening.events)), ("entries", len(opening.history)), ("pairs", given)):
+        heard = [event.answer for event in opening.events if event.call[0] == "next" and event.answer != NOTHING]
+        missed = sum(int(answer[2]) for answer in heard if answer[1] == "missed")
+        for name, more in (("openings", 1), ("calls", len(opening.events)), ("entries", len(opening.history)), ("pairs", given), ("events", len(heard)), ("missed", missed)):
             self.counts[name] += more
 
     def open(self, image):

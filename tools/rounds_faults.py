@@ -1,7 +1,7 @@
-"""Faults that are planted in lines of `thread_rounds`, each of which the checker (rounds.py) has to refuse."""
+"""Faults that are planted in lines of `test_rounds`, each of which the checker (rounds.py) has to refuse."""
 import re
 
-from rounds import UNREAD, Wrong, check, image_of, require, words_of
+from rounds import UNREAD, WAITING, Wrong, check, image_of, require, word_of, words_of
 
 # Two callers, one after the other.
 TWO_CALLERS = """id 1
@@ -18,6 +18,51 @@ crash 9
 id 2
 opened 1 __sled__default 1 a 1
 """
+# The first caller watches a tree, gives it a value of another one, and imports into it; the second one sees that.
+TWO_TREES = """id 1
+opened 1 __sled__default 0
+caller 1 kept
+1 insert __sled__default 1 a 1 = 2 value -
+3 open s = 4 tree s 2
+5 watch s 2 % = 6 subscriber 1
+7 exchange __sled__default 1 s 2 a no = 8 both 1 -
+9 import 1 s 2 b 2 c 3 = 10 done
+11 id_inside s 2 a = 12 refused E2
+caller 2 kept
+13 export = 14 all 2 __sled__default 0 s 3 a 1 b 2 c 3
+15 next 1 = 16 event insert a 1
+17 next 1 = 18 event insert b 2
+19 id = 20 number 2
+gathered
+entry 1 insert __sled__default 1 a 1 = value -
+entry 1 open s = tree s 2
+entry 1 watch s 2 % = subscriber 1
+entry 1 transaction 2 __sled__default 1 1 a - s 2 1 a 1 = stood 1 -
+entry 1 import 1 s 2 b 2 c 3 = done
+entry 2 export = all 2 __sled__default 0 s 3 a 1 b 2 c 3
+entry 2 next 1 = done
+entry 2 next 1 = done
+entry 2 id = number 2
+left 2 __sled__default 0 s 3 a 1 b 2 c 3
+crash 9
+id 3
+opened 2 __sled__default 0 s 3 a 1 b 2 c 3
+"""
+
+
+def many_events(count):
+    """Lines of a caller that watches a tree, and then writes so often before it takes the first events."""
+    calls = [("watch __sled__default 1 %", "subscriber 1")]
+    calls += [(f"merge __sled__default 1 a {word_of(1)}", f"value {word_of(number)}") for number in range(1, count + 1)]
+    calls += [("next 1", f"event missed {count - WAITING}"), ("next 1", f"event insert a {word_of(count - WAITING + 1)}")]
+    lines = ["id 1", "opened 1 __sled__default 0", "caller 1 kept"]
+    lines += [f"{2 * at + 1} {call} = {2 * at + 2} {answer}" for at, (call, answer) in enumerate(calls)]
+    lines += ["gathered", *(f"entry 1 {call} = {'done' if call == 'next 1' else answer}" for call, answer in calls)]
+    left = f"1 __sled__default 1 a {word_of(count)}"
+    return "".join(line + "\n" for line in [*lines, f"left {left}", "crash 9999", "id 2", f"opened {left}"])
+
+
+MANY_EVENTS = many_events(WAITING + 3)
 # A value that no caller writes.
 OTHER = "%00%00%01%00%00%00%00%07"
 
@@ -202,9 +247,63 @@ def lose_handle(lines):
     lines.replace("caller 2 kept", "caller 2 lost")
 
 
-# Faults in lines that were printed, and those in the lines of two callers.
+def see_half(lines):
+    """A caller saw what a transaction took from one tree, and not what it gave the other."""
+    lines.turn_both(r"\d+ export = .*", "s 3 a 1 b 2 c 3", "s 2 b 2 c 3")
+
+
+def commit_half(lines):
+    """The entry of a transaction has only what it wrote to the first tree."""
+    lines.replace("(entry 1 transaction) 2 (.*) s 2 1 a 1 = stood 1 -", r"\1 1 \2 = stood 1")
+
+
+def crash_amid(lines):
+    """A crash left what a transaction took from one tree, and not what it gave the other."""
+    lines.replace("opened 2 .*", "opened 2 __sled__default 0 s 0")
+
+
+def lose_imported(lines):
+    """Nobody ever saw a pair of an import."""
+    lines.lines = [line if " import " in line else line.replace("s 3 a 1 b 2 c 3", "s 2 a 1 b 2") for line in lines.lines]
+
+
+def repeat_event(lines):
+    lines.replace("(.*) event insert b 2", r"\1 event insert a 1")
+
+
+def lose_event(lines):
+    lines.replace("(.*) event insert b 2", r"\1 event insert c 3")
+    lines.replace("(.*) event insert a 1", r"\1 event insert b 2")
+
+
+def swap_events(lines):
+    repeat_event(lines)
+    lines.replace("(.*) event insert a 1", r"\1 event insert b 2")
+
+
+def hear_nothing(lines):
+    lines.replace("(.*) event insert b 2", r"\1 event -")
+
+
+def miscount(lines):
+    lines.replace("(.*) event missed 3", r"\1 event missed 2")
+
+
+def give_id_twice(lines):
+    lines.turn_both(r"\d+ id = .*", "number 2", "number 1")
+
+
+def take_id_inside(lines):
+    lines.replace("(.* id_inside .*) refused E2", r"\1 number 2")
+
+
+# Faults in lines that were printed, and in those that were written by hand.
 PRINTED = [change_reply, change_entry, change_answer, move_entry, drop_entry, double_entry, drop_call, give_away, drop_pair, change_crashed, forget_flush, repeat_id, repeat_id_after_crash, skip_pair, change_pair, repeat_pair, swap_pairs, lose_slot, end_slot_twice, refuse_call, read_another, abandon]
-BESIDE = [read_before, turn_clock, lose_handle]
+WRITTEN = {
+    TWO_CALLERS: [read_before, turn_clock, lose_handle],
+    TWO_TREES: [see_half, commit_half, crash_amid, lose_imported, repeat_event, lose_event, swap_events, hear_nothing, give_id_twice, take_id_inside],
+    MANY_EVENTS: [miscount],
+}
 
 
 def is_refused(text, fault):
@@ -220,6 +319,6 @@ def is_refused(text, fault):
 
 def planted(text):
     """Of each fault, by its name, whether the checker refuses it; and of none whether it accepts the lines."""
-    refused = {"none, in lines that were printed": check(text)[0] is None, "none, in those of two callers": check(TWO_CALLERS)[0] is None}
-    refused |= {fault.__name__: is_refused(text, fault) for fault in PRINTED}
-    return refused | {fault.__name__: is_refused(TWO_CALLERS, fault) for fault in BESIDE}
+    texts = {text: PRINTED, **WRITTEN}
+    refused = {f"none, in text {number}": check(text)[0] is None for number, text in enumerate(texts, 1)}
+    return refused | {fault.__name__: is_refused(text, fault) for text, faults in texts.items() for fault in faults}

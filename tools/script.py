@@ -23,8 +23,8 @@ def case(function):
 
 
 def crowd_case(function):
-    """The same for a file that the program `crowd` runs."""
-    CASES.append(('crowd', function))
+    """The same for a file that the program `test_crowd` runs."""
+    CASES.append(('test_crowd', function))
     return function
 
 
@@ -444,7 +444,7 @@ class Script:
 
     def __init__(self, name, sentence, program='sledsh'):
         self.name, self.program, self.plain = name, program, Plain()
-        self.shell = Shell(CROWD if program == 'crowd' else FORMS)
+        self.shell = Shell(CROWD if program == 'test_crowd' else FORMS)
         self.shell.heard = self.compare
         self.text, self.wanted = [], []
         self.reached = dict(self.shell.store.notes)
@@ -464,7 +464,7 @@ class Script:
         printed = self.shell.run(line)
         self.text.append(line)
         self.wanted += printed
-        if self.program == 'crowd' or not line.startswith('run '):
+        if self.program == 'test_crowd' or not line.startswith('run '):
             self.compare(line, printed)
         return printed
 
@@ -598,5 +598,5 @@ def write_all(only=()):
         script.write()
         seldom = ', '.join(sorted(n for n, c in script.store.notes.items() if c))
         print(f'{script.name}: {len(script.text)} lines; {seldom}', file=sys.stderr)
-    for program in 'sledsh', 'crowd':
+    for program in 'sledsh', 'test_crowd':
         write_names(program)

@@ -3,8 +3,8 @@ ghost use Rattle.sled_model.specs.State.{IsOnKey};
 
 use crate::pairs::{Pairs, digest};
 use line_words::input::Stopped;
+use machine_alone::Machine;
 use sled::{Batch, Db, Iter};
-use sled_calls::Machine;
 use sled_model::{Call, MergeOperator, Outcome, Reply, Slot, Tree, Whole};
 use sled_nodes::IVec;
 use sled_pages::MemPages;

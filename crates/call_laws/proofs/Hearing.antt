@@ -38,11 +38,11 @@ use Rattle.sled.specs.Watch.{WatchesDb}
 use Rattle.sled.proofs.Flushing.{stays_state}
 use Rattle.sled.proofs.Removing.{drop_decided}
 use Rattle.sled.proofs.Resting.{flushed_now, rests_only_faults, rests_now}
-use Rattle.sled_calls.specs.Hears.{queues_at, turns_of_step, IsCopyOfTree}
-use Rattle.sled_calls.specs.Step.{MachineStep}
-use Rattle.sled_calls.specs.Values.{MachineValue, configuration_of, slots_of}
-use Rattle.sled_shared.specs.Made.{MadeValue}
-use Rattle.sled_shared.specs.WholeNotes.{noted_whole}
+use Rattle.machine_alone.specs.Hears.{queues_at, turns_of_step, IsCopyOfTree}
+use Rattle.machine_alone.specs.Step.{MachineStep}
+use Rattle.machine_alone.specs.Values.{MachineValue, configuration_of, slots_of}
+use Rattle.machine_shared.specs.Made.{MadeValue}
+use Rattle.machine_shared.specs.WholeNotes.{noted_whole}
 use Rattle.call_laws.specs.Calls.{DbCall, DidPoint, PointStopped, FetchStopped, DidWhole, WholeStopped, Flushed, FlushStopped, DidGroup, GroupStopped, Imported, ImportStopped, Dropped, DropStopped, GaveId, IdStopped, TookIds, SetOperator, OperatorStopped, Watched, WatchStopped, ToldNext, Unsubscribed, MachineCall, Stepped, Did, Stopped, Called, MakesCalls, NoCall, OneCall, IsOfSlot}
 use Rattle.call_laws.specs.Hears.{IsKept, KeepsTree, turns_before, turns_of_db, turns_of_machine, told_by_db, told_by, turns_of_calls, told_to, BringsBoth, HearsLaw}
 use Rattle.call_laws.proofs.Heard.{Heard, all_kept, all_stay, nothing_told, when, by_step, both, beside, rests, stands, told_again, point, writes, parts, stops, operated}

@@ -40,29 +40,29 @@ use Rattle.sled.proofs.Removing.{drop_decided, drop_refused}
 use Rattle.sled.proofs.Resting.{flushed_now, rests_only_faults, rests_now, rests_extends}
 use Rattle.sled.proofs.Trees.{maps_are}
 use Rattle.sled.proofs.Subscribing.{watch_decided, watch_refused, next_decided, unsubscribe_decided}
-use Rattle.sled_calls.specs.CrashMaps.{AreCrashMaps, crash_maps_after}
-use Rattle.sled_calls.specs.Ids.{RiseBetween}
-use Rattle.sled_calls.specs.Kept.{CountsParts}
-use Rattle.sled_calls.specs.Step.{MachineStep}
-use Rattle.sled_calls.specs.Values.{MachineValue, configuration_of, slots_of}
-use Rattle.sled_calls.proofs.Rising.{at_most}
-use Rattle.sled_calls.proofs.Runs.{extended}
-use Rattle.sled_shared.specs.Crashes.{LeadsNoMore}
-use Rattle.sled_shared.specs.History.{IsLegal, NoEntries, MakesPoint, ids_made, maps_from}
-use Rattle.sled_shared.specs.Made.{MadeValue, PointMade, WholeMade}
-use Rattle.sled_shared.specs.Notes.{noted_in}
-use Rattle.sled_shared.specs.Moments.{LastMoment}
-use Rattle.sled_shared.specs.Sound.{CrashLeaves, maps_now}
-use Rattle.sled_shared.specs.WholeNotes.{noted_whole, noted_with}
-use Rattle.sled_shared.specs.Wholes as value
-use Rattle.sled_shared.proofs.Fetching.{point_made}
-use Rattle.sled_shared.proofs.Ids.{longer_rises, none_risen, step_risen, begun_risen, abandoned_risen, came_risen, parts_ids}
-use Rattle.sled_shared.proofs.Legal.{maps_same}
-use Rattle.sled_shared.proofs.Opening.{opened}
-use Rattle.sled_shared.proofs.Moments.{GoesOn}
-use Rattle.sled_shared.proofs.Leading.{Ends, tested, adds, goes, matched, led, ends, still, rests, none_added, step_leaves, begun_leaves, unbegun_leaves, abandon_leaves, entry, decided_whole, group_stops, import_refused, refused_whole, legal_of}
-use Rattle.sled_shared.proofs.WholeMakes.{have_maps, writes, parts}
-use Rattle.sled_shared.proofs.WholeTests.{pass_each}
+use Rattle.machine_alone.specs.CrashMaps.{AreCrashMaps, crash_maps_after}
+use Rattle.machine_alone.specs.Ids.{RiseBetween}
+use Rattle.machine_alone.specs.Kept.{CountsParts}
+use Rattle.machine_alone.specs.Step.{MachineStep}
+use Rattle.machine_alone.specs.Values.{MachineValue, configuration_of, slots_of}
+use Rattle.machine_alone.proofs.Rising.{at_most}
+use Rattle.machine_alone.proofs.Runs.{extended}
+use Rattle.machine_shared.specs.Crashes.{LeadsNoMore}
+use Rattle.machine_shared.specs.History.{IsLegal, NoEntries, MakesPoint, ids_made, maps_from}
+use Rattle.machine_shared.specs.Made.{MadeValue, PointMade, WholeMade}
+use Rattle.machine_shared.specs.Notes.{noted_in}
+use Rattle.machine_shared.specs.Moments.{LastMoment}
+use Rattle.machine_shared.specs.Sound.{CrashLeaves, maps_now}
+use Rattle.machine_shared.specs.WholeNotes.{noted_whole, noted_with}
+use Rattle.machine_shared.specs.Wholes as value
+use Rattle.machine_shared.proofs.Fetching.{point_made}
+use Rattle.machine_shared.proofs.Ids.{longer_rises, none_risen, step_risen, begun_risen, abandoned_risen, came_risen, parts_ids}
+use Rattle.machine_shared.proofs.Legal.{maps_same}
+use Rattle.machine_shared.proofs.Opening.{opened}
+use Rattle.machine_shared.proofs.Moments.{GoesOn}
+use Rattle.machine_shared.proofs.Leading.{Ends, tested, adds, goes, matched, led, ends, still, rests, none_added, step_leaves, begun_leaves, unbegun_leaves, abandon_leaves, entry, decided_whole, group_stops, import_refused, refused_whole, legal_of}
+use Rattle.machine_shared.proofs.WholeMakes.{have_maps, writes, parts}
+use Rattle.machine_shared.proofs.WholeTests.{pass_each}
 use Rattle.call_laws.specs.Calls.{DbCall, DidPoint, PointStopped, FetchStopped, DidWhole, WholeStopped, Flushed, FlushStopped, DidGroup, GroupStopped, Imported, ImportStopped, Dropped, DropStopped, GaveId, IdStopped, TookIds, SetOperator, OperatorStopped, Watched, WatchStopped, ToldNext, Unsubscribed, MachineCall, Stepped, Did, Stopped, Called, MakesCalls, NoCall, OneCall, IsOfSlot, made_by_step, owned, IsRecord, LeavesBefore, alone}
 use Rattle.call_laws.specs.Laws.{RecordLaw, JoinedLaw}
 

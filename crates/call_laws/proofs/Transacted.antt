@@ -14,8 +14,8 @@ use Rattle.tree_transactions.specs.declared.trees.TransactionalTrees.{Transactio
 use Rattle.sled_queues.specs.Events.{Turn}
 use Rattle.sled.specs.Transactions.{flushes_as, MakesWrites, Commits, Stops, ByTest, ByClosure, ByGroup, ByFlush, Fails}
 use Rattle.sled.specs.Values.{DbValue}
-use Rattle.sled_calls.specs.Values.{MachineValue}
-use Rattle.sled_shared.specs.Made.{MadeValue}
+use Rattle.machine_alone.specs.Values.{MachineValue}
+use Rattle.machine_shared.specs.Made.{MadeValue}
 use Rattle.call_laws.specs.Calls.{TookIds, DidGroup, GroupStopped, Flushed, FlushStopped, Called, MakesCalls, NoCall, OneCall}
 use Rattle.call_laws.specs.Hears.{turns_of_group, BringsAlone}
 use Rattle.call_laws.specs.Laws.{committed, made_before_stop, uncommitted, turns_before_stop, turns_uncommitted, TransactionLaw, ListLaw}

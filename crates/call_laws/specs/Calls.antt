@@ -31,16 +31,16 @@ use Rattle.sled.specs.Parts.{ImportRefusedAfter}
 use Rattle.sled.specs.Transactions.{TakesIds}
 use Rattle.sled.specs.Values.{DbValue, db_state}
 use Rattle.sled.specs.Watch.{WatchesDb, RefusesWatch, TakesFromDb, EndsSubscriber}
-use Rattle.sled_calls.specs.Ids.{RiseBetween}
-use Rattle.sled_calls.specs.Kept.{CountsParts}
-use Rattle.sled_calls.specs.Step.{MachineStep}
-use Rattle.sled_calls.specs.Values.{MachineValue, slots_of}
-use Rattle.sled_shared.specs.History.{IsLegal, maps_from, ids_made}
-use Rattle.sled_shared.specs.Made.{MadeValue, PointMade, WholeMade, EntryValue}
-use Rattle.sled_shared.specs.Notes.{entries_of, noted_in}
-use Rattle.sled_shared.specs.Sound.{IsOpen, maps_now, CrashLeaves}
-use Rattle.sled_shared.specs.Wholes as value
-use Rattle.sled_shared.specs.WholeNotes.{noted_whole, noted_with}
+use Rattle.machine_alone.specs.Ids.{RiseBetween}
+use Rattle.machine_alone.specs.Kept.{CountsParts}
+use Rattle.machine_alone.specs.Step.{MachineStep}
+use Rattle.machine_alone.specs.Values.{MachineValue, slots_of}
+use Rattle.machine_shared.specs.History.{IsLegal, maps_from, ids_made}
+use Rattle.machine_shared.specs.Made.{MadeValue, PointMade, WholeMade, EntryValue}
+use Rattle.machine_shared.specs.Notes.{entries_of, noted_in}
+use Rattle.machine_shared.specs.Sound.{IsOpen, maps_now, CrashLeaves}
+use Rattle.machine_shared.specs.Wholes as value
+use Rattle.machine_shared.specs.WholeNotes.{noted_whole, noted_with}
 
 -- the machine over a database on which no call is in flight
 abbrev pub alone : {P M : Type 0} → DbValue P M → MachineValue P M

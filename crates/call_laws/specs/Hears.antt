@@ -26,10 +26,10 @@ use Rattle.sled.specs.Imports.{ImportStops}
 use Rattle.sled.specs.Sound.{IsDb}
 use Rattle.sled.specs.Values.{DbValue, db_state, configuration_of}
 use Rattle.sled.specs.Watch.{WatchesDb}
-use Rattle.sled_calls.specs.Hears.{queues_at, turns_of_step, IsCopyOfTree}
-use Rattle.sled_calls.specs.Values.{MachineValue}
-use Rattle.sled_shared.specs.Made.{MadeValue, WholeMade}
-use Rattle.sled_shared.specs.Wholes as value
+use Rattle.machine_alone.specs.Hears.{queues_at, turns_of_step, IsCopyOfTree}
+use Rattle.machine_alone.specs.Values.{MachineValue}
+use Rattle.machine_shared.specs.Made.{MadeValue, WholeMade}
+use Rattle.machine_shared.specs.Wholes as value
 use Rattle.call_laws.specs.Calls.{DbCall, DidPoint, DidWhole, WholeStopped, DidGroup, Imported, ImportStopped, Watched, ToldNext, Unsubscribed, MachineCall, Stepped, Did, Stopped, Called, MakesCalls, NoCall, OneCall}
 
 -- of what was made nothing drops the subscriber

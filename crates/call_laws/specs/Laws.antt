@@ -17,9 +17,9 @@ use Rattle.tree_transactions.specs.declared.errors.TransactionError.TheVariants.
 use Rattle.sled.specs.Transactions.{Stops, ByTest, ByClosure, ByGroup, ByFlush, Fails, TransactionMade, TransactionNotMade, ListMade, ListNotMade, has_trees}
 use Rattle.sled_queues.specs.Events.{Turn}
 use Rattle.sled.specs.Values.{DbValue}
-use Rattle.sled_calls.specs.Values.{MachineValue}
-use Rattle.sled_shared.specs.Made.{MadeValue, WholeMade}
-use Rattle.sled_shared.specs.Wholes as value
+use Rattle.machine_alone.specs.Values.{MachineValue}
+use Rattle.machine_shared.specs.Made.{MadeValue, WholeMade}
+use Rattle.machine_shared.specs.Wholes as value
 use Rattle.call_laws.specs.Calls.{MakesCalls, IsRecord}
 use Rattle.call_laws.specs.Hears.{turns_of_group, BringsAlone}
 

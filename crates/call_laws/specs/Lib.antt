@@ -10,5 +10,5 @@ pub use Rattle.tree_laws.specs as tree_laws
 pub use Rattle.tree_pages.specs as tree_pages
 pub use Rattle.tree_transactions.specs as tree_transactions
 pub use Rattle.sled.specs as sled
-pub use Rattle.sled_calls.specs as sled_calls
-pub use Rattle.sled_shared.specs as sled_shared
+pub use Rattle.machine_alone.specs as machine_alone
+pub use Rattle.machine_shared.specs as machine_shared

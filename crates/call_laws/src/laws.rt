@@ -4,7 +4,7 @@ ghost use Rattle.sled_store.specs.Store.{now};
 ghost use Rattle.tree_laws.specs.Contents.{trees_of};
 ghost use Rattle.tree_pages.specs.Export.{collections};
 ghost use Rattle.sled_model.specs.Maps.{Maps};
-ghost use Rattle.sled_shared.specs.History.{maps_from};
+ghost use Rattle.machine_shared.specs.History.{maps_from};
 ghost use Rattle.call_laws.specs.Calls.{alone, IsRecord, LeavesBefore};
 ghost use Rattle.call_laws.specs.Hears.{HearsLaw};
 ghost use Rattle.call_laws.specs.Laws.{JoinedLaw, ListLaw, RecordLaw, TransactionLaw};

@@ -9,9 +9,9 @@
 //! that the list gives in its order. The reply of each call on a key is the map's at its place, but that a merge wrote what its operator
 //! answered. What was refused changes no map, but for the parts of a clear or an import. Ids rise. A crash leaves the maps after the last
 //! flush in the list, or after a later call; if the list has no flush, also what a crash might have left before it began. The list is
-//! stated in the terms of a history that threads make (`sled_shared`), with one caller.
+//! stated in the terms of a history that threads make (`machine_shared`), with one caller.
 //!
-//! `law_hears` says what subscribers hear over any list of these calls (`specs/Hears`), as `sled_calls` says it of steps.
+//! `law_hears` says what subscribers hear over any list of these calls (`specs/Hears`), as `machine_alone` says it of steps.
 //!
 //! Nothing is done here: each law is a function whose contract a proof can use from its call on.
 #![tactic(auto)]

@@ -1,10 +1,10 @@
-//! What an author of a store writes to have lines run over it: here over the store of `store_examples`, of which a crash is known too.
+//! What an author of a store writes to have lines run over it: here over the store of `example_stores`, of which a crash is known too.
 #![tactic(auto)]
 
+use example_stores::LogPages;
 use sled_nodes::Result;
 use std::alloc::Global;
 use std::process::ExitCode;
-use store_examples::LogPages;
 use store_kit::{Trial, exercise};
 
 struct Logs;

@@ -2,7 +2,7 @@
 
 use crate::place::{Folder, Memory, Place};
 use line_words::print::Piece::Text;
-use shell_parts::home::Home;
+use shell_answers::home::Home;
 use shell_words::arguments::Arguments;
 use shell_words::choices::Drawing;
 use shell_words::operators::Operator;

@@ -8,7 +8,7 @@ mod place;
 use files::Files;
 use line_words::input::Stopped;
 use place::{Folder, Memory};
-use shell_lines::shell::run;
+use shell_answers::shell::run;
 use std::env;
 use std::io::{BufReader, BufWriter, IsTerminal, Write};
 use std::process::ExitCode;

@@ -16,8 +16,8 @@ use Rattle.sled_tree.specs.declared.flight.InFlight.{InFlight}
 use Rattle.tree_scans.specs.Scans.{waiting_in}
 use Rattle.move_laws.specs.Meant.{moves_bound}
 use Rattle.sled.specs.Flights.{call_in_flight_of}
-use Rattle.sled_calls.specs.Step.{MachineStepContract}
-use Rattle.sled_calls.specs.Values.{MachineValue, kept_at, slots_of, configuration_of}
+use Rattle.machine_alone.specs.Step.{MachineStepContract}
+use Rattle.machine_alone.specs.Values.{MachineValue, kept_at, slots_of, configuration_of}
 use Rattle.machine_laws.specs.Moves.{flights_of, IsSound, IsReached, Steps, MovesInARow, Begins, Moves, IsEnding, Ends, EndsLaw}
 use Rattle.machine_laws.proofs.Halving.{flying_there, reached_sound}
 use Rattle.machine_laws.proofs.Moving.{moves_law}

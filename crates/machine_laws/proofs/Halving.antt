@@ -40,11 +40,11 @@ use Rattle.tree_progress.proofs.Halves.{halves_law}
 use Rattle.tree_progress.specs.Steps.{HasHalves}
 use Rattle.sled.specs.Flights.{call_in_flight_of, WalksOn, follows_as, HasMore}
 use Rattle.sled.specs.Values.{db_state, snapshot_of_db}
-use Rattle.sled_calls.specs.Finish.{steps_of, outcomes_of, RunsToEnd, Completes}
-use Rattle.sled_calls.specs.Run.{MachineSteps, NoCalls, OneCall}
-use Rattle.sled_calls.specs.Step.{MachineStepContract, FollowsAt, slot_of}
-use Rattle.sled_calls.specs.StepsInSlot.{flight_after}
-use Rattle.sled_calls.specs.Values.{MachineValue, kept_at, slots_of, configuration_of}
+use Rattle.machine_alone.specs.Finish.{steps_of, outcomes_of, RunsToEnd, Completes}
+use Rattle.machine_alone.specs.Run.{MachineSteps, NoCalls, OneCall}
+use Rattle.machine_alone.specs.Step.{MachineStepContract, FollowsAt, slot_of}
+use Rattle.machine_alone.specs.StepsInSlot.{flight_after}
+use Rattle.machine_alone.specs.Values.{MachineValue, kept_at, slots_of, configuration_of}
 use Rattle.machine_laws.specs.Moves.{IsSound, IsReached, BeginsEmpty, Steps, Finishes, CompletesOne, Calls, MachineHalvesLaw}
 
 -- A page that is split and its left half tell the right half

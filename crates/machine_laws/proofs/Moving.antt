@@ -33,9 +33,9 @@ use Rattle.sled.proofs.Flying.{named_now}
 use Rattle.sled.proofs.Trees.{trees_at}
 use Rattle.sled.specs.Flights.{call_in_flight_of}
 use Rattle.sled.specs.Values.{db_state, named, numbers_of, given_to, snapshot_of_db}
-use Rattle.sled_calls.specs.Step.{MachineStepContract, FollowsAt}
-use Rattle.sled_calls.specs.StepsInSlot.{flight_after}
-use Rattle.sled_calls.specs.Values.{MachineValue, kept_at, slots_of, configuration_of}
+use Rattle.machine_alone.specs.Step.{MachineStepContract, FollowsAt}
+use Rattle.machine_alone.specs.StepsInSlot.{flight_after}
+use Rattle.machine_alone.specs.Values.{MachineValue, kept_at, slots_of, configuration_of}
 use Rattle.machine_laws.specs.Moves.{has_number, is_live, flights_in, flights_up_to, flights_of, IsSound, IsReached, MovesInARow, Begins, Moves, MovesLaw}
 use Rattle.machine_laws.proofs.SettingOff.{flight_of, SetsOff, sets_off}
 use Rattle.machine_laws.proofs.Halving.{flying_there, reached_sound, machine_halves_law}

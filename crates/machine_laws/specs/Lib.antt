@@ -9,4 +9,4 @@ pub use Rattle.move_laws.specs as move_laws
 pub use Rattle.tree_scans.specs as tree_scans
 pub use Rattle.tree_steps.specs as tree_steps
 pub use Rattle.sled.specs as sled
-pub use Rattle.sled_calls.specs as sled_calls
+pub use Rattle.machine_alone.specs as machine_alone

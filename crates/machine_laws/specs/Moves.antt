@@ -18,10 +18,10 @@ use Rattle.tree_progress.specs.Steps.{HasHalves}
 use Rattle.move_laws.specs.Meant.{Flight, flight, moves_bound}
 use Rattle.sled.specs.Sound.{IsDb}
 use Rattle.sled.specs.Values.{numbers_of, snapshot_of_db}
-use Rattle.sled_calls.specs.Finish.{RunsToEnd, Completes}
-use Rattle.sled_calls.specs.Sound.{IsMachine}
-use Rattle.sled_calls.specs.Step.{MachineStepContract}
-use Rattle.sled_calls.specs.Values.{MachineValue, kept_at}
+use Rattle.machine_alone.specs.Finish.{RunsToEnd, Completes}
+use Rattle.machine_alone.specs.Sound.{IsMachine}
+use Rattle.machine_alone.specs.Step.{MachineStepContract}
+use Rattle.machine_alone.specs.Values.{MachineValue, kept_at}
 
 -- whether the tree of a call is there: it has the number that the call has for it
 abbrev pub has_number : Option ℕ → ℕ → Bool

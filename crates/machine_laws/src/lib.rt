@@ -9,7 +9,7 @@
 //! of the time that a step takes.
 //!
 //! Nothing is done here. The laws are concluded from the public contract of a step of a machine alone (`MachineStepContract` of
-//! `sled_calls`).
+//! `machine_alone`).
 #![tactic(auto)]
 
 ghost use Rattle.machine_laws.specs.Moves.{EndsLaw, MachineHalvesLaw, MovesLaw};

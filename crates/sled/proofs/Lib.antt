@@ -15,6 +15,7 @@ pub mod Scanning
 pub mod Counting
 pub mod Popping
 pub mod Keeping
+pub mod Promising
 pub mod Fetching
 pub mod Naming
 pub mod Numbering

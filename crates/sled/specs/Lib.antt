@@ -8,6 +8,7 @@ pub mod Names
 pub mod Reads
 pub mod Flights
 pub mod Direct
+pub mod Promises
 pub mod Pops
 pub mod Fetch
 pub mod Flush

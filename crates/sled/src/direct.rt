@@ -2,10 +2,14 @@
 //!
 //! They make the same steps as a call in flight, one after the other, repairs included. If nothing is to be repaired on the way, and no
 //! subscriber waits for the event, the steps are made at once, without a call in flight.
-ghost use Rattle.std.specs.Prelude.{◌≡◌, IfOk, IfErr, None};
+ghost use Rattle.std.specs.Prelude.{◌≡◌, IfOk, IfErr, None, Ok};
+ghost use Rattle.std.specs.FinMap.Entries.{find, put};
 ghost use Rattle.std.specs.Option.{option_copied};
+ghost use Rattle.sled_nodes.specs.Order.{key_cmp};
+ghost use Rattle.sled_nodes.specs.Node.{without};
 ghost use Rattle.sled_model.specs.State.{IsOnKey};
 ghost use Rattle.sled_model.specs.Refusal.{must_refuse, ToPoint};
+ghost use Rattle.sled_model.specs.Whole.{DecidesPoint, RefusesPoint};
 ghost use Rattle.sled_model.specs.declared.call.Call.TheVariants as call;
 ghost use Rattle.sled_model.specs.declared.reply.Reply.TheVariants as told;
 ghost use Rattle.sled.specs.theory.Direct.{IsValue, IsSwap};
@@ -44,7 +48,8 @@ fn swap_told(reply: Reply) -> std::result::Result<(), CompareAndSwapError>
 
 impl<P: Pages, M: MergeOperator> Db<P, M> {
     ghost use Rattle.sled.specs.Values.{db_state};
-    ghost use Rattle.sled.specs.Direct.{PointDecided, PointRefused};
+    ghost use Rattle.sled.specs.Direct.{PointDecided, PointRefused, RunsAtOnce};
+    ghost use Rattle.sled.specs.Promises.{ChangesMap, Swaps, Merges, StopsCall, GivesUpCall, leaves_as};
 
     // Makes a call on a key of a tree, to its end. The tests come first.
     pub(crate) fn point(&mut self, tree: &Tree, call: Call) -> Result<Reply>
@@ -111,9 +116,15 @@ impl<P: Pages, M: MergeOperator> Db<P, M> {
     /// // Of an absent key nothing stood; a second insert answers the first one's value.
     /// ```
     pub fn insert(&mut self, tree: &Tree, key: &[u8], value: &[u8]) -> Result<Option<IVec>>
-        ensures ok { IfOk result (λ stood. PointDecided P.store M.meant self.old tree.now (call.Insert key.now value.now) (told.Value stood) self.new) }
-        ensures err { IfErr result (λ e. PointRefused P.store M.meant self.old tree.now (call.Insert key.now value.now) e self.new) }
+        ensures changes { IfOk result (λ stood. ChangesMap P.store M.meant self.old tree.now (λ before after. (stood ≡ find key_cmp key.now before) × (after ≡ put key_cmp key.now value.now before)) self.new) }
+        ensures decides { IfOk result (λ stood. DecidesPoint (db_state P.store M.meant self.old) tree.now (call.Insert key.now value.now) (told.Value stood) (db_state P.store M.meant self.new)) }
+        ensures refuses { IfErr result (λ e. RefusesPoint (db_state P.store M.meant self.old) (P.store self.old.pages) (P.store self.new.pages) tree.now (call.Insert key.now value.now) e (db_state P.store M.meant self.new)) }
+        ensures leaves { leaves_as P.store M.meant result self.old self.new }
+        ensures steps { IfOk result (λ stood. RunsAtOnce P.store M.meant self.old tree.now (call.Insert key.now value.now) (Ok (told.Value stood)) self.new) }
+        ensures stops { IfErr result (λ e. StopsCall P.store M.meant self.old tree.now (call.Insert key.now value.now) e self.new) }
+        ensures gives_up { IfErr result (GivesUpCall (P.store self.old.pages) tree.now key.now) }
     {
+        self.audit();
         if let Err(e) = self.check(tree) {
             return Err(e);
         }
@@ -133,8 +144,13 @@ impl<P: Pages, M: MergeOperator> Db<P, M> {
     /// let stood = db.set(&tree, b"ulm", b"21")?;
     /// ```
     pub fn set(&mut self, tree: &Tree, key: &[u8], value: &[u8]) -> Result<Option<IVec>>
-        ensures ok { IfOk result (λ stood. PointDecided P.store M.meant self.old tree.now (call.Insert key.now value.now) (told.Value stood) self.new) }
-        ensures err { IfErr result (λ e. PointRefused P.store M.meant self.old tree.now (call.Insert key.now value.now) e self.new) }
+        ensures changes { IfOk result (λ stood. ChangesMap P.store M.meant self.old tree.now (λ before after. (stood ≡ find key_cmp key.now before) × (after ≡ put key_cmp key.now value.now before)) self.new) }
+        ensures decides { IfOk result (λ stood. DecidesPoint (db_state P.store M.meant self.old) tree.now (call.Insert key.now value.now) (told.Value stood) (db_state P.store M.meant self.new)) }
+        ensures refuses { IfErr result (λ e. RefusesPoint (db_state P.store M.meant self.old) (P.store self.old.pages) (P.store self.new.pages) tree.now (call.Insert key.now value.now) e (db_state P.store M.meant self.new)) }
+        ensures leaves { leaves_as P.store M.meant result self.old self.new }
+        ensures steps { IfOk result (λ stood. RunsAtOnce P.store M.meant self.old tree.now (call.Insert key.now value.now) (Ok (told.Value stood)) self.new) }
+        ensures stops { IfErr result (λ e. StopsCall P.store M.meant self.old tree.now (call.Insert key.now value.now) e self.new) }
+        ensures gives_up { IfErr result (GivesUpCall (P.store self.old.pages) tree.now key.now) }
     {
         self.insert(tree, key, value)
     }
@@ -147,9 +163,15 @@ impl<P: Pages, M: MergeOperator> Db<P, M> {
     /// let none = db.remove(&tree, b"ulm")?; // `None`.
     /// ```
     pub fn remove(&mut self, tree: &Tree, key: &[u8]) -> Result<Option<IVec>>
-        ensures ok { IfOk result (λ stood. PointDecided P.store M.meant self.old tree.now (call.Remove key.now) (told.Value stood) self.new) }
-        ensures err { IfErr result (λ e. PointRefused P.store M.meant self.old tree.now (call.Remove key.now) e self.new) }
+        ensures changes { IfOk result (λ stood. ChangesMap P.store M.meant self.old tree.now (λ before after. (stood ≡ find key_cmp key.now before) × (after ≡ without key.now before)) self.new) }
+        ensures decides { IfOk result (λ stood. DecidesPoint (db_state P.store M.meant self.old) tree.now (call.Remove key.now) (told.Value stood) (db_state P.store M.meant self.new)) }
+        ensures refuses { IfErr result (λ e. RefusesPoint (db_state P.store M.meant self.old) (P.store self.old.pages) (P.store self.new.pages) tree.now (call.Remove key.now) e (db_state P.store M.meant self.new)) }
+        ensures leaves { leaves_as P.store M.meant result self.old self.new }
+        ensures steps { IfOk result (λ stood. RunsAtOnce P.store M.meant self.old tree.now (call.Remove key.now) (Ok (told.Value stood)) self.new) }
+        ensures stops { IfErr result (λ e. StopsCall P.store M.meant self.old tree.now (call.Remove key.now) e self.new) }
+        ensures gives_up { IfErr result (GivesUpCall (P.store self.old.pages) tree.now key.now) }
     {
+        self.audit();
         if let Err(e) = self.check(tree) {
             return Err(e);
         }
@@ -169,8 +191,13 @@ impl<P: Pages, M: MergeOperator> Db<P, M> {
     /// let stood = db.del(&tree, b"ulm")?;
     /// ```
     pub fn del(&mut self, tree: &Tree, key: &[u8]) -> Result<Option<IVec>>
-        ensures ok { IfOk result (λ stood. PointDecided P.store M.meant self.old tree.now (call.Remove key.now) (told.Value stood) self.new) }
-        ensures err { IfErr result (λ e. PointRefused P.store M.meant self.old tree.now (call.Remove key.now) e self.new) }
+        ensures changes { IfOk result (λ stood. ChangesMap P.store M.meant self.old tree.now (λ before after. (stood ≡ find key_cmp key.now before) × (after ≡ without key.now before)) self.new) }
+        ensures decides { IfOk result (λ stood. DecidesPoint (db_state P.store M.meant self.old) tree.now (call.Remove key.now) (told.Value stood) (db_state P.store M.meant self.new)) }
+        ensures refuses { IfErr result (λ e. RefusesPoint (db_state P.store M.meant self.old) (P.store self.old.pages) (P.store self.new.pages) tree.now (call.Remove key.now) e (db_state P.store M.meant self.new)) }
+        ensures leaves { leaves_as P.store M.meant result self.old self.new }
+        ensures steps { IfOk result (λ stood. RunsAtOnce P.store M.meant self.old tree.now (call.Remove key.now) (Ok (told.Value stood)) self.new) }
+        ensures stops { IfErr result (λ e. StopsCall P.store M.meant self.old tree.now (call.Remove key.now) e self.new) }
+        ensures gives_up { IfErr result (GivesUpCall (P.store self.old.pages) tree.now key.now) }
     {
         self.remove(tree, key)
     }
@@ -184,8 +211,13 @@ impl<P: Pages, M: MergeOperator> Db<P, M> {
     /// let sum = db.merge(&tree, b"ulm", &21u64.to_be_bytes())?;
     /// ```
     pub fn merge(&mut self, tree: &Tree, key: &[u8], bytes: &[u8]) -> Result<Option<IVec>>
-        ensures ok { IfOk result (λ merged. PointDecided P.store M.meant self.old tree.now (call.Merge key.now bytes.now) (told.Value merged) self.new) }
-        ensures err { IfErr result (λ e. PointRefused P.store M.meant self.old tree.now (call.Merge key.now bytes.now) e self.new) }
+        ensures changes { IfOk result (λ merged. ChangesMap P.store M.meant self.old tree.now (Merges ((db_state P.store M.meant self.old).trees tree.now.name) key.now bytes.now merged) self.new) }
+        ensures decides { IfOk result (λ merged. DecidesPoint (db_state P.store M.meant self.old) tree.now (call.Merge key.now bytes.now) (told.Value merged) (db_state P.store M.meant self.new)) }
+        ensures refuses { IfErr result (λ e. RefusesPoint (db_state P.store M.meant self.old) (P.store self.old.pages) (P.store self.new.pages) tree.now (call.Merge key.now bytes.now) e (db_state P.store M.meant self.new)) }
+        ensures leaves { leaves_as P.store M.meant result self.old self.new }
+        ensures steps { IfOk result (λ merged. RunsAtOnce P.store M.meant self.old tree.now (call.Merge key.now bytes.now) (Ok (told.Value merged)) self.new) }
+        ensures stops { IfErr result (λ e. StopsCall P.store M.meant self.old tree.now (call.Merge key.now bytes.now) e self.new) }
+        ensures gives_up { IfErr result (GivesUpCall (P.store self.old.pages) tree.now key.now) }
     {
         if let Err(e) = self.check_operator(tree) {
             return Err(e);
@@ -216,8 +248,13 @@ impl<P: Pages, M: MergeOperator> Db<P, M> {
         old: Option<&[u8]>,
         new: Option<&[u8]>,
     ) -> CompareAndSwapResult
-        ensures ok { IfOk result (λ swapped. PointDecided P.store M.meant self.old tree.now (call.CompareAndSwap key.now (option_copied old.entry) (option_copied new.entry)) (told.Swapped swapped) self.new) }
-        ensures err { IfErr result (λ e. PointRefused P.store M.meant self.old tree.now (call.CompareAndSwap key.now (option_copied old.entry) (option_copied new.entry)) e self.new) }
+        ensures changes { IfOk result (λ swapped. ChangesMap P.store M.meant self.old tree.now (Swaps key.now (option_copied old.entry) (option_copied new.entry) swapped) self.new) }
+        ensures decides { IfOk result (λ swapped. DecidesPoint (db_state P.store M.meant self.old) tree.now (call.CompareAndSwap key.now (option_copied old.entry) (option_copied new.entry)) (told.Swapped swapped) (db_state P.store M.meant self.new)) }
+        ensures refuses { IfErr result (λ e. RefusesPoint (db_state P.store M.meant self.old) (P.store self.old.pages) (P.store self.new.pages) tree.now (call.CompareAndSwap key.now (option_copied old.entry) (option_copied new.entry)) e (db_state P.store M.meant self.new)) }
+        ensures leaves { leaves_as P.store M.meant result self.old self.new }
+        ensures steps { IfOk result (λ swapped. RunsAtOnce P.store M.meant self.old tree.now (call.CompareAndSwap key.now (option_copied old.entry) (option_copied new.entry)) (Ok (told.Swapped swapped)) self.new) }
+        ensures stops { IfErr result (λ e. StopsCall P.store M.meant self.old tree.now (call.CompareAndSwap key.now (option_copied old.entry) (option_copied new.entry)) e self.new) }
+        ensures gives_up { IfErr result (GivesUpCall (P.store self.old.pages) tree.now key.now) }
     {
         if let Err(e) = self.check(tree) {
             return Err(e);

@@ -22,6 +22,7 @@ pub mod Sound
 pub mod Moments
 pub mod Added
 pub mod Numbers
+pub mod Limits
 pub mod Calls
 pub mod Flushing
 pub mod Readying

@@ -8,7 +8,7 @@ use Rattle.sled_store.specs.Store.{Store, ActsAt, Allocates}
 use Rattle.sled_nodes.specs.declared.node.Node.{Node}
 use Rattle.sled_files.specs.Lasting.{Limits}
 use Rattle.sled_files.specs.Stored.{AreWithin}
-use Rattle.sled_files.specs.theory.Spelled.{ComeNext}
+use Rattle.sled_files.specs.Raised.{ComeNext}
 
 not_below : (x n : ℕ) → nat_lt x n ≡ false → n ≤ x
 not_below x n h = grind (arith, nat_tests)

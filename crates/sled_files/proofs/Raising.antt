@@ -1,6 +1,7 @@
 -- What a flush that raises the limits in its block makes of the files of a store, against the store.
-use Rattle.std.proofs.Common.{take, length, length-append, ◌+◌, ◌≤◌, ◌<◌, ◌^◌, ◌≡◌, inl, arith, ℕ, true, false, List, [], ◌∷◌, ◌++◌, refl, sym, ◌∙◌, ap, subst}
-use Rattle.std.specs.Prelude.{Result, Ok, Err, OnOk}
+use Rattle.std.proofs.Common.{take, length, length-append, ◌+◌, ◌≤◌, ◌<◌, ◌^◌, ◌≡◌, inl, arith, cond, ℕ, true, false, List, [], ◌∷◌, ◌++◌, refl, sym, ◌∙◌, ap, subst}
+use Rattle.std.specs.Prelude.{Result, Ok, Err, OnOk, ◌==◌, ◌&&◌}
+use Rattle.std.proofs.lemmas.Bool.Decides.{nat_tests}
 use Rattle.std.proofs.lemmas.List.{append-nil}
 use Rattle.std.specs.List.{flat_map}
 use Rattle.std.proofs.lemmas.List.Elements.{All-nil, All-cons, All-append}
@@ -18,6 +19,7 @@ use Rattle.sled_files.specs.Change.{Durable, changed_all, IsWithin, AreOfStore, 
 use Rattle.sled_files.specs.Files.{Files, IsReady, KeepsTime, LeavesPairs, AreForEither}
 use Rattle.sled_files.specs.Lasting.{Limits, AreLimits, IsRight, IsLasting, AreNoLower}
 use Rattle.sled_files.specs.Pending.{IsPending, Spells}
+use Rattle.sled_files.specs.Raised.{limits_length}
 use Rattle.sled_files.specs.Stored.{Stored, stored_as, over, asked_of, AreWithin, IsSound}
 use Rattle.sled_files.specs.theory.Given.{sealed_over}
 use Rattle.sled_files.specs.theory.Ahead.{IsAhead}
@@ -32,19 +34,39 @@ pub no_lower : {limits raised : Limits} → raised ≡ limits → AreNoLower lim
 no_lower {limits} {raised} is = record { pids = omega (arith, ap (λ (l : Limits). l.pids) is); versions = omega (arith, ap (λ (l : Limits). l.versions) is) }
 
 -- limits are spelled by 17 bytes, and a mark by 9
-limited_short : (pids versions : ℕ) → length (change_bytes (Limited pids versions)) ≤ 17
+limited_bytes : (pids versions : ℕ) → length (change_bytes (Limited pids versions)) ≡ 17
 unfolding number
-limited_short pids versions = let e : length (change_bytes (Limited pids versions)) ≡ 17 = refl in omega (arith, e)
+limited_bytes pids versions = refl
 
-pub marked_short : {bytes : List ℕ} {upto : ℕ} → Spells bytes (Marked upto ∷ []) → length bytes ≤ 9
+pub limited_length : {bytes : List ℕ} {pids versions : ℕ} → Spells bytes (Limited pids versions ∷ []) → length bytes ≡ 17
 unfolding number
-marked_short {bytes} {upto} s = let e : length (flat_map change_bytes (Marked upto ∷ [])) ≡ 9 = refl in omega (arith, e, ap length s.spelled)
+limited_length {bytes} {pids} {versions} s = let e : length (flat_map change_bytes (Limited pids versions ∷ [])) ≡ 17 = refl in omega (arith, e, ap length s.spelled)
+
+pub marked_length : {bytes : List ℕ} {upto : ℕ} → Spells bytes (Marked upto ∷ []) → length bytes ≡ 9
+unfolding number
+marked_length {bytes} {upto} s = let e : length (flat_map change_bytes (Marked upto ∷ [])) ≡ 9 = refl in omega (arith, e, ap length s.spelled)
+
+-- how many bytes that is, where they stay and where they do not
+no_bytes : (limits raised : Limits) → raised.pids ≡ limits.pids → raised.versions ≡ limits.versions → 0 ≡ limits_length limits raised
+no_bytes limits raised pids versions = grind (arith, nat_tests)
+
+some_bytes : (limits raised : Limits) → (raised.pids ≡ limits.pids → raised.versions ≡ limits.versions → ⊥) → 17 ≡ limits_length limits raised
+some_bytes limits raised other = elim ((raised.pids == limits.pids) && (raised.versions == limits.versions)) as (λ b. ((raised.pids == limits.pids) && (raised.versions == limits.versions)) ≡ b → ◌≡◌ {A = ℕ} 17 (cond b 0 17)) [
+  | true ↦ λ e. absurd (other (grind (arith, nat_tests)) (grind (arith, nat_tests)))
+  | false ↦ λ e. refl
+] refl
+
+few_bytes : (limits raised : Limits) → limits_length limits raised ≤ 17
+few_bytes limits raised = elim ((raised.pids == limits.pids) && (raised.versions == limits.versions)) as (λ b. cond b 0 17 ≤ 17) [
+  | true ↦ omega arith
+  | false ↦ omega arith
+]
 
 pub ahead_none : (limits raised : Limits) {before after : List ℕ} → raised.pids ≡ limits.pids → raised.versions ≡ limits.versions → after ≡ before → IsAhead limits raised before after
 ahead_none limits raised {before} pids versions is = record {
   rest = [];
   bytes = is ∙ sym (append-nil before);
-  short = omega arith;
+  long = no_bytes limits raised pids versions;
   more = [];
   spells = λ changes s. subst (λ (l : List ℕ). Spells l (changes ++ [])) (sym is) (subst (λ (l : List Change). Spells before l) (sym (append-nil changes)) s);
   state = λ d. refl;
@@ -54,11 +76,11 @@ ahead_none limits raised {before} pids versions is = record {
   fits = λ d lt. lt;
 }
 
-pub ahead_more : (limits : Limits) (pids versions : ℕ) {before after : List ℕ} → FitsChange (Limited pids versions) → after ≡ before ++ change_bytes (Limited pids versions) → IsAhead limits (record { pids = pids; versions = versions }) before after
-ahead_more limits pids versions fits is = record {
+pub ahead_more : (limits : Limits) (pids versions : ℕ) {before after : List ℕ} → (pids ≡ limits.pids → versions ≡ limits.versions → ⊥) → FitsChange (Limited pids versions) → after ≡ before ++ change_bytes (Limited pids versions) → IsAhead limits (record { pids = pids; versions = versions }) before after
+ahead_more limits pids versions other fits is = record {
   rest = change_bytes (Limited pids versions);
   bytes = is;
-  short = limited_short pids versions;
+  long = limited_bytes pids versions ∙ some_bytes limits (record { pids = pids; versions = versions }) other;
   more = Limited pids versions ∷ [];
   spells = λ changes s. subst (λ (l : List ℕ). Spells l (changes ++ Limited pids versions ∷ [])) (sym is) (spells_more s (Limited pids versions) fits);
   state = λ d. refl;
@@ -69,13 +91,16 @@ ahead_more limits pids versions fits is = record {
 }
 
 -- where that is done
-pub ahead_done : {E : Type 0} (limits : Limits) (pids versions : ℕ) (before after : List ℕ) (r : Result (Unit {0}) E) → OnOk r (FitsChange (Limited pids versions)) → OnOk r (after ≡ before ++ change_bytes (Limited pids versions)) → OnOk r (IsAhead limits (record { pids = pids; versions = versions }) before after)
-ahead_done limits pids versions before after (Ok x) fits is = ahead_more limits pids versions fits is
-ahead_done limits pids versions before after (Err e) fits is = tt
+pub ahead_done : {E : Type 0} (limits : Limits) (pids versions : ℕ) (before after : List ℕ) (r : Result (Unit {0}) E) → (pids ≡ limits.pids → versions ≡ limits.versions → ⊥) → OnOk r (FitsChange (Limited pids versions)) → OnOk r (after ≡ before ++ change_bytes (Limited pids versions)) → OnOk r (IsAhead limits (record { pids = pids; versions = versions }) before after)
+ahead_done limits pids versions before after (Ok x) other fits is = ahead_more limits pids versions other fits is
+ahead_done limits pids versions before after (Err e) other fits is = tt
 
--- the bytes are few more
+-- how many bytes there are then
+pub ahead_length : {limits raised : Limits} {before after : List ℕ} → IsAhead limits raised before after → length after ≡ length before + limits_length limits raised
+ahead_length {limits} {raised} {before} {after} a = ap length a.bytes ∙ length-append before a.rest ∙ ap (λ (n : ℕ). length before + n) a.long
+
 pub ahead_short : {limits raised : Limits} {before after : List ℕ} → IsAhead limits raised before after → length after ≤ length before + 17
-ahead_short {limits} {raised} {before} {after} a = omega (arith, ap length a.bytes, length-append before a.rest, a.short)
+ahead_short {limits} {raised} a = omega (arith, ahead_length a, few_bytes limits raised)
 
 -- and taken out again
 pub taken_out : {limits raised : Limits} {before after : List ℕ} (n : ℕ) → IsAhead limits raised before after → n ≡ length before → take n after ≡ before

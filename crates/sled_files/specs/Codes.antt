@@ -1,11 +1,11 @@
 -- Which error a refused call of a store in files has, and with which code.
-use Rattle.std.specs.Prelude.{◌≡◌, ◌+◌, ◌-◌, ◌<◌, ◌^◌, ℕ, if◌then◌else◌, nat_lt, length}
+use Rattle.std.specs.Prelude.{◌≡◌, ◌+◌, ◌-◌, ◌<◌, ◌^◌, ℕ, true, if◌then◌else◌, nat_lt, length}
 use Rattle.sled_nodes.specs.declared.error.Error.{Error}
 use Rattle.sled_nodes.specs.declared.error.Error.TheVariants.{Io, NoMemory}
 use Rattle.sled_disk.specs.declared.disk.DiskError.{DiskError}
 use Rattle.sled_disk.specs.declared.disk.DiskError.TheVariants as disk
 use Rattle.sled_files.specs.Files.{Files, IsRefused}
-use Rattle.sled_files.specs.Stored.{Stored}
+use Rattle.sled_files.specs.Stored.{Stored, missed_after}
 
 -- a disk has no room, or the log or its generation would be too large
 abbrev pub disk_full : ℕ
@@ -39,3 +39,14 @@ LacksRoom f = 2 ^ 62 < f.files.gate + 34 + length f.pending
 -- no generation is left
 abbrev pub IsLast : {D : Type 0} → Stored D → Type 0
 IsLast f = f.files.generation + 1 ≡ 2 ^ 64
+
+-- a flush was refused that was due to begin the log anew: that was, and there was memory for it
+pub record FailsAnew {D : Type 0} (faults : D → ℕ) (old new : Stored D) (e : Error) : Type 0 where
+  pub cause : IsUnstored faults (IsLast old) old.files new.files old.faults e
+  pub missed : new.missed ≡ old.missed
+  pub has_memory : e ≡ NoMemory → new.files.failed ≡ true
+
+-- or there was none for it, which is counted as missed, and then the block was refused
+pub record FailsOn {D : Type 0} (faults : D → ℕ) (old new : Stored D) (e : Error) : Type 0 where
+  pub cause : IsUnstored faults (LacksRoom old) old.files new.files old.faults e
+  pub missed : new.missed ≡ missed_after old

@@ -1,5 +1,5 @@
 -- The two files of a store as code holds them, between two calls and within one.
-use Rattle.std.specs.Prelude.{◌≡◌, ◌⊎◌, ◌+◌, ◌<◌, ◌≤◌, ℕ, Bool, true, false, List, length, if◌then◌else◌}
+use Rattle.std.specs.Prelude.{◌≡◌, ◌⊎◌, ◌+◌, ◌<◌, ◌≤◌, ◌==◌, ℕ, Bool, true, false, List, length, if◌then◌else◌}
 use Rattle.sled_disk.specs.Disk.{Only, is_caused}
 use Rattle.sled_disk.specs.declared.disk.DiskError.{DiskError}
 use Rattle.sled_disk.specs.declared.disk.DiskError.TheVariants.{NoMemory, Full, Failed}
@@ -80,9 +80,11 @@ pub record IsRenewed {D : Type 0} (old new : Files D) : Type 0 where
   pub generation : new.generation ≡ old.generation + 1
   pub bytes : new.gate ≡ new.snapshot + 37
 
--- the log that counts has a block more, and the other file is emptied; or nothing was added
-pub record IsGrown {D : Type 0} (seen : D → List ℕ) (old new : Files D) : Type 0 where
+-- The log that counts has a block more, of a gate, two numbers of 8 bytes and so many bytes of changes, and the other file is emptied; or
+-- there was nothing to be added
+pub record IsGrown {D : Type 0} (seen : D → List ℕ) (added : ℕ) (old new : Files D) : Type 0 where
   pub snapshot : new.snapshot ≡ old.snapshot
   pub generation : new.generation ≡ old.generation
-  pub bytes : old.gate ≤ new.gate
-  pub other : (new ≡ old) ⊎ (length (seen (other_of new)) ≤ 1)
+  pub bytes : new.gate ≡ old.gate + (if added == 0 then 0 else 17 + added)
+  pub nothing : added ≡ 0 → new ≡ old
+  pub other : 0 < added → length (seen (other_of new)) ≤ 1

@@ -1,5 +1,5 @@
 -- A store in two files as code holds it.
-use Rattle.std.specs.Prelude.{◌≡◌, ◌⊎◌, ◌+◌, ◌/◌, ◌<◌, ◌&&◌, not, nat_lt, ℕ, Bool, true, false, List, [], ◌∷◌, Option, Some, None}
+use Rattle.std.specs.Prelude.{◌≡◌, ◌⊎◌, ◌+◌, ◌-◌, ◌/◌, ◌<◌, ◌^◌, ◌&&◌, not, min, nat_lt, ℕ, Bool, true, false, List, [], ◌∷◌, Option, Some, None}
 use Rattle.sled_pages.specs.declared.memory.MemPages.{MemPages}
 use Rattle.sled_pages.specs.Memory.{store_of, flush_number_of}
 use Rattle.sled_store.specs.Store.{Store}
@@ -75,6 +75,10 @@ pub record KeepsRule {D : Type 0} (old new : Stored D) : Type 0 where
 -- a flush is to begin the log anew: no disk refused a call, and it is longer than was set, and than twice its snapshot
 abbrev pub is_due : {D : Type 0} → Stored D → Bool
 is_due f = not f.files.failed && (nat_lt f.longest f.files.gate && nat_lt f.files.snapshot (f.files.gate / 2))
+
+-- how many snapshots were missed with this one, as far as 64 bits go
+abbrev pub missed_after : {D : Type 0} → Stored D → ℕ
+missed_after f = min (f.missed + 1) (2 ^ 64 - 1)
 
 -- the mark that is asked for stays, or it is this one, and a disk refused it just now
 pub record AsksFor {D : Type 0} (upto : ℕ) (old new : Stored D) : Type 0 where

@@ -6,7 +6,8 @@ ghost use Rattle.sled_store.specs.State.{GroupBegins, GroupEnds};
 ghost use Rattle.sled_store.specs.Store.{now, after_action, after_flush, Allocates, IsRefused, Changes, Frees, SwapsRoot};
 ghost use Rattle.sled_pages.specs.Memory.{store_of};
 ghost use Rattle.sled_files.specs.Lasting.{EachPair, IsLasting, AreNoLower};
-ghost use Rattle.sled_files.specs.Stored.{asked_of, stored_as, is_due, AreWithin};
+ghost use Rattle.sled_files.specs.Raised.{ComeNext, RaisesNear, raised_to, are_far};
+ghost use Rattle.sled_files.specs.Stored.{asked_of, stored_as, is_due, missed_after, AreWithin};
 
 use crate::snapshot::snapshot;
 use crate::spelled::{
@@ -192,25 +193,42 @@ pub const NEAR_LIMIT: u64 = 200_000;
 
 // The next limit: some way above what comes next, and no lower than this one.
 fn raised(limit: u64, next: u64) -> u64
-    ensures { limit ≤ result }
+    ensures is { result ≡ raised_to limit next }
+    ensures no_lower { limit ≤ result }
 {
     limit.max(next.saturating_add(SET_ASIDE))
+}
+
+// Whether what comes next is far below both limits.
+fn are_far(pid: u64, version: u64, pids: u64, versions: u64) -> bool
+    ensures { result ≡ are_far pid version (record { pids = pids; versions = versions }) }
+{
+    pid < pids.saturating_sub(NEAR_LIMIT) && version < versions.saturating_sub(NEAR_LIMIT)
 }
 
 // The limits that a flush sets: those that there are, or, if what comes next is near and there is a block to be added, higher ones.
 fn ahead(pages: &MemPages, is_idle: bool, pids: u64, versions: u64) -> (u64, u64)
     ensures pids { pids ≤ result.0 }
     ensures versions { versions ≤ result.1 }
+    ensures idle { is_idle ≡ true → (result.0 ≡ pids) × (result.1 ≡ versions) }
+    ensures near { is_idle ≡ false → RaisesNear (store_of pages.now) (record { pids = pids; versions = versions }) (record { pids = result.0; versions = result.1 }) }
 {
-    let Some((pid, version)) = next_of(pages) else {
-        return (pids, versions);
-    };
-    let is_far = pid.0 < pids.saturating_sub(NEAR_LIMIT)
-        && version.0 < versions.saturating_sub(NEAR_LIMIT);
-    if is_idle || is_far {
+    if is_idle {
         return (pids, versions);
     }
-    (raised(pids, pid.0), raised(versions, version.0))
+    let (greatest, version) = pages.numbers_given();
+    let pid = greatest.0.saturating_add(1);
+    if are_far(pid, version, pids, versions) {
+        return (pids, versions);
+    }
+    (raised(pids, pid), raised(versions, version))
+}
+
+// Whether both numbers are below their limits.
+fn are_below(pid: Pid, version: Version, pids: u64, versions: u64) -> bool
+    ensures { result ≡ (nat_lt pid pids && nat_lt version versions) }
+{
+    pid.0 < pids && version.0 < versions
 }
 
 // The mark that may be in the files after one was refused: this one, if a disk refused it just now.
@@ -227,14 +245,18 @@ fn asked_then(asked: Option<u64>, upto: u64, was_over: bool, is_over: bool) -> O
 impl<D: Disk> FilePages<D> {
     ghost use Rattle.sled_files.specs.Stored.{stored_as, asked_of};
     ghost use Rattle.sled_files.specs.theory.Kept.{KeepsPages};
-    ghost use Rattle.sled_files.specs.Files.{LeavesPairs};
+    ghost use Rattle.sled_files.specs.Files.{LeavesPairs, IsGrown};
     ghost use Rattle.sled_files.specs.Lasting.{IsLasting};
-    ghost use Rattle.sled_files.specs.theory.Spelled.{ComeNext};
+    ghost use Rattle.sled_files.specs.Raised.{raised_above, Reaches};
 
     // Raises the limits above these numbers, in the files first.
     fn raise(&mut self, pid: Pid, version: Version) -> Result<()>
         ensures pid { OnOk result (pid < self.new.limits.pids) }
         ensures version { OnOk result (version < self.new.limits.versions) }
+        ensures limits { OnOk result (self.new.limits ≡ raised_above pid version self.old.limits) }
+        ensures grown { OnOk result (IsGrown D.seen 17 self.old.files self.new.files) }
+        ensures kept { OnErr result (self.new.limits ≡ self.old.limits) }
+        ensures fails { OnErr result ((self.new.files ≡ self.old.files) ⊎ (self.new.files.failed ≡ true)) }
         ensures same { OnOk result (stored_as self.new ≡ stored_as self.old) }
         ensures err { IfErr result (λ e. IsRefused e (stored_as self.old) (stored_as self.new)) }
         ensures over { self.old.files.failed ≡ true → self.new.files ≡ self.old.files }
@@ -259,11 +281,39 @@ impl<D: Disk> FilePages<D> {
         Ok(())
     }
 
+    // These numbers, which come next, below limits that are in the files.
+    fn reach_next(&mut self, pid: Pid, version: Version) -> Result<(Pid, Version)>
+        requires { ComeNext (store_of self.old.pages) pid version }
+        ensures next { IfOk result (λ next. ComeNext (store_of self.new.pages) next.0 next.1) }
+        ensures pid { IfOk result (λ next. next.0 < self.new.limits.pids) }
+        ensures version { IfOk result (λ next. next.1 < self.new.limits.versions) }
+        ensures limits { OnOk result (Reaches D.seen self.old self.new) }
+        ensures kept { OnErr result (self.new.limits ≡ self.old.limits) }
+        ensures fails { OnErr result ((self.new.files ≡ self.old.files) ⊎ (self.new.files.failed ≡ true)) }
+        ensures same { OnOk result (stored_as self.new ≡ stored_as self.old) }
+        ensures err { IfErr result (λ e. IsRefused e (stored_as self.old) (stored_as self.new)) }
+        ensures over { self.old.files.failed ≡ true → self.new.files ≡ self.old.files }
+        ensures pages { KeepsPages self.old self.new }
+        ensures any_moment { LeavesPairs D.moment D.left_since D.may_leave self.old.files self.new.files (IsLasting (asked_of self.old.asked) self.old.limits (stored_as self.old)) }
+    {
+        self.files.law_time();
+        if are_below(pid, version, self.limit_pids, self.limit_versions) {
+            return Ok((pid, version));
+        }
+        match self.raise(pid, version) {
+            Ok(()) => Ok((pid, version)),
+            Err(e) => Err(e),
+        }
+    }
+
     // The page number and the version that come next, below limits that are in the files.
     fn reach(&mut self) -> Result<(Pid, Version)>
         ensures next { IfOk result (λ next. ComeNext (store_of self.new.pages) next.0 next.1) }
         ensures pid { IfOk result (λ next. next.0 < self.new.limits.pids) }
         ensures version { IfOk result (λ next. next.1 < self.new.limits.versions) }
+        ensures limits { OnOk result (Reaches D.seen self.old self.new) }
+        ensures kept { OnErr result (self.new.limits ≡ self.old.limits) }
+        ensures fails { OnErr result ((self.new.files ≡ self.old.files) ⊎ (self.new.files.failed ≡ true)) }
         ensures same { OnOk result (stored_as self.new ≡ stored_as self.old) }
         ensures err { IfErr result (λ e. IsRefused e (stored_as self.old) (stored_as self.new)) }
         ensures over { self.old.files.failed ≡ true → self.new.files ≡ self.old.files }
@@ -274,21 +324,16 @@ impl<D: Disk> FilePages<D> {
         let Some((pid, version)) = next_of(&self.pages) else {
             return Err(fault(&mut self.faults, USED_UP));
         };
-        if pid.0 < self.limit_pids && version.0 < self.limit_versions {
-            return Ok((pid, version));
-        }
-        match self.raise(pid, version) {
-            Ok(()) => Ok((pid, version)),
-            Err(e) => Err(e),
-        }
+        self.reach_next(pid, version)
     }
 }
 
 impl<D: Disk> FilePages<D> {
     ghost use Rattle.sled_files.specs.Stored.{stored_as, asked_of, KeepsRule};
     ghost use Rattle.sled_files.specs.Codes.{IsUnstored, LacksRoom, IsLast};
+    ghost use Rattle.sled_files.specs.Raised.{FlushesOn, FlushesAnew};
     ghost use Rattle.sled_files.specs.theory.Snapshot.{Makes, durable_now};
-    ghost use Rattle.sled_files.specs.Files.{LeavesPairs, IsRenewed, IsGrown};
+    ghost use Rattle.sled_files.specs.Files.{LeavesPairs};
     ghost use Rattle.sled_files.specs.Lasting.{IsLasting};
 
     /// Flushes, and begins the other file anew with a snapshot of all that the store is, which counts from then on. At any moment a crash
@@ -301,8 +346,9 @@ impl<D: Disk> FilePages<D> {
     pub fn compact(&mut self) -> Result<()>
         ensures open { (now (stored_as self.old)).in_group ≡ true → (self.new ≡ self.old) × OnErr result ⊥ }
         ensures ok { (now (stored_as self.old)).in_group ≡ false → OnOk result (stored_as self.new ≡ after_flush (stored_as self.old)) }
-        // The file that counted is the other one now.
-        ensures renewed { (now (stored_as self.old)).in_group ≡ false → OnOk result (IsRenewed self.old.files self.new.files) }
+        // The file that counted is the other one now, and the limits are far.
+        ensures renewed { (now (stored_as self.old)).in_group ≡ false → OnOk result (FlushesAnew self.old self.new) }
+        ensures kept { OnErr result (self.new.limits ≡ self.old.limits) }
         ensures up { (now (stored_as self.old)).in_group ≡ false → OnOk result ((self.old.files.failed ≡ false) × (self.new.files.failed ≡ false)) }
         ensures err { IfErr result (λ e. IsRefused e (stored_as self.old) (stored_as self.new)) }
         ensures cause { IfErr result (λ e. IsUnstored D.faults (IsLast self.old) self.old.files self.new.files self.old.faults e) }
@@ -373,6 +419,8 @@ impl<D: Disk> FilePages<D> {
     fn ahead(&self, is_idle: bool) -> (u64, u64)
         ensures pids { self.now.limits.pids ≤ result.0 }
         ensures versions { self.now.limits.versions ≤ result.1 }
+        ensures idle { is_idle ≡ true → (result.0 ≡ self.now.limits.pids) × (result.1 ≡ self.now.limits.versions) }
+        ensures near { is_idle ≡ false → RaisesNear (stored_as self.now) self.now.limits (record { pids = result.0; versions = result.1 }) }
     {
         ahead(&self.pages, is_idle, self.limit_pids, self.limit_versions)
     }
@@ -397,7 +445,7 @@ impl<D: Disk> FilePages<D> {
 
     // Counts a snapshot that there was no memory for.
     fn miss(&mut self)
-        ensures { self.new ≡ record self.old { missed = min (self.old.missed + 1) (2 ^ 64 - 1) } }
+        ensures { self.new ≡ record self.old { missed = missed_after self.old } }
     {
         self.missed = self.missed.saturating_add(1);
     }
@@ -407,7 +455,8 @@ impl<D: Disk> FilePages<D> {
         requires { (now (stored_as self.old)).in_group ≡ false }
         ensures ok { OnOk result (stored_as self.new ≡ after_flush (stored_as self.old)) }
         ensures number { IfOk result (λ n. n ≡ length (stored_as self.old).recent) }
-        ensures grown { OnOk result (IsGrown D.seen self.old.files self.new.files) }
+        ensures grown { OnOk result (FlushesOn D.seen self.old self.new) }
+        ensures kept { OnErr result (self.new.limits ≡ self.old.limits) }
         ensures up { OnOk result ((self.old.files.failed ≡ false) × (self.new.files.failed ≡ false)) }
         ensures err { IfErr result (λ e. IsRefused e (stored_as self.old) (stored_as self.new)) }
         ensures cause { IfErr result (λ e. IsUnstored D.faults (LacksRoom self.old) self.old.files self.new.files self.old.faults e) }
@@ -418,8 +467,8 @@ impl<D: Disk> FilePages<D> {
         ensures any_moment { LeavesPairs D.moment D.left_since D.may_leave self.old.files self.new.files (IsLasting (asked_of self.old.asked) self.old.limits (stored_as self.old)) }
     {
         self.files.law_time();
-        let (pids, versions) = self.ahead(self.pending.is_empty());
         let len = self.pending.len();
+        let (pids, versions) = self.ahead(len == 0);
         if let Err(e) = spell_limits(
             &mut self.pending,
             self.limit_pids,
@@ -445,9 +494,11 @@ impl<D: Disk> FilePages<D> {
         requires whole { Makes (store_of self.old.pages) whole.now (durable_now (stored_as self.old) self.old.mark pids versions) }
         requires pids { self.old.limits.pids ≤ pids }
         requires versions { self.old.limits.versions ≤ versions }
+        requires near { RaisesNear (stored_as self.old) self.old.limits (record { pids = pids; versions = versions }) }
         ensures ok { OnOk result (stored_as self.new ≡ after_flush (stored_as self.old)) }
         ensures number { IfOk result (λ n. n ≡ length (stored_as self.old).recent) }
-        ensures renewed { OnOk result (IsRenewed self.old.files self.new.files) }
+        ensures renewed { OnOk result (FlushesAnew self.old self.new) }
+        ensures kept { OnErr result (self.new.limits ≡ self.old.limits) }
         ensures up { OnOk result ((self.old.files.failed ≡ false) × (self.new.files.failed ≡ false)) }
         ensures err { IfErr result (λ e. IsRefused e (stored_as self.old) (stored_as self.new)) }
         ensures cause { IfErr result (λ e. IsUnstored D.faults (IsLast self.old) self.old.files self.new.files self.old.faults e) }
@@ -472,7 +523,8 @@ impl<D: Disk> FilePages<D> {
         requires { (now (stored_as self.old)).in_group ≡ false }
         ensures ok { OnOk result (stored_as self.new ≡ after_flush (stored_as self.old)) }
         ensures number { IfOk result (λ n. n ≡ length (stored_as self.old).recent) }
-        ensures renewed { OnOk result (IsRenewed self.old.files self.new.files) }
+        ensures renewed { OnOk result (FlushesAnew self.old self.new) }
+        ensures kept { OnErr result (self.new.limits ≡ self.old.limits) }
         ensures up { OnOk result ((self.old.files.failed ≡ false) × (self.new.files.failed ≡ false)) }
         ensures err { IfErr result (λ e. IsRefused e (stored_as self.old) (stored_as self.new)) }
         ensures cause { IfErr result (λ e. IsUnstored D.faults (IsLast self.old) self.old.files self.new.files self.old.faults e) }
@@ -497,8 +549,9 @@ impl<D: Disk> FilePages<D> {
 
 impl<D: Disk + Send> Pages for FilePages<D> {
     ghost use Rattle.sled_files.specs.Stored.{stored_as, asked_of, flush_number_in, KeepsFiles, KeepsRule, AsksFor};
-    ghost use Rattle.sled_files.specs.Codes.{IsUnstored, LacksRoom, IsLast};
-    ghost use Rattle.sled_files.specs.Files.{LeavesPairs, IsRenewed, IsGrown};
+    ghost use Rattle.sled_files.specs.Codes.{IsUnstored, LacksRoom, FailsAnew, FailsOn};
+    ghost use Rattle.sled_files.specs.Raised.{FlushesOn, FlushesAnew, Reaches, ReachesOrFails};
+    ghost use Rattle.sled_files.specs.Files.{LeavesPairs, IsGrown};
     ghost use Rattle.sled_files.specs.Lasting.{IsLasting};
 
     ghost store = { stored_as };
@@ -520,6 +573,9 @@ impl<D: Disk + Send> Pages for FilePages<D> {
     fn allocate(&mut self, node: Node) -> Result<(Pid, Version)>
         ensures ok { IfOk result (λ given. Allocates node given.0 given.1 (stored_as self.old) (stored_as self.new)) }
         ensures err { IfErr result (λ e. IsRefused e (stored_as self.old) (stored_as self.new)) }
+        // Only where what comes next has reached a limit, it raises both, each by a piece.
+        ensures limits { OnOk result (Reaches D.seen self.old self.new) }
+        ensures refused { OnErr result (ReachesOrFails D.seen self.old self.new) }
         ensures asked { self.new.asked ≡ self.old.asked }
         ensures over { self.old.files.failed ≡ true → self.new.files ≡ self.old.files }
         ensures rule { KeepsRule self.old self.new }
@@ -544,6 +600,9 @@ impl<D: Disk + Send> Pages for FilePages<D> {
     ) -> Result<std::result::Result<Version, Option<Version>>>
         ensures ok { IfOk result (Changes (after_link new) pid version (stored_as self.old) (stored_as self.new)) }
         ensures err { IfErr result (λ e. IsRefused e (stored_as self.old) (stored_as self.new)) }
+        // Only where what comes next has reached a limit, it raises both, each by a piece.
+        ensures limits { OnOk result (Reaches D.seen self.old self.new) }
+        ensures refused { OnErr result (ReachesOrFails D.seen self.old self.new) }
         ensures asked { self.new.asked ≡ self.old.asked }
         ensures over { self.old.files.failed ≡ true → self.new.files ≡ self.old.files }
         ensures rule { KeepsRule self.old self.new }
@@ -566,6 +625,9 @@ impl<D: Disk + Send> Pages for FilePages<D> {
     ) -> Result<std::result::Result<Version, Option<Version>>>
         ensures ok { IfOk result (Changes (λ _. node) pid version (stored_as self.old) (stored_as self.new)) }
         ensures err { IfErr result (λ e. IsRefused e (stored_as self.old) (stored_as self.new)) }
+        // Only where what comes next has reached a limit, it raises both, each by a piece.
+        ensures limits { OnOk result (Reaches D.seen self.old self.new) }
+        ensures refused { OnErr result (ReachesOrFails D.seen self.old self.new) }
         ensures asked { self.new.asked ≡ self.old.asked }
         ensures over { self.old.files.failed ≡ true → self.new.files ≡ self.old.files }
         ensures rule { KeepsRule self.old self.new }
@@ -637,15 +699,17 @@ impl<D: Disk + Send> Pages for FilePages<D> {
         ensures ok { OnOk result (stored_as self.new ≡ after_flush (stored_as self.old)) }
         ensures number { IfOk result (λ n. n ≡ length (stored_as self.old).recent) }
         // The log has a block more, or a snapshot that was due is counted as missed.
-        ensures grown { OnOk result (is_due self.old ≡ false → IsGrown D.seen self.old.files self.new.files) }
-        ensures renewed { OnOk result (is_due self.old ≡ true → (IsRenewed self.old.files self.new.files × (self.new.missed ≡ self.old.missed)) ⊎ (IsGrown D.seen self.old.files self.new.files × (self.new.missed ≡ min (self.old.missed + 1) (2 ^ 64 - 1)))) }
+        ensures grown { OnOk result (is_due self.old ≡ false → FlushesOn D.seen self.old self.new) }
+        ensures renewed { OnOk result (is_due self.old ≡ true → (FlushesAnew self.old self.new × (self.new.missed ≡ self.old.missed)) ⊎ (FlushesOn D.seen self.old self.new × (self.new.missed ≡ missed_after self.old))) }
         ensures calm { is_due self.old ≡ false → self.new.missed ≡ self.old.missed }
         ensures longest { self.new.longest ≡ self.old.longest }
         // Once a disk refused a call, it is refused, until the disks are opened again.
         ensures up { OnOk result ((self.old.files.failed ≡ false) × (self.new.files.failed ≡ false)) }
         ensures over { self.old.files.failed ≡ true → self.new.files ≡ self.old.files }
         ensures err { IfErr result (λ e. IsRefused e (stored_as self.old) (stored_as self.new)) }
-        ensures cause { IfErr result (λ e. IsUnstored D.faults (LacksRoom self.old ⊎ IsLast self.old) self.old.files self.new.files self.old.faults e) }
+        ensures cause { IfErr result (λ e. is_due self.old ≡ false → IsUnstored D.faults (LacksRoom self.old) self.old.files self.new.files self.old.faults e) }
+        ensures cause_due { IfErr result (λ e. is_due self.old ≡ true → FailsAnew D.faults self.old self.new e ⊎ FailsOn D.faults self.old self.new e) }
+        ensures kept { OnErr result (self.new.limits ≡ self.old.limits) }
         ensures asked { self.new.asked ≡ self.old.asked }
         ensures limits { AreNoLower self.old.limits self.new.limits }
         ensures any_moment { LeavesPairs D.moment D.left_since D.may_leave self.old.files self.new.files (IsLasting (asked_of self.old.asked) self.old.limits (stored_as self.old)) }
@@ -677,6 +741,8 @@ impl<D: Disk + Send> Pages for FilePages<D> {
         ensures cause { IfErr result (λ e. IsUnstored D.faults (LacksRoom self.old) self.old.files self.new.files self.old.faults e) }
         ensures rule { KeepsRule self.old self.new }
         ensures limits { self.new.limits ≡ self.old.limits }
+        // The log has a block more, of the mark alone.
+        ensures grown { OnOk result (IsGrown D.seen 9 self.old.files self.new.files) }
         ensures any_moment { LeavesPairs D.moment D.left_since D.may_leave self.old.files self.new.files (IsLasting (upto ∷ asked_of self.old.asked) self.old.limits (stored_as self.old)) }
     {
         self.files.law_time();

@@ -10,7 +10,8 @@ ghost use Rattle.sled_pages.specs.Memory.{store_of};
 ghost use Rattle.sled_files.specs.Lasting.{Limits};
 ghost use Rattle.sled_files.specs.Pending.{Spells};
 ghost use Rattle.sled_files.specs.Stored.{AreWithin};
-ghost use Rattle.sled_files.specs.theory.Spelled.{IsSpelled, ComeNext};
+ghost use Rattle.sled_files.specs.Raised.{ComeNext};
+ghost use Rattle.sled_files.specs.theory.Spelled.{IsSpelled};
 ghost use Rattle.sled_files.specs.theory.Ahead.{IsAhead};
 
 use sled_bytes::{Change, encode_change, encode_given, encode_linked, encode_rooted};

@@ -55,7 +55,7 @@ pub fn add<D: Disk>(files: &mut TwoFiles<D>, faults: &mut u64, payload: &[u8]) -
     ensures up { OnOk result (files.old.failed ≡ false) }
     ensures same { OnOk result (faults.new ≡ faults.old) }
     ensures still_up { OnOk result (files.new.failed ≡ false) }
-    ensures grown { OnOk result (IsGrown D.seen files.old files.new) }
+    ensures grown { OnOk result (IsGrown D.seen (length payload.now) files.old files.new) }
     ensures fault { IfErr result (λ e. IsFault faults.old faults.new e) }
     ensures cause { IfErr result (λ e. IsUnstored D.faults (2 ^ 62 < files.old.gate + 17 + length payload.now) files.old files.new faults.old e) }
     ensures err { OnErr result ((files.new ≡ files.old) ⊎ (files.new.failed ≡ true)) }

@@ -9,6 +9,7 @@ use Rattle.std.proofs.lemmas.Nat.{le_bytes_8, mod_below}
 use Rattle.std.proofs.lemmas.Bool.{eqb-true, leb-true}
 use Rattle.sled_log.specs.Digest.{digest}
 use Rattle.sled_log.specs.Log.{closed, opened, block, blocks, number_in, payload_in, is_whole, next_of, with_first, log_by, log_from, log_of, IsLog}
+use Rattle.sled_log.specs.Tear.{HasNoBlock, EndsAt}
 use Rattle.sled_log.proofs.LogLemmas.{with_all, log_goes_on, log_closed, count-blocks}
 use Rattle.sled_log.proofs.Appending.{all_push, blocks_push}
 
@@ -30,10 +31,10 @@ pub bytes-drop : (n : ℕ) (l : List ℕ) → AreBytes l → AreBytes (drop n l)
 bytes-drop n l small i = subst (λ (b : ℕ). b < 256) (sym (get_or-drop n l i 0)) (small (n + i))
 
 -- what stands at a gate, by the tests that say so
-abbrev chosen : Bool → Bool → Bool → List ℕ → Result (Option (List ℕ)) (Unit {0})
+abbrev pub chosen : Bool → Bool → Bool → List ℕ → Result (Option (List ℕ)) (Unit {0})
 chosen is_closed is_opened whole payload = if is_closed then Ok None else if is_opened && whole then Ok (Some payload) else Err tt
 
-some_chosen : (x y long fits : Bool) (q p : List ℕ) → chosen x y (long && fits) q ≡ Ok (Some p) → (y ≡ true) × (long ≡ true) × (fits ≡ true) × (q ≡ p)
+pub some_chosen : (x y long fits : Bool) (q p : List ℕ) → chosen x y (long && fits) q ≡ Ok (Some p) → (y ≡ true) × (long ≡ true) × (fits ≡ true) × (q ≡ p)
 some_chosen true y long fits q p h = absurd (cc)
 some_chosen false true true true q p h = (refl, refl, refl, cc)
 some_chosen false true true false q p h = absurd (cc)
@@ -118,6 +119,10 @@ module _ {digest : List ℕ → ℕ} {file : List ℕ} {payloads : List (List �
     file_is = file_is ∙ ap (λ (l : List ℕ). blocks digest payloads ++ l) (closed_is digest (drop at file) next);
     gate_is = size;
   }
+
+  -- where no block is, the log ends
+  pub front_ends : HasNoBlock digest (drop at file) → EndsAt digest file payloads at
+  front_ends ends = record { fit = so_far.fit; rest = drop at file; file_is = file_is; ends = ends; place_is = size }
 
   fails_from : (most start : ℕ) (l : List ℕ) (fault : Unit {0}) → next_of digest l ≡ Err fault → log_from digest most start l ≡ Err start
   fails_from zero start l fault next = refl

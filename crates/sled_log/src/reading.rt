@@ -4,6 +4,7 @@ ghost use Rattle.std.specs.Int.{from_le_bytes, w64};
 ghost use Rattle.sled_disk.specs.Disk.{NoMore, LeavesOnly, HasCause};
 ghost use Rattle.sled_log.specs.Digest.{digest};
 ghost use Rattle.sled_log.specs.Log.{number_in, next_of, log_of, IsLog};
+ghost use Rattle.sled_log.specs.Tear.{log_to_tear, EndsAt};
 ghost use Rattle.sled_log.specs.Reading.{is_why};
 ghost use Rattle.sled_log.specs.theory.Reading.{payload_of};
 ghost use Rattle.sled_log.specs.declared.reading.LogError.TheVariants.{NoMemory};
@@ -47,7 +48,7 @@ impl<T: Drop> From<AllocFailed<T>> for LogError {
 pub struct Log<'a> {
     /// The payloads of its blocks, the first of them first.
     pub payloads: Vec<&'a [u8]>,
-    /// The place of the closed gate that ends it.
+    /// The place of the closed gate that ends it, or, if it was read up to a tear, the place where it ends.
     pub gate: usize,
 }
 
@@ -120,6 +121,33 @@ pub fn read_log(alloc: Global, bytes: &[u8]) -> Result<Log<'_>, LogError>
     'blocks: loop {
         match next_payload(&bytes[at..]) {
             Err(()) => return Err(LogError::Decayed(at)),
+            Ok(None) => return Ok(Log { payloads, gate: at }),
+            Ok(Some(payload)) => {
+                payloads.push(payload)?;
+                at += 17 + payload.len();
+            }
+        }
+    }
+}
+
+/// Reads a log that a crash may have torn: the payloads of its blocks up to a closed gate or to the first fault, whatever is from there
+/// on. So a block that has decayed ends the log too. Refused with `NoMemory` alone.
+///
+/// ```
+/// if let Ok(log) = read_to_tear(alloc, disk.bytes()) {
+///     let end = log.gate; // Where the next block goes, once the log is mended.
+/// }
+/// ```
+pub fn read_to_tear(alloc: Global, bytes: &[u8]) -> Result<Log<'_>, LogError>
+    ensures ends { IfOk result (λ log. EndsAt digest bytes.now (map (λ p. p.now) log.payloads.items) log.gate) }
+    ensures read { IfOk result (λ log. log_to_tear digest bytes.now ≡ map (λ p. p.now) log.payloads.items) }
+    ensures err { IfErr result (λ e. e ≡ NoMemory) }
+{
+    let mut payloads = Vec::new(alloc);
+    let mut at = 0;
+    'blocks: loop {
+        match next_payload(&bytes[at..]) {
+            Err(()) => return Ok(Log { payloads, gate: at }),
             Ok(None) => return Ok(Log { payloads, gate: at }),
             Ok(Some(payload)) => {
                 payloads.push(payload)?;

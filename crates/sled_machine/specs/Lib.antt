@@ -1,2 +1,2 @@
-pub use Rattle.sled_calls.specs as sled_calls
-pub use Rattle.sled_shared.specs as sled_shared
+pub use Rattle.machine_alone.specs as machine_alone
+pub use Rattle.machine_shared.specs as machine_shared

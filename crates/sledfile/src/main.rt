@@ -7,9 +7,9 @@ mod opened;
 
 ghost use Rattle.std.specs.Prelude.{◌≡◌, [], OnOk};
 
+use line_sessions::lines::{Buffers, End, run_lines, tell_end};
 use line_words::input::Stopped;
 use opened::{Opened, compact, flush, open_again, open_first, tell_stats};
-use sled_lines::lines::{Buffers, End, run_lines, tell_end};
 use std::alloc::Global;
 use std::env;
 use std::io::{BufRead, BufReader, BufWriter, Write};

@@ -1,12 +1,12 @@
 //! A session on the database of a folder: how it is opened, what is printed of it, and how it is dropped.
 
+use line_sessions::operator::NoOperator;
+use line_sessions::session::{Session, write};
 use line_words::input::Stopped;
 use line_words::print::push_refused;
 use sled::{DEFAULT_TREE, Db};
 use sled_files::FilePages;
 use sled_host::HostFile;
-use sled_lines::operator::NoOperator;
-use sled_lines::session::{Session, write};
 use sled_model::{Outcome, Reply, Whole};
 use sled_nodes::{Error, IVec};
 use sled_path::open;

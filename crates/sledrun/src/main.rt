@@ -1,7 +1,7 @@
 //! Runs commands on a database over pages in memory: reads them line by line, and prints how each came out.
 #![tactic(auto)]
 
-use sled_lines::serve::serve;
+use line_sessions::serve::serve;
 use std::io::{BufReader, BufWriter};
 use std::process::ExitCode;
 

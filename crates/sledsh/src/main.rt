@@ -4,8 +4,8 @@
 
 use line_files::{Program, check};
 use line_words::input::Stopped;
-use shell_lines::shell::{VERSION, run};
-use shell_parts::memory::Memory;
+use shell_answers::memory::Memory;
+use shell_answers::shell::{VERSION, run};
 use sled_nodes::Error;
 use std::alloc::Global;
 use std::io::{BufReader, BufWriter, IsTerminal, Write};

@@ -1,12 +1,12 @@
 //! What a kind of stores has for tests, beside the contract of a store.
 use sled_nodes::{IVec, Link, Node, Pid, Result};
 use sled_pages::Rebuild;
-use sled_store::Pages;
 use std::alloc::Global;
 
 /// A kind of stores, as tests make and treat them. Only `empty` has to be written. Each other call is for what a store may have beside
-/// its contract; one that is not written answers `None`, and a line that asks for it is left out, with those behind it up to a `new`.
-pub trait Trial<P: Pages> {
+/// its contract; one that is not written answers `None`, and a line that asks for it is left out, with those behind it up to a `new`. That
+/// stores are `Pages` is asked where lines run over them.
+pub trait Trial<P: Drop> {
     /// An empty store, of which nothing was given.
     fn empty(&self, alloc: Global) -> Result<P>;
 

@@ -1,5 +1,5 @@
 -- Steps that keep copies of a reply: where a page that was read decides a call, the call may be refused for want of memory too.
-use Rattle.std.proofs.Common.{◌≡◌, ◌≢◌, ℕ, Bool, false, Option, Some, None, is_none, MatchOption, Result, Ok, Err, sym, refl, ap, ◌∙◌, subst, inl, inr}
+use Rattle.std.proofs.Common.{◌≡◌, ◌≢◌, ◌⊎◌, ℕ, Bool, true, false, Option, Some, None, is_none, MatchOption, Result, Ok, Err, sym, refl, ap, ◌∙◌, subst, inl, inr}
 use Rattle.sled_nodes.proofs.Basics.{none_some, true_false}
 use Rattle.sled_nodes.specs.Order.{Key}
 use Rattle.sled_nodes.specs.Ranges.{Range}
@@ -43,8 +43,8 @@ use Rattle.sled_tree.specs.declared.flight.Went.{Went}
 use Rattle.sled_tree.specs.declared.flight.Went.TheVariants as went
 use Rattle.sled_tree.proofs.Facts.{unable, by_these}
 use Rattle.tree_scans.specs.Scans.{ScanStep, Gives, Ends, GoesOn, Walks, Lacks, behind}
-use Rattle.tree_steps.specs.Outcomes.{outcome_of, kept_of}
-use Rattle.tree_steps.specs.theory.Outcomes.{ComesOut}
+use Rattle.tree_steps.specs.Outcomes.{outcome_of}
+use Rattle.tree_steps.specs.theory.Outcomes.{ComesOut, IsUnkept}
 use Rattle.tree_steps.specs.theory.Watched.{TellsPrepared, StepsOver, steps_over_as, links_watched_as}
 use Rattle.tree_steps.proofs.Watching.{short, alone, same_queues}
 
@@ -208,14 +208,16 @@ module _ (operator : Option Operator) (a b : Store) (f g : InFlight) where
         follows = record { is = record { is = t.1 } };
       }
 
-  -- a call on a key that is not at its link
-  pub kept_alone : IsOnKey f.job.call → (IsAtLink f.stage → ⊥) → (queues : QueuesValue) → IsCalm (queue_at queues) → (w kept : Went) → StepsBy operator a f w b g → ComesOut w kept → StepsOver operator a queues f kept b queues g
-  kept_alone on_key off queues calm w kept steps out = record {
-    is = subst (λ o. steps_over_as o operator a queues f kept b queues g) (sym on_key) (alone operator a b f g queues calm (λ v here. absurd (off (subst IsAtLink (sym here) tt))) kept (elim out [
-      | inl e ↦ subst (λ z. StepsBy operator a f z b g) (sym e) steps
-      | inr t ↦ subst (λ z. StepsBy operator a f z b g) (sym t.3) (lacks t.0 (λ v here. absurd (off (subst IsAtLink (sym here) tt))) (subst (λ z. StepsBy operator a f z b g) t.1 steps))
-    ]));
+  -- a call on a key that links nothing, or whose link is neither told nor kept
+  pub kept_alone : IsOnKey f.job.call → (queues : QueuesValue) → IsCalm (queue_at queues) → links_watched_as queues f false → (copies : Bool) → (copies ≡ false) ⊎ (IsAtLink f.stage → ⊥) → (w kept : Went) → StepsBy operator a f w b g → ComesOut w kept → (copies ≡ false → kept ≡ w) → StepsOver operator a queues f kept b queues g
+  kept_alone on_key queues calm unwatched copies unlinked w kept steps out same = record {
+    is = subst (λ o. steps_over_as o operator a queues f kept b queues g) (sym on_key) (alone operator a b f g queues calm unwatched kept (kept_steps unlinked out));
   }
+    where
+      kept_steps : (copies ≡ false) ⊎ (IsAtLink f.stage → ⊥) → ComesOut w kept → StepsBy operator a f kept b g
+      kept_steps (inl plain) o = subst (λ z. StepsBy operator a f z b g) (sym (same plain)) steps
+      kept_steps (inr off) (inl e) = subst (λ z. StepsBy operator a f z b g) (sym e) steps
+      kept_steps (inr off) (inr t) = subst (λ z. StepsBy operator a f z b g) (sym t.3) (lacks t.0 (λ v here. absurd (off (subst IsAtLink (sym here) tt))) (subst (λ z. StepsBy operator a f z b g) t.1 steps))
 
 -- a scan links nothing
 scan_links : (c : Call) (r : Range) → range_of c ≡ Some r → (o : Option Operator) (d : Data) → link_of (decision_at o c d).effect (key_of c) ≡ None
@@ -258,12 +260,19 @@ scan_kept operator a b f g scan queues w kept step out = record { is = over (ran
       same_queues queues queues refl,
     )
 
--- of a step that decides nothing no reply is kept
-pub keeps_none : (w : Went) → ((reply : Reply) → w ≡ went.Decided reply → ⊥) → None ≡ kept_of (outcome_of w)
-keeps_none went.Moved off = refl
-keeps_none (went.Yielded key value) off = refl
-keeps_none (went.Decided reply) off = absurd (off reply refl)
-keeps_none (went.Refused e) off = refl
+-- of a step that decides nothing no reply is kept, and of none if no copies are
+pub unkept : (copies : Bool) (w : Went) → ((reply : Reply) → w ≡ went.Decided reply → ⊥) → IsUnkept copies (outcome_of w)
+unkept false w off = tt
+unkept true went.Moved off = tt
+unkept true (went.Yielded key value) off = tt
+unkept true (went.Decided reply) off = absurd (off reply refl)
+unkept true (went.Refused e) off = tt
+
+pub unkept_moved : (copies : Bool) → IsUnkept copies (outcome_of went.Moved)
+unkept_moved copies = unkept copies went.Moved (λ reply e. cc)
+
+pub unkept_refused : (copies : Bool) (e : Error) → IsUnkept copies (outcome_of (went.Refused e))
+unkept_refused copies e = unkept copies (went.Refused e) (λ reply d. cc)
 
 -- ---- a change that was prepared
 

@@ -3,7 +3,7 @@
 //! If the step is to link a change, and some queue waits for the key, the event is prepared in the queues before the page is touched, which
 //! is refused for memory alone. Once the link is made the event waits there, and if it is not made the event is dropped. Every other step
 //! is one over the pages alone, and one that links nothing does not look at the queues.
-ghost use Rattle.std.specs.Prelude.{◌<◌};
+ghost use Rattle.std.specs.Prelude.{◌≡◌, ◌<◌, ◌⊎◌, false, IfSome, IfNone};
 ghost use Rattle.std.specs.Option.{option_map};
 ghost use Rattle.sled_queues.specs.Values.{queue_at};
 ghost use Rattle.sled_queues.specs.Queues.{IsCalm};
@@ -11,9 +11,12 @@ ghost use Rattle.sled_tree.specs.theory.Change.{IsOfPair};
 ghost use Rattle.sled_tree.specs.theory.Linking.{IsAtLink};
 ghost use Rattle.sled_model.specs.State.{IsOnKey};
 ghost use Rattle.sled_tree.specs.Stages.{IsOnItsWay};
+ghost use Rattle.tree_steps.specs.Outcomes.{outcome_of, kept_of};
+ghost use Rattle.tree_steps.specs.theory.Outcomes.{ComesOut};
 ghost use Rattle.tree_steps.specs.theory.Watched.{AdvancesOver, StepsOver, TellsPrepared, links_watched_as};
 
-use sled_model::{MAX_LOOPS, MergeOperator};
+use crate::keep::Keep;
+use sled_model::{MAX_LOOPS, MergeOperator, Reply};
 use sled_queues::Queues;
 use sled_store::Pages;
 use sled_tree::{
@@ -21,19 +24,56 @@ use sled_tree::{
 };
 use std::alloc::Global;
 
-// Whether a call is to link a change of a key that some queue waits for.
-pub(crate) fn links_watched(queues: &Queues, flight: &InFlight) -> bool
-    ensures { links_watched_as queues.now flight.now result }
+/// How a step came out, and two copies of the reply if it decided its call.
+pub type Kept = (Went, Option<(Reply, Reply)>);
+
+// Whether the event of a call that is to link its change is sent. `None` where `advance` does the whole step: where nothing is to be
+// linked, or what is linked is neither told nor kept.
+#[inline(always)]
+fn linked_apart<K: Keep>(queues: &Queues, flight: &InFlight) -> Option<bool>
+    ensures here { IfSome result (λ watched. IsAtLink flight.now.stage) }
+    ensures apart { IfSome result (λ watched. links_watched_as queues.now flight.now watched) }
+    ensures alone { IfNone result (links_watched_as queues.now flight.now false) }
+    ensures unkept { IfNone result ((K.COPIES ≡ false) ⊎ (IsAtLink flight.now.stage → ⊥)) }
 {
     match &flight.stage {
-        Stage::Act(_) => { queues.is_watched(flight.job.tree.number, flight.job.call.key()) }
-        _ => false,
+        Stage::Act(_) => {
+            let watched = queues.is_watched(flight.job.tree.number, flight.job.call.key());
+            if watched || K::COPIES {
+                Some(watched)
+            } else {
+                None
+            }
+        }
+        _ => None,
+    }
+}
+
+// Keeps the reply of a step that is to be refused if there is no memory for it.
+#[inline(always)]
+fn keep<K: Keep>(went: Went) -> (Went, K)
+    ensures comes { ComesOut went result.0 }
+    ensures same { K.COPIES ≡ false → result.0 ≡ went }
+    ensures kept { result.1 ≡ K.kept (outcome_of result.0) }
+{
+    if !K::COPIES {
+        return (went, K::nothing());
+    }
+    match went {
+        Went::Decided(reply) => match K::of(&reply) {
+            Ok(kept) => (Went::Decided(reply), kept),
+            Err(e) => {
+                drop(reply);
+                (Went::Refused(e), K::nothing())
+            }
+        },
+        went => (went, K::nothing()),
     }
 }
 
 // Links a change that was prepared for a call, and sends its event. All that may be refused is before the link.
 #[inline(always)]
-pub(crate) fn link_told<P: Pages>(
+fn link_told<P: Pages>(
     pages: &mut P,
     queues: &mut Queues,
     flight: &mut InFlight,
@@ -70,47 +110,109 @@ pub(crate) fn link_told<P: Pages>(
     }
 }
 
-// The step of a call that is to link its change, and sends its event.
-fn link_watched<P: Pages, M: MergeOperator>(
+// The same, but that its event is sent only if some queue waits for the key.
+#[inline(always)]
+fn link_prepared<P: Pages>(
     pages: &mut P,
     queues: &mut Queues,
-    alloc: Global,
-    operator: Option<&M>,
     flight: &mut InFlight,
+    change: Change,
+    watched: bool,
 ) -> Went
     requires room { flight.old.turns < MAX_LOOPS }
     requires here { IsAtLink flight.old.stage }
+    requires watched { links_watched_as queues.old flight.old watched }
+    requires pair { IsOfPair change.link }
     requires calm { IsCalm (queue_at queues.old) }
-    ensures { AdvancesOver (option_map (λ o. M.meant o.now) operator.entry) (P.store pages.old) queues.old flight.old result (P.store pages.new) queues.new flight.new }
+    ensures { TellsPrepared change (P.store pages.old) queues.old flight.old result (P.store pages.new) queues.new flight.new }
 {
-    match prepare_change(alloc, flight, operator) {
-        Err(e) => Went::Refused(e),
-        Ok(None) => {
-            begin_again(flight);
-            Went::Moved
-        }
-        Ok(Some(change)) => link_told(pages, queues, flight, change),
+    if watched {
+        link_told(pages, queues, flight, change)
+    } else {
+        link_change(pages, flight, change)
     }
 }
 
-// One step of a call on a key that has turns left.
+// The same, and keeps the reply. What it takes is made before the link.
 #[inline(always)]
-fn advance_on_key<P: Pages, M: MergeOperator>(
+fn link_keeping<P: Pages, K: Keep>(
+    pages: &mut P,
+    queues: &mut Queues,
+    flight: &mut InFlight,
+    change: Change,
+    watched: bool,
+) -> (Went, K)
+    requires room { flight.old.turns < MAX_LOOPS }
+    requires here { IsAtLink flight.old.stage }
+    requires watched { links_watched_as queues.old flight.old watched }
+    requires pair { IsOfPair change.link }
+    requires calm { IsCalm (queue_at queues.old) }
+    ensures links { TellsPrepared change (P.store pages.old) queues.old flight.old result.0 (P.store pages.new) queues.new flight.new }
+    ensures kept { result.1 ≡ K.kept (outcome_of result.0) }
+{
+    let kept = match K::of(&change.reply) {
+        Ok(kept) => kept,
+        Err(e) => {
+            drop(change);
+            return (Went::Refused(e), K::nothing());
+        }
+    };
+    match link_prepared(pages, queues, flight, change, watched) {
+        Went::Decided(reply) => (Went::Decided(reply), kept),
+        went => {
+            drop(kept);
+            (went, K::nothing())
+        }
+    }
+}
+
+// The step of a call that is to link its change, in two halves.
+fn link_over<P: Pages, M: MergeOperator, K: Keep>(
     pages: &mut P,
     queues: &mut Queues,
     alloc: Global,
     operator: Option<&M>,
     flight: &mut InFlight,
-) -> Went
+    watched: bool,
+) -> (Went, K)
     requires room { flight.old.turns < MAX_LOOPS }
-    requires way { IsOnItsWay flight.old.stage }
+    requires here { IsAtLink flight.old.stage }
+    requires watched { links_watched_as queues.old flight.old watched }
     requires calm { IsCalm (queue_at queues.old) }
-    ensures { AdvancesOver (option_map (λ o. M.meant o.now) operator.entry) (P.store pages.old) queues.old flight.old result (P.store pages.new) queues.new flight.new }
+    ensures steps { AdvancesOver (option_map (λ o. M.meant o.now) operator.entry) (P.store pages.old) queues.old flight.old result.0 (P.store pages.new) queues.new flight.new }
+    ensures kept { result.1 ≡ K.kept (outcome_of result.0) }
 {
-    if links_watched(queues, flight) {
-        link_watched(pages, queues, alloc, operator, flight)
-    } else {
-        advance(pages, alloc, operator, flight)
+    match prepare_change(alloc, flight, operator) {
+        Err(e) => (Went::Refused(e), K::nothing()),
+        Ok(None) => {
+            begin_again(flight);
+            (Went::Moved, K::nothing())
+        }
+        Ok(Some(change)) => link_keeping(pages, queues, flight, change, watched),
+    }
+}
+
+/// One step of a call in flight that has turns left, and what is kept of it. A scan touches no queue.
+#[inline(always)]
+pub fn step_over<P: Pages, M: MergeOperator, K: Keep>(
+    pages: &mut P,
+    queues: &mut Queues,
+    alloc: Global,
+    operator: Option<&M>,
+    flight: &mut InFlight,
+) -> (Went, K)
+    requires room { flight.old.turns < MAX_LOOPS }
+    requires way { IsOnKey flight.old.job.call → IsOnItsWay flight.old.stage }
+    requires calm { IsCalm (queue_at queues.old) }
+    ensures steps { StepsOver (option_map (λ o. M.meant o.now) operator.entry) (P.store pages.old) queues.old flight.old result.0 (P.store pages.new) queues.new flight.new }
+    ensures kept { result.1 ≡ K.kept (outcome_of result.0) }
+{
+    if !flight.job.call.is_on_key() {
+        return keep(tree_scans::advance(pages, alloc, flight));
+    }
+    match linked_apart::<K>(queues, flight) {
+        Some(watched) => link_over(pages, queues, alloc, operator, flight, watched),
+        None => keep(advance(pages, alloc, operator, flight)),
     }
 }
 
@@ -127,9 +229,23 @@ pub fn advance_over<P: Pages, M: MergeOperator>(
     requires calm { IsCalm (queue_at queues.old) }
     ensures { StepsOver (option_map (λ o. M.meant o.now) operator.entry) (P.store pages.old) queues.old flight.old result (P.store pages.new) queues.new flight.new }
 {
-    if flight.job.call.is_on_key() {
-        advance_on_key(pages, queues, alloc, operator, flight)
-    } else {
-        tree_scans::advance(pages, alloc, flight)
-    }
+    let (went, ()) = step_over(pages, queues, alloc, operator, flight);
+    went
+}
+
+/// One step of a call in flight that has turns left, as `advance_over` makes it, and copies of its reply if it decides the call.
+pub fn keep_over<P: Pages, M: MergeOperator>(
+    pages: &mut P,
+    queues: &mut Queues,
+    alloc: Global,
+    operator: Option<&M>,
+    flight: &mut InFlight,
+) -> Kept
+    requires room { flight.old.turns < MAX_LOOPS }
+    requires way { IsOnKey flight.old.job.call → IsOnItsWay flight.old.stage }
+    requires calm { IsCalm (queue_at queues.old) }
+    ensures steps { StepsOver (option_map (λ o. M.meant o.now) operator.entry) (P.store pages.old) queues.old flight.old result.0 (P.store pages.new) queues.new flight.new }
+    ensures kept { result.1 ≡ kept_of (outcome_of result.0) }
+{
+    step_over(pages, queues, alloc, operator, flight)
 }

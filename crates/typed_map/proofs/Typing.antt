@@ -1,48 +1,17 @@
 -- Entries of types, and the pairs of bytes that spell them.
-use Rattle.std.proofs.Common.{◌≡◌, Bool, true, false, not, cond, ◌&&◌, T, map, filter, List, [], ◌∷◌, Option, Some, None, option_map, Less, Equal, Greater, is_eq, sym, refl, ap, ◌∙◌, subst}
-use Rattle.std.specs.FinMap.Entries.{find, put, by_order, is_sorted, below_all, same_entries, is_sorted-put, find-put}
+use Rattle.std.proofs.Common.{◌≡◌, Bool, true, false, not, cond, ◌&&◌, map, filter, List, [], ◌∷◌, Some, option_map, Less, Equal, Greater, is_eq, refl, ap, ◌∙◌, subst}
+use Rattle.std.specs.FinMap.Entries.{find, put, by_order, is_sorted, below_all}
 use Rattle.std.specs.List.{AllByRecursion}
 use Rattle.std.specs.Ordering.{is_lt, is_gt}
-use Rattle.std.specs.Str.{bytes_eq}
 use Rattle.std.specs.declared.cmp.Ordering.{Ordering}
 use Rattle.std.specs.declared.ops.Bound.{Bound}
 use Rattle.std.specs.declared.ops.Bound.TheVariants.{Included, Excluded, Unbounded}
-use Rattle.sled_nodes.proofs.Basics.{key_total, key_same}
 use Rattle.sled_nodes.specs.Among.{is_up_to, is_from}
 use Rattle.sled_nodes.specs.Order.{Key, key_cmp}
-use Rattle.sled_store.specs.theory.Facts.{same_name}
 use Rattle.tree_reads.specs.Ranges.{pairs_within}
-use Rattle.sled_model.specs.Maps.{Map, Merge}
-use Rattle.sled_model.specs.Answer.{answer_of, decision_of, map_after}
-use Rattle.sled_model.specs.declared.call.Call.TheVariants.{Insert}
-use Rattle.sled_model.specs.declared.decision.Effect.TheVariants.{Nothing, Set}
+use Rattle.sled_model.specs.Maps.{Map}
 use Rattle.typed_map.specs.Typed.{Spelling, is_above, is_below, pair_bytes}
 use Rattle.typed_map.specs.theory.Typed.{bound_bytes, bounds_value}
-
--- ---- an insert puts its pair in its place, also where an equal value stands and nothing is written
-
-find_stays : (k v : Key) (m : Map) → find key_cmp k m ≡ Some v → (q : Key) → find key_cmp q (put key_cmp k v m) ≡ find key_cmp q m
-find_stays k v m there q = find-put key_cmp key_total q k v m ∙ go (key_cmp q k) refl
-  where
-    go : (o : Ordering) → key_cmp q k ≡ o → cond (is_eq o) (Some v) (find key_cmp q m) ≡ find key_cmp q m
-    go Less e = refl
-    go Equal e = sym there ∙ ap (λ x. find key_cmp x m) (sym (key_same q k e))
-    go Greater e = refl
-
-put_stays : (k v : Key) (m : Map) → T (is_sorted key_cmp m) → find key_cmp k m ≡ Some v → m ≡ put key_cmp k v m
-put_stays k v m sorted there =
-    sym (same_entries key_cmp key_total key_same (put key_cmp k v m) m (is_sorted-put key_cmp key_total k v m sorted) sorted (find_stays k v m there))
-
-pub insert_puts : (merge : Option Merge) (k v : Key) (m : Map) → T (is_sorted key_cmp m) → (answer_of merge (Insert k v) m).map ≡ put key_cmp k v m
-insert_puts merge k v m sorted = go (find key_cmp k m) refl
-  where
-    over : (old : Key) (b : Bool) → bytes_eq old v ≡ b → find key_cmp k m ≡ Some old → map_after (cond b Nothing (Set v)) k m ≡ put key_cmp k v m
-    over old true same e = put_stays k v m sorted (e ∙ ap Some (same_name old v same))
-    over old false other e = refl
-
-    go : (o : Option Key) → find key_cmp k m ≡ o → map_after (decision_of merge (Insert k v) o).effect k m ≡ put key_cmp k v m
-    go None e = refl
-    go (Some old) e = over old (bytes_eq old v) refl e
 
 -- ---- entries and their bytes
 

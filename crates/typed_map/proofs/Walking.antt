@@ -9,23 +9,21 @@ use Rattle.sled_nodes.proofs.Basics.{true_of, of_true}
 use Rattle.sled_nodes.specs.Among.{is_up_to, is_from}
 use Rattle.sled_nodes.specs.Order.{Key, key_cmp}
 use Rattle.sled_store.specs.Store.{Store}
-use Rattle.sled_store.specs.theory.Facts.{put_name_here, put_name_elsewhere}
 use Rattle.tree_reads.specs.Ranges.{Coming, pairs_within}
 use Rattle.tree_reads.proofs.Ranging.{reversed_none}
 use Rattle.sled_model.specs.Maps.{Map, Merge}
-use Rattle.sled_model.specs.Answer.{answer_of}
-use Rattle.sled_model.specs.State.{State, NamedTree, maps_of, after_decision_on}
+use Rattle.sled_model.specs.State.{NamedTree, maps_of}
 use Rattle.sled_model.specs.declared.call.Call.TheVariants.{Insert}
-use Rattle.sled_model.specs.declared.reply.Reply.{Reply}
 use Rattle.sled_model.specs.declared.reply.Reply.TheVariants.{Value}
 use Rattle.sled_model.specs.declared.tree.Tree.{Tree}
 use Rattle.sled.specs.Values.{DbValue, db_state}
 use Rattle.sled.specs.Sound.{MapsAscend}
 use Rattle.sled.specs.Direct.{PointDecided}
+use Rattle.sled.specs.Promises.{ChangesMap}
 use Rattle.sled.specs.Reads.{ReadsMap, BeginsRange}
 use Rattle.typed_map.specs.Typed.{Spelling, pairs_in, is_above, is_below, pair_bytes, IsTyped, Puts, LooksUp, Walks, IsForeign, IsPut, HasBytes, SpellsNone}
 use Rattle.typed_map.specs.theory.Typed.{bound_bytes, bounds_value}
-use Rattle.typed_map.proofs.Typing.{KeepsOrder, IsOneToOne, insert_puts, put_bytes, put_values, find_bytes, find_value, within_bytes, within_values, sorted_bytes, same_entries_of}
+use Rattle.typed_map.proofs.Typing.{KeepsOrder, IsOneToOne, put_bytes, put_values, find_bytes, find_value, within_bytes, within_values, sorted_bytes, same_entries_of}
 
 none_of : {A B : Type 0} (f : A → B) (o : Option A) → None ≡ option_map f o → None ≡ o
 none_of f None e = refl
@@ -44,28 +42,21 @@ module _ {P M : Type 0} (store : P → Store) (meant : M → Merge) (d : DbValue
   sorted : MapsAscend (maps_of (db_state store meant d)) → (named : NamedTree) → (db_state store meant d).trees tree.name ≡ Some named → T (is_sorted key_cmp named.map)
   sorted ascend named there = of_true (is_sorted key_cmp named.map) (ascend.is tree.name named.map (ap (option_map (λ (t : NamedTree). t.map)) there))
 
-  decided : (s : State) (named : NamedTree) (k v : Key) → pairs_in (maps_of (after_decision_on s tree.name named (answer_of named.merge (Insert k v) named.map)) tree.name) ≡ (answer_of named.merge (Insert k v) named.map).map
-  decided s named k v = ap (λ o. pairs_in (option_map (λ (t : NamedTree). t.map) o)) (put_name_here s.trees tree.name (Some (record named { map = (answer_of named.merge (Insert k v) named.map).map })))
-
-  pub puts : (key : K) (value : V) → keys.is_value key → values.is_value value → MapsAscend (maps_of (db_state store meant d)) → (new : DbValue P M) (k v : Key) (reply : Reply) → k ≡ keys.bytes key → v ≡ values.bytes value → PointDecided store meant d tree (Insert k v) reply new
-      → Puts keys values (maps_of (db_state store meant d)) (maps_of (db_state store meant new)) tree.name key value
-  puts key value i j db new k v reply k-is v-is p =
-      let e = p.decides in record {
-        here = λ entries typed. record {
-          is =
-              ap (λ (s : State). pairs_in (maps_of s tree.name)) e.is
-              ∙ decided (db_state store meant d) e.named k v
-              ∙ insert_puts e.named.merge k v e.named.map (sorted db e.named e.there)
-              ∙ ap (put key_cmp k v) (sym (pairs_are e.named e.there) ∙ typed.is)
-              ∙ ap (λ z. put key_cmp z v (map (pair_bytes keys values) entries)) k-is
-              ∙ ap (λ z. put key_cmp (keys.bytes key) z (map (pair_bytes keys values) entries)) v-is
-              ∙ put_bytes keys values order key value entries i typed.are_values;
-          are_values = put_values keys values order key value entries i j typed.are_values;
-        };
-        trees = λ other off.
-            ap (λ (s : State). maps_of s other) e.is
-            ∙ ap (option_map (λ (t : NamedTree). t.map)) (put_name_elsewhere (db_state store meant d).trees tree.name other (Some (record (e.named) { map = (answer_of e.named.merge (Insert k v) e.named.map).map })) off);
-      }
+  pub puts : (key : K) (value : V) → keys.is_value key → values.is_value value → (new : DbValue P M) (k v : Key) (stood : Option Key) → k ≡ keys.bytes key → v ≡ values.bytes value
+      → ChangesMap store meant d tree (λ before after. (stood ≡ find key_cmp k before) × (after ≡ put key_cmp k v before)) new → Puts keys values (maps_of (db_state store meant d)) (maps_of (db_state store meant new)) tree.name key value
+  puts key value i j new k v stood k-is v-is c = record {
+    here = λ entries typed. record {
+      is =
+          ap pairs_in c.becomes
+          ∙ c.is.1
+          ∙ ap (put key_cmp k v) (sym (ap pairs_in c.was) ∙ typed.is)
+          ∙ ap (λ z. put key_cmp z v (map (pair_bytes keys values) entries)) k-is
+          ∙ ap (λ z. put key_cmp (keys.bytes key) z (map (pair_bytes keys values) entries)) v-is
+          ∙ put_bytes keys values order key value entries i typed.are_values;
+      are_values = put_values keys values order key value entries i j typed.are_values;
+    };
+    trees = c.others;
+  }
 
   -- what stands at the key
   stands : (key : K) (k : Key) (value : Option Key) → keys.is_value key → k ≡ keys.bytes key → ReadsMap store meant d tree (λ map. value ≡ find key_cmp k map)

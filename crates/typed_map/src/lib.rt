@@ -2,7 +2,7 @@
 //!
 //! Both types are the user's own. Each has the trait `Spelled`, which says how a value is spelled as a byte string, and proves that the
 //! bytes are in the order of the values and that no two values are spelled alike. `u64` and `IVec` have it. A type of several parts, as a
-//! station and an hour, is spelled by `ordered_keys`, and so are its laws (`by_parts` of `specs/Typed`); `Reading` of `examples` is one.
+//! station and an hour, is spelled by `ordered_keys`, and so are its laws (`by_parts` of `specs/Typed`); `Reading` of `example_databases` is one.
 //!
 //! ```
 //! put(&mut db, &tree, &7u64, &value)?;

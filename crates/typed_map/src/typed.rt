@@ -52,7 +52,6 @@ pub fn put<P: Pages, M: MergeOperator, K: Spelled, V: Spelled>(
     ensures stays { OnErr result (maps_of (db_state P.store M.meant db.new) ≡ maps_of (db_state P.store M.meant db.old)) }
     ensures err { IfErr result (λ e. RefusesPut P.store M.meant K.spelling V.spelling db.old tree.now key.now value.now e db.new) }
 {
-    db.audit();
     let key = match key.spell(db.allocator()) {
         Ok(key) => key,
         Err(e) => return Err(e),

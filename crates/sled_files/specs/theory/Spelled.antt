@@ -1,5 +1,5 @@
 -- A changing call of the pages in memory, beside which its change is spelled.
-use Rattle.std.specs.Prelude.{◌≡◌, ◌⊎◌, ◌<◌, ℕ, nat_lt, true, List, [], ◌∷◌, ◌++◌, Some}
+use Rattle.std.specs.Prelude.{◌≡◌, ◌⊎◌, ℕ, true, List, [], ◌∷◌, ◌++◌, Some}
 use Rattle.sled_store.specs.State.{Action}
 use Rattle.sled_store.specs.Store.{Store, now}
 use Rattle.sled_bytes.specs.declared.change.Change.{Change}
@@ -33,9 +33,3 @@ pub record MakesOne (old new : Store) (before after : List ℕ) : Type 0 where
 -- what is spelled is what was made
 pub record IsSpelled (old new : Store) (before after : List ℕ) : Type 0 where
   pub is : MakesNone old new before after ⊎ MakesOne old new before after
-
--- the page numbers that were given are those below the first of these, and the versions those below the second
-pub record ComeNext (s : Store) (pid version : ℕ) : Type 0 where
-  pub positive : 0 < pid
-  pub pids : (p : ℕ) → 0 < p → s.pids p ≡ nat_lt p pid
-  pub versions : (v : ℕ) → s.versions v ≡ nat_lt v version

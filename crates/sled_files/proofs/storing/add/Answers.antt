@@ -1,4 +1,5 @@
-use Rattle.std.proofs.Common.{◌≡◌, [], inl, inr, sym, subst, refl, length, List, ◌∷◌, ℕ, arith, rules}
+use Rattle.std.proofs.Common.{◌≡◌, [], inl, inr, sym, subst, refl, length, List, ◌∷◌, ◌∙◌, ◌<◌, ◌+◌, ap, cond, Bool, true, false, ℕ, arith, rules}
+use Rattle.std.specs.Prelude.{◌==◌}
 use Rattle.std.proofs.lemmas.Bool.Decides.{nat_tests}
 use Rattle.sled_bytes.specs.declared.change.Change.{Change}
 use Rattle.sled_files.specs.Change.{changed_all}
@@ -11,6 +12,19 @@ empty : (bytes : List ℕ) → length bytes ≡ 0 → bytes ≡ []
 empty [] is = refl
 empty (b ∷ bytes) is = absurd (omega (arith, is))
 
+-- how much longer a log is for nothing, and for a block
+no_more : (n gate : ℕ) → n ≡ 0 → gate ≡ gate + cond (n == 0) 0 (17 + n)
+no_more n gate is =
+    let none : (n == 0) ≡ true = grind (arith, nat_tests) in
+    let same : gate ≡ gate + 0 = omega arith in
+    same ∙ sym (ap (λ (b : Bool). gate + cond b 0 (17 + n)) none)
+
+more : (n gate : ℕ) → 0 < n → gate + 17 + n ≡ gate + cond (n == 0) 0 (17 + n)
+more n gate is =
+    let some : (n == 0) ≡ false = grind (arith, nat_tests) in
+    let same : gate + 17 + n ≡ gate + (17 + n) = omega arith in
+    same ∙ sym (ap (λ (b : Bool). gate + cond b 0 (17 + n)) some)
+
 pub returns-then-is_empty-clause-ready : goal.returns-then-is_empty-clause-ready
 returns-then-is_empty-clause-ready g c = λ d changes ready spells added.
     let e : c.args.payload.now ≡ [] = empty c.args.payload.now (grind (arith, nat_tests)) in
@@ -22,10 +36,12 @@ returns-then-is_empty-clause-any_moment g c = λ d changes ready spells added.
     moments_ready c.law_time.ensures.first c.law_time.ensures.second (empty_spells e spells) ready
 
 pub returns-then-is_empty-clause-grown : goal.returns-then-is_empty-clause-grown
-returns-then-is_empty-clause-grown g c = record { snapshot = refl; generation = refl; bytes = omega arith; other = inl refl }
+returns-then-is_empty-clause-grown g c = let none : length c.args.payload.now ≡ 0 = grind (arith, nat_tests) in
+    record { snapshot = refl; generation = refl; bytes = no_more (length c.args.payload.now) c.args.files.now.gate none; nothing = λ is. refl; other = λ some. absurd (omega (arith, some, none)) }
 
 pub returns-in-Ok-clause-grown : goal.returns-in-Ok-clause-grown
-returns-in-Ok-clause-grown g c = record { snapshot = c.append.ensures.snapshot; generation = c.append.ensures.generation; bytes = omega (arith, c.in-Ok.ensures.bytes); other = inr c.in-Ok.ensures.emptied }
+returns-in-Ok-clause-grown g c = let some : 0 < length c.args.payload.now = grind (arith, nat_tests) in
+    record { snapshot = c.append.ensures.snapshot; generation = c.append.ensures.generation; bytes = c.in-Ok.ensures.bytes ∙ more (length c.args.payload.now) c.args.files.now.gate some; nothing = λ is. absurd (omega (arith, is, some)); other = λ s. c.in-Ok.ensures.emptied }
 
 pub returns-then-failed-clause-cause : goal.returns-then-failed-clause-cause
 returns-then-failed-clause-cause g c = unstored_over c.args.files.now c.args.faults.now c.fault.result (search rules) c.fault.ensures.is

@@ -7,6 +7,7 @@ use Rattle.sled_files.specs.theory.Snapshot.{Makes}
 use Rattle.sled_files.proofs.Over.{own_fault}
 use Rattle.sled_files.proofs.Added.{sound_refused}
 use Rattle.sled_files.proofs.Anew.{whole_of, sound_anew, moments_anew, unchanged}
+use Rattle.sled_files.specs.Raised.{RaisesNear}
 use Rattle.sled_files.proofs.file_pages.FilePages.flush_anew.Goals as goal
 
 pub invariant_of-self : goal.invariant_of-self
@@ -51,3 +52,12 @@ returns-clause-any_moment g c =
 
 pub returns-in-Err-clause-cause : goal.returns-in-Err-clause-cause
 returns-in-Err-clause-cause g c = rw (← c.self.view_is) c.in-Err.ensures.cause
+
+pub returns-clause-renewed : goal.returns-clause-renewed
+returns-clause-renewed g c =
+    let raised : Limits = record { pids = c.args.pids; versions = c.args.versions } in
+    let near : RaisesNear (stored_as c.args.self.now) c.args.self.now.limits raised = c.requires.near in
+    rw (← c.self.view_is) (record {
+      files = c.in_default.ensures.renewed;
+      limits = subst (λ (v : Stored g.row.D.Denot). RaisesNear (stored_as v) v.limits raised) (sym c.self.view_is) near;
+    })

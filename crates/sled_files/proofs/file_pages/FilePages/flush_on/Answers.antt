@@ -1,4 +1,4 @@
-use Rattle.std.proofs.Common.{rules, arith, length, ◌≡◌, ◌∙◌, inl, inr, ⊎_elim, refl, ap, sym, subst, false, List, ℕ}
+use Rattle.std.proofs.Common.{rules, arith, length, ◌≡◌, ◌∙◌, inl, inr, ⊎_elim, refl, ap, sym, subst, false, List, ℕ, [], ◌<◌}
 use Rattle.sled_store.specs.Store.{now}
 use Rattle.sled_pages.specs.Memory.{store_of}
 use Rattle.sled_files.specs.Lasting.{Limits, AreNoLower}
@@ -7,8 +7,10 @@ use Rattle.sled_files.specs.theory.Ahead.{IsAhead}
 use Rattle.sled_files.proofs.Over.{own_fault}
 use Rattle.sled_files.proofs.Added.{sound_refused}
 use Rattle.sled_files.proofs.Moments.{moments_none}
-use Rattle.sled_files.proofs.Raising.{sound_ahead, moments_ahead, taken_out, ahead_short}
+use Rattle.sled_files.proofs.Raising.{sound_ahead, moments_ahead, taken_out, ahead_length, ahead_short}
 use Rattle.sled_files.proofs.Coding.{unstored_early, unstored_weaker}
+use Rattle.sled_files.specs.Raised.{RaisesNear}
+use Rattle.sled_files.proofs.Limits.{same_limits, grown_by, AreFlushed, flushed_limits}
 use Rattle.sled_files.proofs.file_pages.FilePages.flush_on.Goals as goal
 
 pub returns-in-Err-clause-err : goal.returns-in-Err-clause-err
@@ -69,3 +71,16 @@ returns-in-Err-add-clause-cause g c =
     let limits : Limits = record { pids = c.self.inside.limit_pids; versions = c.self.inside.limit_versions } in
     let more : IsAhead limits raised c.self.inside.pending.items c.deref.result.now = subst (λ (l : List ℕ). IsAhead limits raised c.self.inside.pending.items l) (sym c.deref.ensures.value) c.in_default.ensures.ok in
     rw (← c.self.view_is) (unstored_weaker (λ lacks. omega (arith, lacks, ahead_short more)) c.in-Err-add.ensures.cause)
+
+pub returns-clause-grown : goal.returns-clause-grown
+returns-clause-grown g c =
+    let raised : Limits = record { pids = c.ahead-pids.result.0; versions = c.ahead-pids.result.1 } in
+    let limits : Limits = record { pids = c.self.inside.limit_pids; versions = c.self.inside.limit_versions } in
+    let more : IsAhead limits raised c.self.inside.pending.items c.deref.result.now = subst (λ (l : List ℕ). IsAhead limits raised c.self.inside.pending.items l) (sym c.deref.ensures.value) c.in_default.ensures.ok in
+    let same : c.len-len.result ≡ length c.self.inside.pending.items = search rules in
+    let kept : AreFlushed raised c.self.inside.pending.items c.args.self.now = flushed_limits c.args.self.now raised same (λ idle. same_limits (c.ahead-pids.ensures.idle idle).0 (c.ahead-pids.ensures.idle idle).1) c.ahead-pids.ensures.near in
+    rw (← c.self.view_is) (record {
+      files = grown_by _ _ (ahead_length more) c.in_default-add.ensures.grown;
+      idle = subst (λ (v : Stored g.row.D.Denot). c.self.inside.pending.items ≡ [] → raised ≡ v.limits) (sym c.self.view_is) kept.idle;
+      limits = subst (λ (v : Stored g.row.D.Denot). 0 < length c.self.inside.pending.items → RaisesNear (stored_as v) v.limits raised) (sym c.self.view_is) kept.busy;
+    })

@@ -13,6 +13,3 @@ returns-in_default-clause-err g c = rw (← c.self.view_is) (own_fault (store_of
 
 pub returns-in_default-clause-any_moment : goal.returns-in_default-clause-any_moment
 returns-in_default-clause-any_moment g c = rw (← c.self.view_is) (moments_none c.law_time.ensures.first c.law_time.ensures.second refl c.self.invariant.lasts)
-
-pub returns-then-version-self-clause-any_moment : goal.returns-then-version-self-clause-any_moment
-returns-then-version-self-clause-any_moment g c = rw (← c.self.view_is) (moments_none c.law_time.ensures.first c.law_time.ensures.second refl c.self.invariant.lasts)

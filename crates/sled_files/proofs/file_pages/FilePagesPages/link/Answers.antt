@@ -3,6 +3,7 @@ use Rattle.sled_pages.specs.Memory.{store_of}
 use Rattle.sled_files.specs.Stored.{Stored, stored_as, over}
 use Rattle.sled_files.proofs.Over.{if_ok, if_err, changes_over, refused_over}
 use Rattle.sled_files.proofs.Sound.{sound_spelled}
+use Rattle.sled_files.proofs.Limits.{reaches_ok, reaches_err, fails_to_reach}
 use Rattle.sled_files.proofs.file_pages.FilePagesPages.link.Goals as goal
 
 pub invariant_of-self : goal.invariant_of-self
@@ -19,3 +20,12 @@ pub returns-in-Ok-clause-err : goal.returns-in-Ok-clause-err
 returns-in-Ok-clause-err g c =
     let same : over c.self.inside.mark c.self.inside.faults (store_of c.self.inside.pages) ≡ stored_as c.args.self.now = ap stored_as c.self.view_is ∙ c.in-Ok.ensures.same in
     rw (← same) (if_err c.link.result (λ e h. refused_over c.self.inside.mark c.self.inside.faults h) c.link.ensures.err)
+
+pub returns-in-Ok-clause-limits : goal.returns-in-Ok-clause-limits
+returns-in-Ok-clause-limits g c = reaches_ok _ (ap (λ (v : Stored g.row.D.Denot). v.files) c.self.view_is) (ap (λ (v : Stored g.row.D.Denot). v.limits) c.self.view_is) c.link.result c.in-Ok.ensures.limits
+
+pub returns-in-Ok-clause-refused : goal.returns-in-Ok-clause-refused
+returns-in-Ok-clause-refused g c = reaches_err _ (ap (λ (v : Stored g.row.D.Denot). v.files) c.self.view_is) (ap (λ (v : Stored g.row.D.Denot). v.limits) c.self.view_is) c.link.result c.in-Ok.ensures.limits
+
+pub returns-in-Err-clause-refused : goal.returns-in-Err-clause-refused
+returns-in-Err-clause-refused g c = fails_to_reach c.in-Err.ensures.kept c.in-Err.ensures.fails

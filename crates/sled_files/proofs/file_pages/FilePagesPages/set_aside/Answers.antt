@@ -6,8 +6,9 @@ use Rattle.sled_files.specs.Stored.{Stored, asked_of}
 use Rattle.sled_files.proofs.Over.{own_fault}
 use Rattle.sled_files.proofs.Moments.{moments_none, asks_more}
 use Rattle.sled_files.proofs.Added.{sound_marked, sound_asked, moments_marked, asks_by}
-use Rattle.sled_files.proofs.Raising.{marked_short}
+use Rattle.sled_files.proofs.Raising.{marked_length}
 use Rattle.sled_files.proofs.Coding.{unstored_early, unstored_weaker}
+use Rattle.sled_files.proofs.Limits.{grown_by}
 use Rattle.sled_files.proofs.file_pages.FilePagesPages.set_aside.Goals as goal
 
 pub returns-in-Err-clause-any_moment : goal.returns-in-Err-clause-any_moment
@@ -55,4 +56,9 @@ returns-in-Err-clause-cause g c = unstored_early c.args.self.now.files c.args.se
 pub returns-in-Err-add-clause-cause : goal.returns-in-Err-add-clause-cause
 returns-in-Err-add-clause-cause g c =
     let spells = subst (λ (l : List ℕ). Spells l (Marked c.args.upto ∷ [])) (sym c.deref.ensures.value) c.in-Ok.ensures.ok in
-    rw (← c.self.view_is) (unstored_weaker (λ lacks. omega (arith, lacks, marked_short spells)) c.in-Err-add.ensures.cause)
+    rw (← c.self.view_is) (unstored_weaker (λ lacks. omega (arith, lacks, marked_length spells)) c.in-Err-add.ensures.cause)
+
+pub returns-clause-grown : goal.returns-clause-grown
+returns-clause-grown g c =
+    let spells = subst (λ (l : List ℕ). Spells l (Marked c.args.upto ∷ [])) (sym c.deref.ensures.value) c.in-Ok.ensures.ok in
+    rw (← c.self.view_is) (grown_by _ _ (marked_length spells) c.in_default.ensures.grown)

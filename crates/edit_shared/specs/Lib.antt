@@ -1,0 +1,6 @@
+pub use Rattle.sled_nodes.specs as sled_nodes
+pub use Rattle.sled_store.specs as sled_store
+pub use Rattle.sled_model.specs as sled_model
+pub use Rattle.sled.specs as sled
+pub use Rattle.machine_alone.specs as machine_alone
+pub use Rattle.machine_shared.specs as machine_shared

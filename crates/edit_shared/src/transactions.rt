@@ -1,0 +1,56 @@
+//! Transactions of one of two callers.
+ghost use Rattle.std.specs.Prelude.{◌≡◌, true};
+ghost use Rattle.std.specs.List.{zip};
+ghost use Rattle.sled.specs.Transactions.{has_trees, trees_of_list};
+ghost use Rattle.machine_shared.specs.Transactions.{AddsTransaction, RunsAllOnce, RunsOnce, batches_of_tree};
+
+use machine_shared::{Handle, Lent};
+use sled::{TransactionAnswer, TransactionalTree, TransactionalTrees};
+use sled_model::{MergeOperator, Tree};
+use sled_store::Pages;
+use std::sync::Wait;
+use std::sync::ledger::Ledger;
+
+/// A transaction of a tree, by one of two callers. What it wrote is noted as this caller's.
+pub fn transaction_of_one<
+    P: Pages + Sync,
+    L: Ledger,
+    M: MergeOperator,
+    A: Drop,
+    E,
+    R: TransactionAnswer<A, E>,
+    F,
+>(
+    rt: &impl Wait,
+    one: &mut Handle<P, L, M>,
+    other: &mut Handle<P, L, M>,
+    tree: &Tree,
+    f: F,
+) -> R::Ended
+where
+    F: Fn(&mut TransactionalTree<'_, Lent<'_, P>>) -> R,
+    requires { (shown : _) → F.pre f shown }
+    ensures made { AddsTransaction (RunsOnce P.store M.meant F.Fn R.result_of f tree.now) (batches_of_tree tree.now) true (R.answer_of result) one.old.made one.new.made }
+    ensures untouched { other.new.made ≡ other.old.made }
+{
+    let _ = &other;
+    one.transaction(rt, tree, f)
+}
+
+/// A transaction of several trees. What it wrote is noted as one group.
+pub fn transaction_all<
+    P: Pages + Sync,
+    L: Ledger,
+    M: MergeOperator,
+    A: Drop,
+    E,
+    R: TransactionAnswer<A, E>,
+    F,
+>(rt: &impl Wait, handle: &mut Handle<P, L, M>, trees: &[&Tree], f: F) -> R::Ended
+where
+    F: Fn(&mut TransactionalTrees<'_, Lent<'_, P>>) -> R,
+    requires { (shown : _) → F.pre f shown }
+    ensures made { AddsTransaction (RunsAllOnce P.store M.meant F.Fn R.result_of f (trees_of_list trees.now)) (zip (trees_of_list trees.now)) (has_trees (trees_of_list trees.now)) (R.answer_of result) handle.old.made handle.new.made }
+{
+    handle.transaction_all(rt, trees, f)
+}

@@ -1,5 +1,0 @@
-use Rattle.examples.proofs.Turned.{SoFar}
-use Rattle.examples.proofs.endings.beginning_so.Given as goal
-
-abbrev pub invariant-loop-key : goal.invariant-loop-key
-invariant-loop-key l = SoFar l.fn.beginning l.fn.entries l.found.items l.key-iterator

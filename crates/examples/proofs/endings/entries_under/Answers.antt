@@ -1,5 +1,0 @@
-use Rattle.examples.proofs.Following.{copies_scan}
-use Rattle.examples.proofs.endings.entries_under.Goals as goal
-
-pub returns-in-Ok-filled : goal.returns-in-Ok-filled
-returns-in-Ok-filled g c = copies_scan _ _ _ _ _ _ _ _ c.in-Ok.ensures.ok c.in-Ok-pairs.ensures.all c.in-Ok-pairs.ensures.bytes c.in-Ok-filled.ensures

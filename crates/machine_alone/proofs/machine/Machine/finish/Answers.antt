@@ -1,0 +1,22 @@
+use Rattle.machine_alone.proofs.Machines.{rests_machine}
+use Rattle.machine_alone.proofs.Finishing.{missing_finish_as, finished_all, finished_as}
+use Rattle.machine_alone.proofs.machine.Machine.finish.Goals as goal
+
+pub finish_in-requires-after_bounds : goal.finish_in-requires-after_bounds
+finish_in-requires-after_bounds g c κs within = c.self.invariant.known c.slot.inside.0
+
+pub returns-in_default : goal.returns-in_default
+returns-in_default g c = missing_finish_as g.P.Pages.store g.P.Pages.flush_number g.M.MergeOperator.meant _ _ c.self.view_is c.self.invariant _ _ c.slot.view_is _ _ c.in_default.ensures.rests c.in_default.ensures.same c.in_default.ensures.none
+
+pub invariant_of-self : goal.invariant_of-self
+invariant_of-self g c = rests_machine g.P.Pages.store g.P.Pages.flush_number g.M.MergeOperator.meant _ _ c.self.view_is c.self.invariant _ _ c.slot.view_is _ _ c.in_default.ensures.rests c.in_default.ensures.same
+
+pub invariant_of-self-2 : goal.invariant_of-self-2
+invariant_of-self-2 g c =
+    let s = c.in-Some.ensures.steps in
+    (finished_all g.P.Pages.store g.P.Pages.flush_number g.M.MergeOperator.meant (record { db = c.self.inside.db; flights = c.self.inside.flights.entries; slots_given = c.self.inside.slots_given }) c.self.invariant c.slot.inside.0 c.finish_in.new.db c.finish_in.new.flights.entries s.flight s.next s.went s.there s.flew s.is).1
+
+pub returns : goal.returns
+returns g c =
+    let s = c.in-Some.ensures.steps in
+    finished_as g.P.Pages.store g.P.Pages.flush_number g.M.MergeOperator.meant _ _ c.self.view_is c.self.invariant _ _ c.slot.view_is c.finish_in.new.db c.finish_in.new.flights.entries _ s.flight s.next s.went s.outcome s.there s.flew s.is

@@ -1,5 +1,0 @@
-use Rattle.machine_examples.proofs.Calls.{prompt_named}
-use Rattle.machine_examples.proofs.callers.get_in_default.Goals as goal
-
-pub returns-clause-prompt : goal.returns-clause-prompt
-returns-clause-prompt g c = prompt_named _ _ _ _ c.in_ok-tree.ensures.ok.is c.get.ensures.prompt

@@ -1,5 +1,0 @@
-use Rattle.machine_examples.proofs.Rising.{ids_rise}
-use Rattle.machine_examples.proofs.ids.law_ids.Goals as goal
-
-pub returns : goal.returns
-returns g c = ids_rise g.P.Pages.store g.P.Pages.flush_number g.M.MergeOperator.meant

@@ -1,0 +1,34 @@
+use Rattle.std.proofs.Common.{◌&&◌, List, Ok, Err, subst}
+use Rattle.std.specs.List.{zip}
+use Rattle.sled.specs.Transactions.{has_trees, trees_of_list}
+use Rattle.sled_batch.specs.Batch.{Writes}
+use Rattle.sled_model.specs.State.{maps_of}
+use Rattle.sled.specs.Values.{db_state}
+use Rattle.machine_shared.specs.Transactions.{RunsAllIn, transaction_made}
+use Rattle.machine_shared.specs.Values.{StateValue}
+use Rattle.machine_shared.specs.theory.Transacting.{AddsCommit, StopsCommit, ran_as}
+use Rattle.machine_shared.proofs.Transacting.{ended_made, ended_stopped, ended_failed}
+use Rattle.machine_shared.proofs.lists.transact_all.Goals as goal
+
+pub returns-in-Ok-commit_list-clause-made : goal.returns-in-Ok-commit_list-clause-made
+returns-in-Ok-commit_list-clause-made g c =
+    let trees = trees_of_list c.args.trees.now in
+    let runs = RunsAllIn g.P.Pages.store g.M.MergeOperator.meant g.F.Fn g.R.TransactionAnswer.result_of c.args.f trees in
+    ended_made g.P.Pages.store g.M.MergeOperator.meant runs (zip trees) (has_trees trees) c.args.state.now.machine.db c.args.me.now.made c.commit_list.new.me.made c.in-Ok.field-0
+    (subst (λ (s : StateValue _ _). runs s.machine.db (Ok c.in-Ok.field-0)) c.state.view_is c.in-Ok.ensures)
+    (subst (λ (ws : List Writes). AddsCommit (transaction_made (maps_of (db_state g.P.Pages.store g.M.MergeOperator.meant c.args.state.now.machine.db)) (zip trees ws)) (has_trees trees && c.in-Ok.field-0.flushes) c.args.me.now.made c.commit_list.new.me.made) c.into_batches.ensures c.in-Ok-commit_list.ensures.ok)
+
+pub returns-in-Err-commit_list-clause-made : goal.returns-in-Err-commit_list-clause-made
+returns-in-Err-commit_list-clause-made g c =
+    let trees = trees_of_list c.args.trees.now in
+    let runs = RunsAllIn g.P.Pages.store g.M.MergeOperator.meant g.F.Fn g.R.TransactionAnswer.result_of c.args.f trees in
+    ended_stopped g.P.Pages.store g.M.MergeOperator.meant runs (zip trees) (has_trees trees) c.args.state.now.machine.db c.args.me.now.made c.commit_list.new.me.made c.in-Ok.field-0 c.in-Err-commit_list.e
+    (subst (λ (s : StateValue _ _). runs s.machine.db (Ok c.in-Ok.field-0)) c.state.view_is c.in-Ok.ensures)
+    (subst (λ (ws : List Writes). StopsCommit (transaction_made (maps_of (db_state g.P.Pages.store g.M.MergeOperator.meant c.args.state.now.machine.db)) (zip trees ws)) (has_trees trees && c.in-Ok.field-0.flushes) c.args.me.now.made c.commit_list.new.me.made) c.into_batches.ensures c.in-Err-commit_list.ensures.err)
+
+pub returns-in-Err-clause-made : goal.returns-in-Err-clause-made
+returns-in-Err-clause-made g c =
+    let trees = trees_of_list c.args.trees.now in
+    let runs = RunsAllIn g.P.Pages.store g.M.MergeOperator.meant g.F.Fn g.R.TransactionAnswer.result_of c.args.f trees in
+    ended_failed g.P.Pages.store g.M.MergeOperator.meant runs (zip trees) (has_trees trees) c.args.state.now.machine.db c.args.me.now.made c.args.me.now.made c.in-Err.e
+    (subst (λ (s : StateValue _ _). ran_as (runs s.machine.db) (Err c.in-Err.e)) c.state.view_is c.in-Err.ensures)

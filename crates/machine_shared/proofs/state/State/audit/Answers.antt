@@ -1,0 +1,11 @@
+use Rattle.std.proofs.Common.{subst}
+use Rattle.sled_model.specs.Collections.{contents_of}
+use Rattle.machine_shared.specs.Made.{entry_values}
+use Rattle.machine_shared.specs.Sound.{HasScans}
+use Rattle.machine_shared.specs.Values.{StateValue}
+use Rattle.machine_shared.proofs.ScanStates.{has_scans}
+use Rattle.machine_shared.proofs.state.State.audit.Goals as goal
+
+pub returns-clause-scans : goal.returns-clause-scans
+returns-clause-scans g c = subst (λ (s : StateValue _ _). HasScans g.P.Pages.store s) c.self.view_is
+    (has_scans g.P.Pages.store (record { machine = c.self.inside.machine; opening = contents_of c.self.inside.opening.value.items; history = entry_values c.self.inside.history.items; scans = c.self.inside.scans }) c.self.invariant.0.crashes _ c.self.invariant.2)

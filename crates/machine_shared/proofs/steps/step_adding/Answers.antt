@@ -1,0 +1,18 @@
+use Rattle.std.proofs.Common.{inr, sym, subst}
+use Rattle.machine_shared.proofs.Noted.{step_adds}
+use Rattle.machine_shared.proofs.steps.step_adding.Goals as goal
+
+pub returns-in-Some-clause-made : goal.returns-in-Some-clause-made
+returns-in-Some-clause-made g c = step_adds g.P.Pages.store g.P.Pages.flush_number g.M.MergeOperator.meant _ _ _ c.step-outcome.result _ _ c.step-outcome.ensures.step c.step-outcome.ensures.made
+
+pub returns-in-Some-clause-steps : goal.returns-in-Some-clause-steps
+returns-in-Some-clause-steps g c = inr (record {
+  old = _;
+  new = c.step-outcome.new.self;
+  step = c.step-outcome.ensures.step;
+  adds = c.step-outcome.ensures.history;
+  opening = c.step-outcome.ensures.opening;
+  scans = c.step-outcome.ensures.scans;
+  legal = c.audit.ensures.legal;
+  gave = c.audit.ensures.scans;
+})

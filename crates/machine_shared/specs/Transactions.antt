@@ -1,0 +1,123 @@
+-- A closure that is run as a transaction by a caller: what it wrote is noted as a group, with what was at the keys of its writes.
+use Rattle.std.specs.Prelude.{◌≡◌, ◌⊎◌, ℕ, Bool, true, false, ◌&&◌, List, [], ◌∷◌, ◌++◌, map, Option, Some, None, Result, Ok, Err, slice_get}
+use Rattle.std.specs.Option.{unwrap_or}
+use Rattle.std.specs.FinMap.Entries.{find}
+use Rattle.sled_nodes.specs.Order.{Key, key_cmp}
+use Rattle.sled_batch.specs.Batch.{Writes}
+use Rattle.sled_store.specs.Store.{Store, now}
+use Rattle.sled_model.specs.Maps.{Maps, Merge}
+use Rattle.sled_model.specs.Refusal.{must_refuse_of}
+use Rattle.sled_model.specs.State.{maps_of}
+use Rattle.sled_model.specs.declared.reply.Reply.TheVariants.{Number}
+use Rattle.sled_model.specs.declared.tree.Tree.{Tree}
+use Rattle.tree_transactions.specs.Attempts.{Answer, Closure}
+use Rattle.tree_transactions.specs.Ids.{OnlyRaises}
+use Rattle.tree_transactions.specs.Positions.{ShowsAt}
+use Rattle.tree_transactions.specs.Transactions.{Transacts, TransactsAll}
+use Rattle.tree_transactions.specs.Trees.{Shows}
+use Rattle.tree_transactions.specs.declared.attempts.Commit.{Commit}
+use Rattle.tree_transactions.specs.declared.errors.TransactionError.{TransactionError}
+use Rattle.tree_transactions.specs.declared.errors.TransactionError.TheVariants.{Abort, Storage}
+use Rattle.tree_transactions.specs.declared.tree.TransactionalTree.{TransactionalTree}
+use Rattle.tree_transactions.specs.declared.trees.TransactionalTrees.{TransactionalTrees}
+use Rattle.lent_pages.specs.Lent.{RunsLent, store_lent}
+use Rattle.lent_pages.specs.declared.lent.Lent.{Lent}
+use Rattle.sled.specs.Reads.{ReadsMap}
+use Rattle.sled.specs.Sound.{IsDb}
+use Rattle.sled.specs.Values.{DbValue, db_state}
+use Rattle.machine_shared.specs.Made.{MadeValue, WholeMade, TransactionMade}
+use Rattle.machine_shared.specs.Stood.{stood_in}
+use Rattle.machine_shared.specs.Wholes as value
+
+-- How the closure of a transaction ends: in this database no test refuses the tree, and the closure is run at the tree's root, over the
+-- pages as they are, up to this end. No id is set aside for it
+pub record RunsIn {P M F R A E : Type 0} (store : P → Store) (meant : M → Merge) (says : Closure F (TransactionalTree (Lent P)) R) (result_of : R → Answer A E) (f : F) (tree : Tree) (d : DbValue P M) (ended : Result (Commit A Writes) (TransactionError E)) : Type 0 where
+  pub sound : IsDb store d
+  pub tested : must_refuse_of (db_state store meant d) (tree ∷ []) ≡ None
+  pub root : ℕ
+  pub root_is : (now (store d.pages)).roots tree.name ≡ Some root
+  pub next : ℕ
+  pub runs : RunsLent (Transacts (store_lent store) says result_of f root) (store d.pages) (store d.pages).mark ended next
+
+-- .. none refuses these trees, and it is run at the roots of all
+pub record RunsAllIn {P M F R A E : Type 0} (store : P → Store) (meant : M → Merge) (says : Closure F (TransactionalTrees (Lent P)) R) (result_of : R → Answer A E) (f : F) (trees : List Tree) (d : DbValue P M) (ended : Result (Commit A (List Writes)) (TransactionError E)) : Type 0 where
+  pub sound : IsDb store d
+  pub tested : must_refuse_of (db_state store meant d) trees ≡ None
+  pub roots : List ℕ
+  pub roots_are : map (λ (t : Tree). (now (store d.pages)).roots t.name) trees ≡ map Some roots
+  pub next : ℕ
+  pub runs : RunsLent (TransactsAll (store_lent store) says result_of f roots) (store d.pages) (store d.pages).mark ended next
+
+-- it is so of the database as it was at some moment, which had these maps
+abbrev pub IsOnce : {P M X : Type 0} → (P → Store) → (M → Merge) → (DbValue P M → X → Type 0) → Maps → X → Type 0
+IsOnce {P} {M} store meant so maps x = (d : DbValue P M) × (maps ≡ maps_of (db_state store meant d)) × so d x
+
+abbrev pub RunsOnce : {P M F R A E : Type 0} → (P → Store) → (M → Merge) → Closure F (TransactionalTree (Lent P)) R → (R → Answer A E) → F → Tree → Maps → Result (Commit A Writes) (TransactionError E) → Type 0
+RunsOnce store meant says result_of f tree = IsOnce store meant (RunsIn store meant says result_of f tree)
+
+abbrev pub RunsAllOnce : {P M F R A E : Type 0} → (P → Store) → (M → Merge) → Closure F (TransactionalTrees (Lent P)) R → (R → Answer A E) → F → List Tree → Maps → Result (Commit A (List Writes)) (TransactionError E) → Type 0
+RunsAllOnce store meant says result_of f trees = IsOnce store meant (RunsAllIn store meant says result_of f trees)
+
+-- what was written of a tree, as the batches of a group
+abbrev pub batches_of_tree : Tree → Writes → List (Tree × Writes)
+batches_of_tree tree writes = (tree, writes) ∷ []
+
+-- a transaction that wrote this over these maps, as it is noted
+abbrev pub transaction_made : Maps → List (Tree × Writes) → MadeValue
+transaction_made maps batches = TransactionMade batches (stood_in maps batches)
+
+-- a flush is noted with its number if one was asked for
+abbrev pub flush_noted : Bool → List MadeValue → Type 0
+flush_noted false noted = noted ≡ []
+flush_noted true noted = (number : ℕ) × (noted ≡ WholeMade value.Flush (Number number) ∷ [])
+
+-- What is noted of a transaction follows from the maps over which its closure was run and to what end, from the batches of what it wrote,
+-- and from whether there are any trees. Without trees a flush that is asked for is left out
+module _ {A E W : Type 0} (reaches : Maps → Result (Commit A W) (TransactionError E) → Type 0) (batches_of : W → List (Tree × Writes)) (has_trees : Bool) where
+  -- The closure returned this over these maps. What it wrote is noted with what was in them, and after it the flush that it asked for
+  pub record Notes (answer : A) (noted : List MadeValue) : Type 0 where
+    pub commit : Commit A W
+    pub maps : Maps
+    pub reached : reaches maps (Ok commit)
+    pub answers : commit.answer ≡ answer
+    pub flush : List MadeValue
+    pub flushed : flush_noted (has_trees && commit.flushes) flush
+    pub is : noted ≡ transaction_made maps (batches_of commit.writes) ∷ flush
+
+  -- the flush that the closure asked for was refused, and what it wrote is made
+  pub record LacksFlush (noted : List MadeValue) : Type 0 where
+    pub commit : Commit A W
+    pub maps : Maps
+    pub reached : reaches maps (Ok commit)
+    pub asked : has_trees && commit.flushes ≡ true
+    pub is : noted ≡ transaction_made maps (batches_of commit.writes) ∷ []
+
+  -- the closure aborted it, or it was refused: nothing is noted, but for what it wrote if only its flush was refused
+  abbrev pub notes_failed : TransactionError E → List MadeValue → Type 0
+  notes_failed (Abort e) noted = ((maps : Maps) × reaches maps (Err (Abort e))) × (noted ≡ [])
+  notes_failed (Storage e) noted = (noted ≡ []) ⊎ LacksFlush noted
+
+  -- what is noted of a transaction that returns this
+  abbrev pub notes_ended : Result A (TransactionError E) → List MadeValue → Type 0
+  notes_ended (Ok answer) noted = Notes answer noted
+  notes_ended (Err e) noted = notes_failed e noted
+
+  -- .. and is added at the end of a list
+  pub record AddsTransaction (ended : Result A (TransactionError E)) (made more : List MadeValue) : Type 0 where
+    pub noted : List MadeValue
+    pub notes : notes_ended ended noted
+    pub adds : more ≡ made ++ noted
+
+-- What a read of a key shows inside a closure that is run at a tree over pages that are lent: its own write of the key, and if there is
+-- none the value in the map of the tree
+abbrev pub ShowsInsideLaw : {P M : Type 0} → (P → Store) → (M → Merge) → Type 0
+ShowsInsideLaw {P} {M} store meant = (d : DbValue P M) (tree : Tree) (given : TransactionalTree (Lent P)) (key : Key) (value : Option Key) → IsDb store d
+    → must_refuse_of (db_state store meant d) (tree ∷ []) ≡ None → (now (store d.pages)).roots tree.name ≡ Some given.root → OnlyRaises (store d.pages) (store_lent store given.pages.now)
+    → Shows (store_lent store) given key value → ReadsMap store meant d tree (λ pairs. value ≡ unwrap_or (find key_cmp key given.overlay) (find key_cmp key pairs))
+
+-- .. and at a list of trees, at the position of the tree
+abbrev pub ShowsInsideAtLaw : {P M : Type 0} → (P → Store) → (M → Merge) → Type 0
+ShowsInsideAtLaw {P} {M} store meant = (d : DbValue P M) (trees : List Tree) (given : TransactionalTrees (Lent P)) (position : ℕ) (tree : Tree) (key : Key) (value : Option Key) → IsDb store d
+    → must_refuse_of (db_state store meant d) trees ≡ None → map (λ (t : Tree). (now (store d.pages)).roots t.name) trees ≡ map Some given.roots.now → OnlyRaises (store d.pages) (store_lent store given.pages.now)
+    → slice_get trees position ≡ Some tree → ShowsAt (store_lent store) given position key value
+    → (overlay : Writes) × (slice_get given.overlays position ≡ Some overlay) × ReadsMap store meant d tree (λ pairs. value ≡ unwrap_or (find key_cmp key overlay) (find key_cmp key pairs))

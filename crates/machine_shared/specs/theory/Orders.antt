@@ -1,0 +1,22 @@
+-- Of Orders, for proofs. Pairs that are read one after the other.
+use Rattle.std.specs.Prelude.{◌≡◌, true, Bool, List, [], ◌∷◌, Option, Some, None, Ok, Err, Result}
+use Rattle.sled_nodes.specs.Order.{Key}
+use Rattle.sled_nodes.specs.declared.error.Error.{Error}
+use Rattle.tree_reads.specs.Ranges.{Coming}
+use Rattle.machine_shared.specs.Orders.{in_order}
+use Rattle.machine_shared.specs.declared.read.Answer.{Answer}
+use Rattle.machine_shared.specs.declared.read.Answer.TheVariants.{Pairs}
+
+-- if no more is given nothing is left
+abbrev pub Begun : {P : Type 0} → Coming P → Type 0
+Begun c = c.ended ≡ true → c.pairs ≡ []
+
+-- the answer is pairs
+abbrev pub IsPage : Answer → Type 0
+IsPage answer = (pairs : List (Key × Key)) × (answer ≡ Pairs pairs)
+
+-- the next pair in order is given, or there is none, or it is refused
+abbrev pub Gives : {P : Type 0} → Bool → Coming P → Option (Result (Key × Key) Error) → Coming P → Type 0
+Gives back old (Some (Ok pair)) new = (in_order back old.pairs ≡ pair ∷ in_order back new.pairs) × Begun new
+Gives back old (Some (Err e)) new = Unit {0}
+Gives back old None new = in_order back old.pairs ≡ []

@@ -1,0 +1,153 @@
+//! What the database of a machine answers to reads.
+ghost use Rattle.std.specs.Prelude.{◌≡◌, false, IfOk, OnOk};
+ghost use Rattle.sled_store.specs.Store.{now};
+ghost use Rattle.tree_laws.specs.Contents.{trees_of};
+ghost use Rattle.tree_pages.specs.Export.{collections};
+ghost use Rattle.sled.specs.Names.{AreNames};
+ghost use Rattle.sled.specs.Reads.{ReadsMap};
+ghost use Rattle.sled.specs.Values.{db_state};
+ghost use Rattle.machine_shared.specs.Reads.{answers_as};
+ghost use Rattle.machine_shared.specs.declared.read.Question.TheVariants as question;
+
+use crate::pages::taken;
+use crate::read::{Answer, Question};
+use crate::told::{Collections, Names, Pairs};
+use machine_alone::Machine;
+use sled_model::{MergeOperator, Tree};
+use sled_nodes::{IVec, Result, lend_bound};
+use sled_store::Pages;
+use std::ops::Bound;
+
+// The first pairs of a tree within two bounds.
+fn page_in<P: Pages, M: MergeOperator>(
+    machine: &Machine<P, M>,
+    tree: &Tree,
+    lo: &Bound<IVec>,
+    hi: &Bound<IVec>,
+    back: bool,
+    most: usize,
+) -> Result<Answer>
+    ensures { IfOk result (λ answer. ReadsMap P.store M.meant machine.now.db tree.now (λ map. answers_as map (question.Page lo.now hi.now back most) answer)) }
+{
+    let alloc = machine.db().allocator();
+    let mut pairs = match machine.db().range(tree, lend_bound(lo), lend_bound(hi)) {
+        Ok(pairs) => pairs,
+        Err(e) => return Err(e),
+    };
+    let taken = taken(alloc, &mut pairs, back, most);
+    drop(pairs);
+    match taken {
+        Ok(page) => Ok(Answer::Pairs(Pairs::new(alloc, page)?)),
+        Err(e) => Err(e),
+    }
+}
+
+// The value at a key.
+fn value_at<P: Pages, M: MergeOperator>(
+    machine: &Machine<P, M>,
+    tree: &Tree,
+    key: &IVec,
+) -> Result<Answer>
+    ensures { IfOk result (λ answer. ReadsMap P.store M.meant machine.now.db tree.now (λ map. answers_as map (question.Get key.now) answer)) }
+{
+    Ok(Answer::Value(machine.db().get(tree, key.as_ref())?))
+}
+
+// Whether a key is present.
+fn is_there<P: Pages, M: MergeOperator>(
+    machine: &Machine<P, M>,
+    tree: &Tree,
+    key: &IVec,
+) -> Result<Answer>
+    ensures { IfOk result (λ answer. ReadsMap P.store M.meant machine.now.db tree.now (λ map. answers_as map (question.ContainsKey key.now) answer)) }
+{
+    Ok(Answer::Flag(machine.db().contains_key(tree, key.as_ref())?))
+}
+
+// The pair with the least key.
+fn first_of<P: Pages, M: MergeOperator>(machine: &Machine<P, M>, tree: &Tree) -> Result<Answer>
+    ensures { IfOk result (λ answer. ReadsMap P.store M.meant machine.now.db tree.now (λ map. answers_as map question.First answer)) }
+{
+    Ok(Answer::Pair(machine.db().first(tree)?))
+}
+
+// The pair with the greatest key.
+fn last_of<P: Pages, M: MergeOperator>(machine: &Machine<P, M>, tree: &Tree) -> Result<Answer>
+    ensures { IfOk result (λ answer. ReadsMap P.store M.meant machine.now.db tree.now (λ map. answers_as map question.Last answer)) }
+{
+    Ok(Answer::Pair(machine.db().last(tree)?))
+}
+
+// The pair just below a key.
+fn below<P: Pages, M: MergeOperator>(
+    machine: &Machine<P, M>,
+    tree: &Tree,
+    key: &IVec,
+) -> Result<Answer>
+    ensures { IfOk result (λ answer. ReadsMap P.store M.meant machine.now.db tree.now (λ map. answers_as map (question.GetLt key.now) answer)) }
+{
+    Ok(Answer::Pair(machine.db().get_lt(tree, key.as_ref())?))
+}
+
+// The pair just above a key.
+fn above<P: Pages, M: MergeOperator>(
+    machine: &Machine<P, M>,
+    tree: &Tree,
+    key: &IVec,
+) -> Result<Answer>
+    ensures { IfOk result (λ answer. ReadsMap P.store M.meant machine.now.db tree.now (λ map. answers_as map (question.GetGt key.now) answer)) }
+{
+    Ok(Answer::Pair(machine.db().get_gt(tree, key.as_ref())?))
+}
+
+// How many pairs there are.
+fn len_of<P: Pages, M: MergeOperator>(machine: &Machine<P, M>, tree: &Tree) -> Result<Answer>
+    ensures { IfOk result (λ answer. ReadsMap P.store M.meant machine.now.db tree.now (λ map. answers_as map question.Len answer)) }
+{
+    Ok(Answer::Count(machine.db().len(tree)?))
+}
+
+// Whether there is none.
+fn is_nothing<P: Pages, M: MergeOperator>(machine: &Machine<P, M>, tree: &Tree) -> Result<Answer>
+    ensures { IfOk result (λ answer. ReadsMap P.store M.meant machine.now.db tree.now (λ map. answers_as map question.IsEmpty answer)) }
+{
+    Ok(Answer::Flag(machine.db().is_empty(tree)?))
+}
+
+// What a tree answers to a question.
+pub(crate) fn answer_to<P: Pages, M: MergeOperator>(
+    machine: &Machine<P, M>,
+    tree: &Tree,
+    question: &Question,
+) -> Result<Answer>
+    ensures { IfOk result (λ answer. ReadsMap P.store M.meant machine.now.db tree.now (λ map. answers_as map question.now answer)) }
+{
+    match question {
+        Question::Get(key) => value_at(machine, tree, key),
+        Question::ContainsKey(key) => is_there(machine, tree, key),
+        Question::First => first_of(machine, tree),
+        Question::Last => last_of(machine, tree),
+        Question::GetLt(key) => below(machine, tree, key),
+        Question::GetGt(key) => above(machine, tree, key),
+        Question::Len => len_of(machine, tree),
+        Question::IsEmpty => is_nothing(machine, tree),
+        Question::Page { lo, hi, back, most } => page_in(machine, tree, lo, hi, *back, *most),
+    }
+}
+
+// The names of all trees.
+pub(crate) fn names_of<P: Pages, M: MergeOperator>(machine: &Machine<P, M>) -> Result<Names>
+    ensures { IfOk result (AreNames (db_state P.store M.meant machine.now.db)) }
+{
+    let names = machine.db().tree_names()?;
+    Names::new(machine.db().allocator(), names)
+}
+
+// The collection of every tree.
+pub(crate) fn export_of<P: Pages, M: MergeOperator>(machine: &Machine<P, M>) -> Result<Collections>
+    ensures all { IfOk result (λ all. all ≡ collections (trees_of (now (P.store machine.now.db.pages))) machine.now.db.trees) }
+    ensures open { OnOk result ((now (P.store machine.now.db.pages)).in_group ≡ false) }
+{
+    let all = machine.db().export()?;
+    Collections::new(machine.db().allocator(), all)
+}

@@ -1,0 +1,162 @@
+//! Steps of a call with copies of it: they are made once, before it begins, and a step that does not decide the call makes none.
+ghost use Rattle.std.specs.Prelude.{◌≡◌, ◌++◌, IfNone, IfSome, Some};
+ghost use Rattle.std.specs.Option.{option_map};
+ghost use Rattle.sled_model.specs.State.{IsOnKey};
+ghost use Rattle.machine_alone.specs.Values.{slots_of, job_of_call};
+ghost use Rattle.machine_shared.specs.theory.Copied.{AddsStepped, AreCopies, TakesOn};
+ghost use Rattle.machine_shared.specs.Notes.{IsEnd, entries_of, noted_of};
+ghost use Rattle.machine_shared.specs.Steps.{SlotStep};
+ghost use Rattle.machine_shared.specs.theory.Noting.{job_pair};
+
+use crate::caller::Caller;
+use crate::noting::{Jobs, note_and_count, step_noting_jobs};
+use crate::state::State;
+use crate::steps::has_job;
+use sled_model::{Call, MergeOperator, Outcome, Slot, Tree};
+use sled_nodes::Error;
+use sled_store::Pages;
+use std::sync::ledger::Ledger;
+
+// How a step of a call came out: it ended the call, or the call goes on in its slot, and its copies with it.
+pub(crate) enum Stepped {
+    Ended(Outcome),
+    On(Slot, Jobs),
+}
+
+// Whether the call goes on that left these copies. Without copies it has ended.
+fn taken_on(outcome: Outcome, slot: Slot, left: Option<Jobs>) -> Stepped
+    requires { IfNone left (IsEnd outcome) }
+    ensures { TakesOn outcome slot left result }
+{
+    match (outcome, left) {
+        (end, None) => Stepped::Ended(end),
+        (end @ (Outcome::Decided(_) | Outcome::Refused(_) | Outcome::NoSuchSlot), Some(jobs)) => {
+            drop(jobs);
+            Stepped::Ended(end)
+        }
+        // a call on a key that is not decided or refused returns `Moved`
+        (other, Some(jobs)) => {
+            drop(other);
+            Stepped::On(slot, jobs)
+        }
+    }
+}
+
+impl<P: Pages, L: Ledger, M: MergeOperator> State<P, L, M> {
+    // One step of this call on a key, which has the slot. It is noted as a bare step is, but from these copies. Those are left if it is not
+    // decided.
+    fn step_copied(&mut self, me: &mut Caller<L>, slot: Slot, jobs: Jobs) -> (Outcome, Option<Jobs>)
+        requires here { option_map job_of_call (slots_of self.old.machine.flights slot) ≡ Some (job_pair jobs.0.tree jobs.0.call) }
+        requires second { jobs.1 ≡ jobs.0 }
+        requires key { IsOnKey jobs.0.call }
+        ensures step { SlotStep P.store P.flush_number M.meant self.old.machine slot result.0 self.new.machine }
+        ensures history { self.new.history ≡ self.old.history ++ entries_of me.old.number (noted_of result.0 jobs.0.tree jobs.0.call) }
+        ensures made { me.new.made ≡ me.old.made ++ noted_of result.0 jobs.0.tree jobs.0.call }
+        ensures number { me.new.number ≡ me.old.number }
+        ensures opening { self.new.opening ≡ self.old.opening }
+        ensures scans { self.new.scans ≡ self.old.scans }
+        ensures left { IfSome result.1 (λ left. left ≡ jobs) }
+        ensures ended { IfNone result.1 (IsEnd result.0) }
+    {
+        self.machine.audit();
+        let Caller {
+            number,
+            made,
+            share,
+        } = me;
+        let (outcome, noted, left) = step_noting_jobs(
+            &mut self.machine,
+            &mut self.history,
+            made,
+            slot,
+            jobs,
+        );
+        note_and_count(
+            &mut self.history,
+            &mut self.calls,
+            *number,
+            made,
+            share,
+            noted,
+        );
+        (outcome, left)
+    }
+
+    // The same, and whether the call goes on.
+    fn step_on(&mut self, me: &mut Caller<L>, slot: Slot, jobs: Jobs) -> Stepped
+        requires here { option_map job_of_call (slots_of self.old.machine.flights slot) ≡ Some (job_pair jobs.0.tree jobs.0.call) }
+        requires second { jobs.1 ≡ jobs.0 }
+        requires key { IsOnKey jobs.0.call }
+        ensures made { AddsStepped jobs.0.tree jobs.0.call result me.old.made me.new.made }
+        ensures number { me.new.number ≡ me.old.number }
+    {
+        let (outcome, left) = self.step_copied(me, slot, jobs);
+        taken_on(outcome, slot, left)
+    }
+
+    // Begins this call on a key, and makes its first step.
+    fn begin_on(&mut self, me: &mut Caller<L>, tree: &Tree, call: Call, jobs: Jobs) -> Stepped
+        requires copies { AreCopies tree.now call jobs }
+        requires key { IsOnKey call }
+        ensures made { AddsStepped tree.now call result me.old.made me.new.made }
+        ensures number { me.new.number ≡ me.old.number }
+    {
+        match self.begin(tree, call) {
+            Ok(slot) => self.step_on(me, slot, jobs),
+            Err(e) => {
+                drop(jobs);
+                Stepped::Ended(Outcome::Refused(e))
+            }
+        }
+    }
+}
+
+// The same of what a lock holds. What was taken from under it is closed.
+
+// Begins this call on a key, and makes its first step.
+pub(crate) fn begin_on<P: Pages, L: Ledger, M: MergeOperator>(
+    held: &mut Option<State<P, L, M>>,
+    me: &mut Caller<L>,
+    tree: &Tree,
+    call: Call,
+    jobs: Jobs,
+) -> Stepped
+    requires copies { AreCopies tree.now call jobs }
+    requires key { IsOnKey call }
+    ensures made { AddsStepped tree.now call result me.old.made me.new.made }
+    ensures number { me.new.number ≡ me.old.number }
+{
+    match held {
+        None => {
+            drop(call);
+            drop(jobs);
+            Stepped::Ended(Outcome::Refused(Error::Closed))
+        }
+        Some(state) => state.begin_on(me, tree, call, jobs),
+    }
+}
+
+// One step of the call in the slot, if it is this one on a key. Else no step is made, and there is no such slot for the caller.
+pub(crate) fn step_on<P: Pages, L: Ledger, M: MergeOperator>(
+    held: &mut Option<State<P, L, M>>,
+    me: &mut Caller<L>,
+    slot: Slot,
+    jobs: Jobs,
+) -> Stepped
+    requires second { jobs.1 ≡ jobs.0 }
+    requires key { IsOnKey jobs.0.call }
+    ensures made { AddsStepped jobs.0.tree jobs.0.call result me.old.made me.new.made }
+    ensures number { me.new.number ≡ me.old.number }
+{
+    match held {
+        Some(state) if has_job(&state.machine, slot, &jobs.0) => state.step_on(me, slot, jobs),
+        Some(_) => {
+            drop(jobs);
+            Stepped::Ended(Outcome::NoSuchSlot)
+        }
+        None => {
+            drop(jobs);
+            Stepped::Ended(Outcome::Refused(Error::Closed))
+        }
+    }
+}

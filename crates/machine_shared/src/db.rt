@@ -1,0 +1,276 @@
+//! A database that is shared.
+ghost use Rattle.std.specs.Prelude.{◌≡◌, ◌+◌, ◌<◌, false, [], IfOk, IfErr, OnOk, OnErr};
+ghost use Rattle.sled_store.specs.Store.{now};
+ghost use Rattle.tree_laws.specs.Contents.{trees_of};
+ghost use Rattle.tree_pages.specs.Export.{collections};
+ghost use Rattle.sled.specs.Export.{RefusesExport};
+ghost use Rattle.sled_model.specs.Collections.{contents_of};
+ghost use Rattle.sled.specs.Sound.{IsDb};
+ghost use Rattle.machine_shared.specs.Gathered.{RefusesHandle};
+
+use crate::caller::Caller;
+use crate::handle::Handle;
+use crate::scans::Scans;
+use crate::state::State;
+use machine_alone::Machine;
+use sled::Db as Owned;
+use sled_model::{Collection, MergeOperator};
+use sled_nodes::texts::NUMBERS_USED_UP;
+use sled_nodes::{Error, Result};
+use sled_store::Pages;
+use std::alloc::Global;
+use std::marker::Model;
+use std::sync::ledger::{Blank, Book, Ledger, Share};
+use std::sync::{Arc, Mutex, Wait};
+
+/// A database that several callers share: a machine under a lock, with the history of what they made. `L` marks the ledger that counts
+/// their calls, a part for each caller and one that stays here.
+pub struct Db<P: Pages, L: Ledger, M = Box<dyn MergeOperator + Send>> {
+    pub(crate) lock: Arc<Mutex<Option<State<P, L, M>>>>,
+    pub(crate) callers: u64,
+    pub(crate) given: u64,
+    // numbers up to this one are those of callers before
+    pub(crate) before: u64,
+    // the parts of the callers that have no handle, and one more
+    pub(crate) rest: Share<L>,
+    // what the state has as its own
+    pub(crate) opening: Arc<Vec<Collection>>,
+}
+
+impl<P: Pages, L: Ledger, M> Model for Db<P, L, M> {
+    ghost use Rattle.machine_shared.specs.Values.{SharedValue};
+
+    ghost Value = { SharedValue };
+
+    ghost use Rattle.sled_model.specs.Collections.{contents_of};
+    ghost use Rattle.machine_shared.specs.Sound.{HasParts};
+
+    ghost view = { λ d. record { callers = d.callers; given = d.given; before = d.before; opening = contents_of d.opening.value.items } };
+
+    ghost invariant = { λ d. HasParts d.callers d.given d.before d.rest.parts };
+}
+
+// The same collections, for two owners.
+fn share_opening(
+    alloc: Global,
+    opening: Vec<Collection>,
+) -> Result<(Arc<Vec<Collection>>, Arc<Vec<Collection>>)>
+    ensures first { IfOk result (λ both. contents_of both.0.value.items ≡ contents_of opening.items) }
+    ensures second { IfOk result (λ both. contents_of both.1.value.items ≡ contents_of opening.items) }
+{
+    let one = match Arc::new(alloc, opening) {
+        Ok(one) => one,
+        Err(failed) => {
+            drop(failed);
+            return Err(Error::NoMemory);
+        }
+    };
+    match Arc::try_clone(&one) {
+        Ok(other) => Ok((one, other)),
+        Err(failed) => {
+            drop(failed);
+            drop(one);
+            Err(Error::NoMemory)
+        }
+    }
+}
+
+// The collections of a database, for two owners.
+fn export_of<P: Pages, M: MergeOperator>(
+    alloc: Global,
+    db: &Owned<P, M>,
+) -> Result<(Arc<Vec<Collection>>, Arc<Vec<Collection>>)>
+    ensures first { IfOk result (λ both. contents_of both.0.value.items ≡ collections (trees_of (now (P.store db.now.pages))) db.now.trees) }
+    ensures second { IfOk result (λ both. contents_of both.1.value.items ≡ collections (trees_of (now (P.store db.now.pages))) db.now.trees) }
+    ensures open { OnOk result ((now (P.store db.now.pages)).in_group ≡ false) }
+    ensures err { IfErr result (RefusesExport (P.store db.now.pages)) }
+{
+    let opening = db.export()?;
+    match share_opening(alloc, opening) {
+        Ok(both) => Ok(both),
+        Err(e) => {
+            drop(e);
+            Err(Error::NoMemory)
+        }
+    }
+}
+
+// The first state of a database, which began with these collections.
+fn first_state<P: Pages, L: Ledger, M: MergeOperator>(
+    alloc: Global,
+    db: Owned<P, M>,
+    opening: Arc<Vec<Collection>>,
+    calls: Book<L>,
+    scans: Scans,
+) -> State<P, L, M>
+    requires sound { IsDb P.store db }
+    requires open { (now (P.store db.pages)).in_group ≡ false }
+    requires opening { contents_of opening.value.items ≡ collections (trees_of (now (P.store db.pages))) db.trees }
+    requires none { calls.total ≡ 0 }
+    requires no_scans { scans.notes ≡ [] }
+{
+    let machine = Machine::new(db);
+    State {
+        machine,
+        opening,
+        history: Vec::new(alloc),
+        calls,
+        scans,
+    }
+}
+
+impl<P: Pages, L: Ledger, M: MergeOperator> Db<P, L, M> {
+    /// Shares a database among so many callers. Its ledger is the one that is handed in unopened, with a part for each caller and one more.
+    /// Refused as an export is, with the database given back as it was: with `Closed`, with `Io` if a page cannot be read, and with
+    /// `NoMemory`.
+    ///
+    /// ```
+    /// let blank = machine_shared::Blank::new(3); // For two callers.
+    /// let shared = machine_shared::Db::<MemPages, std::marker::Brand>::new(rt, alloc, db, blank, 2);
+    /// ```
+    pub fn new(
+        rt: &impl Wait,
+        alloc: Global,
+        db: Owned<P, M>,
+        blank: Blank,
+        callers: u64,
+    ) -> std::result::Result<Db<P, L, M>, (Owned<P, M>, Error)>
+        requires name { blank.name ≡ L.name }
+        requires parts { blank.parts ≡ L.parts }
+        requires each { blank.parts ≡ callers + 1 }
+        ensures ok { IfOk result (λ shared. shared ≡ record { callers = callers; given = 0; before = 0; opening = collections (trees_of (now (P.store db.pages))) db.trees }) }
+        ensures open { OnOk result ((now (P.store db.pages)).in_group ≡ false) }
+        ensures same { IfErr result (λ e. e.0 ≡ db) }
+        ensures err { IfErr result (λ e. RefusesExport (P.store db.pages) e.1) }
+    {
+        Self::share(rt, alloc, db, blank, callers, false)
+    }
+
+    /// Shares a database as `new` does, but that what scans do is noted too, in a list of its own: [`State::scans`].
+    ///
+    /// ```text
+    /// let blank = machine_shared::Blank::new(3); // For two callers.
+    /// let shared = machine_shared::Db::<MemPages, std::marker::Brand>::new_noting_scans(rt, alloc, db, blank, 2);
+    /// ```
+    pub fn new_noting_scans(
+        rt: &impl Wait,
+        alloc: Global,
+        db: Owned<P, M>,
+        blank: Blank,
+        callers: u64,
+    ) -> std::result::Result<Db<P, L, M>, (Owned<P, M>, Error)>
+        requires name { blank.name ≡ L.name }
+        requires parts { blank.parts ≡ L.parts }
+        requires each { blank.parts ≡ callers + 1 }
+        ensures ok { IfOk result (λ shared. shared ≡ record { callers = callers; given = 0; before = 0; opening = collections (trees_of (now (P.store db.pages))) db.trees }) }
+        ensures open { OnOk result ((now (P.store db.pages)).in_group ≡ false) }
+        ensures same { IfErr result (λ e. e.0 ≡ db) }
+        ensures err { IfErr result (λ e. RefusesExport (P.store db.pages) e.1) }
+    {
+        Self::share(rt, alloc, db, blank, callers, true)
+    }
+
+    // The same, and whether what scans do is noted.
+    fn share(
+        rt: &impl Wait,
+        alloc: Global,
+        db: Owned<P, M>,
+        blank: Blank,
+        callers: u64,
+        keeps_scans: bool,
+    ) -> std::result::Result<Db<P, L, M>, (Owned<P, M>, Error)>
+        requires name { blank.name ≡ L.name }
+        requires parts { blank.parts ≡ L.parts }
+        requires each { blank.parts ≡ callers + 1 }
+        ensures ok { IfOk result (λ shared. shared ≡ record { callers = callers; given = 0; before = 0; opening = collections (trees_of (now (P.store db.pages))) db.trees }) }
+        ensures open { OnOk result ((now (P.store db.pages)).in_group ≡ false) }
+        ensures same { IfErr result (λ e. e.0 ≡ db) }
+        ensures err { IfErr result (λ e. RefusesExport (P.store db.pages) e.1) }
+    {
+        let both = match export_of(alloc, &db) {
+            Ok(both) => both,
+            Err(e) => {
+                drop(blank);
+                return Err((db, e));
+            }
+        };
+        let (opening, kept) = both;
+        let lock = match Arc::new(alloc, Mutex::new(None)) {
+            Ok(lock) => lock,
+            Err(failed) => {
+                drop(failed);
+                drop(opening);
+                drop(kept);
+                drop(blank);
+                return Err((db, Error::NoMemory));
+            }
+        };
+        db.audit();
+        let (calls, rest) = blank.open::<L>();
+        let scans = Scans::new(alloc, keeps_scans);
+        fill(rt, &lock, first_state(alloc, db, opening, calls, scans));
+        Ok(Db {
+            lock,
+            callers,
+            given: 0,
+            before: 0,
+            rest,
+            opening: kept,
+        })
+    }
+
+    /// A handle for one caller more, whose number is the next, from 1 or above those of callers before. Refused with `Unsupported`
+    /// (`numbers used up`) if all callers have one, and with `NoMemory`; nothing changes then.
+    ///
+    /// ```
+    /// let one = shared.handle(alloc)?; // For one thread,
+    /// let two = shared.handle(alloc)?; // and for another.
+    /// ```
+    pub fn handle(&mut self, alloc: Global) -> Result<Handle<P, L, M>>
+        ensures ok { IfOk result (λ h. h ≡ record { number = self.old.before + (self.old.given + 1); made = [] }) }
+        ensures next { OnOk result (self.new ≡ record (self.old) { given = self.old.given + 1 }) }
+        ensures all { OnOk result (self.old.given < self.old.callers) }
+        ensures err { OnErr result (self.new ≡ self.old) }
+        ensures cause { IfErr result (RefusesHandle self.old) }
+    {
+        if self.given == self.callers {
+            return Err(Error::Unsupported(NUMBERS_USED_UP));
+        }
+        let Ok(lock) = Arc::try_clone(&self.lock) else {
+            return Err(Error::NoMemory);
+        };
+        let share = self.rest.split_off(1, 0);
+        self.given += 1;
+        let me = Caller::new(Vec::new(alloc), self.before + self.given, share);
+        Ok(Handle::new(lock, me))
+    }
+}
+
+// Puts a state under its lock.
+pub(crate) fn fill<P: Pages, L: Ledger, M: MergeOperator>(
+    rt: &impl Wait,
+    lock: &Mutex<Option<State<P, L, M>>>,
+    state: State<P, L, M>,
+) {
+    let mut guard = lock.lock(rt);
+    let old = std::mem::replace(&mut *guard, Some(state));
+    drop(old);
+    drop(guard);
+}
+
+// By hand, as a state's.
+impl<P: Pages, L: Ledger, M: Drop> Drop for Db<P, L, M> {
+    fn drop(self) {
+        let Db {
+            lock,
+            callers: _,
+            given: _,
+            before: _,
+            rest,
+            opening,
+        } = self;
+        drop(lock);
+        drop(rest);
+        drop(opening);
+    }
+}

@@ -1,0 +1,245 @@
+//! Reads that are noted, over the parts of a state.
+ghost use Rattle.std.specs.Prelude.{◌≡◌, ◌<◌, ◌∷◌, [], IfOk, OnErr, IfSome, vec_len, vec_capacity};
+ghost use Rattle.machine_shared.specs.Made.{ReadMade, made_value};
+ghost use Rattle.machine_shared.specs.Reads.{IsAnswerTo};
+ghost use Rattle.machine_shared.specs.declared.read.Read.TheVariants as read;
+ghost use Rattle.machine_shared.specs.theory.Noting.{first_noted, second_noted};
+ghost use Rattle.machine_shared.specs.theory.Reading.{NotesRead, ReadsNow};
+
+use crate::answers::{answer_to, export_of, names_of};
+use crate::entry::{Entry, Made};
+use crate::noting::make_room;
+use crate::read::{Answer, Question, Read};
+use crate::told::{Collections, Names};
+use machine_alone::Machine;
+use sled_model::{MergeOperator, Tree};
+use sled_nodes::{Error, Result};
+use sled_store::Pages;
+
+// What was read, as it is noted, twice.
+fn twice(read: Read) -> Result<(Made, Made)>
+    ensures first { IfOk result (λ both. made_value both.0 ≡ ReadMade read) }
+    ensures second { IfOk result (λ both. made_value both.1 ≡ ReadMade read) }
+{
+    match read.clone() {
+        Ok(again) => Ok((Made::Read(read), Made::Read(again))),
+        Err(e) => {
+            drop(read);
+            Err(e)
+        }
+    }
+}
+
+// The same, with room for it in both lists.
+fn room_and_reads(
+    history: &mut Vec<Entry>,
+    made: &mut Vec<Made>,
+    read: Read,
+) -> Option<(Made, Made)>
+    ensures first { IfSome result (λ both. made_value both.0 ≡ ReadMade read) }
+    ensures second { IfSome result (λ both. made_value both.1 ≡ ReadMade read) }
+    ensures history { history.new.items ≡ history.old.items }
+    ensures made { made.new.items ≡ made.old.items }
+    ensures room { IfSome result (λ both. vec_len history.new < vec_capacity history.new) }
+    ensures room_there { IfSome result (λ both. vec_len made.new < vec_capacity made.new) }
+{
+    if !make_room(history, made) {
+        drop(read);
+        return None;
+    }
+    twice(read).ok()
+}
+
+// A question about a tree, with its answer.
+fn read_of(tree: &Tree, question: Question, answer: &Answer) -> Result<Read>
+    ensures { IfOk result (λ it. it ≡ read.Tree tree.now question answer.now) }
+{
+    let tree = match tree.clone() {
+        Ok(tree) => tree,
+        Err(e) => {
+            drop(question);
+            return Err(e);
+        }
+    };
+    match answer.clone() {
+        Ok(answer) => Ok(Read::Tree(tree, question, answer)),
+        Err(e) => {
+            drop(tree);
+            drop(question);
+            Err(e)
+        }
+    }
+}
+
+// What is to be noted of it, twice, with room for it in both lists.
+fn room_and_answers(
+    history: &mut Vec<Entry>,
+    made: &mut Vec<Made>,
+    tree: &Tree,
+    question: Question,
+    answer: &Answer,
+) -> Option<(Made, Made)>
+    ensures first { IfSome result (λ both. made_value both.0 ≡ ReadMade (read.Tree tree.now question answer.now)) }
+    ensures second { IfSome result (λ both. made_value both.1 ≡ ReadMade (read.Tree tree.now question answer.now)) }
+    ensures history { history.new.items ≡ history.old.items }
+    ensures made { made.new.items ≡ made.old.items }
+    ensures room { IfSome result (λ both. vec_len history.new < vec_capacity history.new) }
+    ensures room_there { IfSome result (λ both. vec_len made.new < vec_capacity made.new) }
+{
+    match read_of(tree, question, answer) {
+        Ok(read) => room_and_reads(history, made, read),
+        Err(e) => {
+            drop(e);
+            None
+        }
+    }
+}
+
+// What a tree answers now.
+#[tactic(auto, using(crate::proofs::ReadMakes::answered, crate::proofs::ReadMakes::is_answer))]
+fn answer_now<P: Pages, M: MergeOperator>(
+    machine: &Machine<P, M>,
+    tree: &Tree,
+    question: &Question,
+) -> Result<Answer>
+    ensures kind { IfOk result (IsAnswerTo question.now) }
+    ensures now { IfOk result (λ answer. ReadsNow P.store machine.now (read.Tree tree.now question.now answer)) }
+{
+    machine.audit();
+    answer_to(machine, tree, question)
+}
+
+// A question about a tree, and what is to be noted of it, twice, with room for it in both lists. Want of memory for that refuses it.
+pub(crate) fn answer_noting<P: Pages, M: MergeOperator>(
+    machine: &Machine<P, M>,
+    history: &mut Vec<Entry>,
+    made: &mut Vec<Made>,
+    tree: &Tree,
+    question: Question,
+) -> (Result<Answer>, Option<(Made, Made)>)
+    ensures kind { IfOk result.0 (IsAnswerTo question) }
+    ensures ok { IfOk result.0 (λ answer. first_noted result.1 ≡ ReadMade (read.Tree tree.now question answer) ∷ []) }
+    ensures err { OnErr result.0 (first_noted result.1 ≡ []) }
+    ensures notes { NotesRead P.store machine.now (first_noted result.1) }
+    ensures again { second_noted result.1 ≡ first_noted result.1 }
+    ensures history { history.new.items ≡ history.old.items }
+    ensures made { made.new.items ≡ made.old.items }
+    ensures room { IfSome result.1 (λ both. vec_len history.new < vec_capacity history.new) }
+    ensures room_there { IfSome result.1 (λ both. vec_len made.new < vec_capacity made.new) }
+{
+    let answer = match answer_now(machine, tree, &question) {
+        Ok(answer) => answer,
+        Err(e) => {
+            drop(question);
+            return (Err(e), None);
+        }
+    };
+    match room_and_answers(history, made, tree, question, &answer) {
+        Some(both) => (Ok(answer), Some(both)),
+        None => {
+            drop(answer);
+            (Err(Error::NoMemory), None)
+        }
+    }
+}
+
+// The names of all trees now.
+#[tactic(auto, using(crate::proofs::ReadMakes::named))]
+fn names_now<P: Pages, M: MergeOperator>(machine: &Machine<P, M>) -> Result<Names>
+    ensures { IfOk result (λ names. ReadsNow P.store machine.now (read.Names names)) }
+{
+    names_of(machine)
+}
+
+// The same names, as a read of them is noted.
+fn read_of_names(names: &Names) -> Result<Read>
+    ensures { IfOk result (λ it. it ≡ read.Names names.now) }
+{
+    Ok(Read::Names(names.clone()?))
+}
+
+// The names of all trees, and what is to be noted of it, as of a question.
+pub(crate) fn names_noting<P: Pages, M: MergeOperator>(
+    machine: &Machine<P, M>,
+    history: &mut Vec<Entry>,
+    made: &mut Vec<Made>,
+) -> (Result<Names>, Option<(Made, Made)>)
+    ensures ok { IfOk result.0 (λ names. first_noted result.1 ≡ ReadMade (read.Names names) ∷ []) }
+    ensures err { OnErr result.0 (first_noted result.1 ≡ []) }
+    ensures notes { NotesRead P.store machine.now (first_noted result.1) }
+    ensures again { second_noted result.1 ≡ first_noted result.1 }
+    ensures history { history.new.items ≡ history.old.items }
+    ensures made { made.new.items ≡ made.old.items }
+    ensures room { IfSome result.1 (λ both. vec_len history.new < vec_capacity history.new) }
+    ensures room_there { IfSome result.1 (λ both. vec_len made.new < vec_capacity made.new) }
+{
+    let names = match names_now(machine) {
+        Ok(names) => names,
+        Err(e) => return (Err(e), None),
+    };
+    let read = match read_of_names(&names) {
+        Ok(read) => read,
+        Err(e) => {
+            drop(names);
+            return (Err(e), None);
+        }
+    };
+    match room_and_reads(history, made, read) {
+        Some(both) => (Ok(names), Some(both)),
+        None => {
+            drop(names);
+            (Err(Error::NoMemory), None)
+        }
+    }
+}
+
+// The collection of every tree now.
+#[tactic(auto, using(crate::proofs::ReadMakes::exported))]
+fn export_now<P: Pages, M: MergeOperator>(machine: &Machine<P, M>) -> Result<Collections>
+    ensures { IfOk result (λ all. ReadsNow P.store machine.now (read.Export all)) }
+{
+    machine.audit();
+    export_of(machine)
+}
+
+// The same collections, as a read of them is noted.
+fn read_of_export(all: &Collections) -> Result<Read>
+    ensures { IfOk result (λ it. it ≡ read.Export all.now) }
+{
+    Ok(Read::Export(all.clone()?))
+}
+
+// The collection of every tree, and what is to be noted of it, as of a question. The collections are shared, and not copied.
+pub(crate) fn export_noting<P: Pages, M: MergeOperator>(
+    machine: &Machine<P, M>,
+    history: &mut Vec<Entry>,
+    made: &mut Vec<Made>,
+) -> (Result<Collections>, Option<(Made, Made)>)
+    ensures ok { IfOk result.0 (λ all. first_noted result.1 ≡ ReadMade (read.Export all) ∷ []) }
+    ensures err { OnErr result.0 (first_noted result.1 ≡ []) }
+    ensures notes { NotesRead P.store machine.now (first_noted result.1) }
+    ensures again { second_noted result.1 ≡ first_noted result.1 }
+    ensures history { history.new.items ≡ history.old.items }
+    ensures made { made.new.items ≡ made.old.items }
+    ensures room { IfSome result.1 (λ both. vec_len history.new < vec_capacity history.new) }
+    ensures room_there { IfSome result.1 (λ both. vec_len made.new < vec_capacity made.new) }
+{
+    let all = match export_now(machine) {
+        Ok(all) => all,
+        Err(e) => return (Err(e), None),
+    };
+    let read = match read_of_export(&all) {
+        Ok(read) => read,
+        Err(e) => {
+            drop(all);
+            return (Err(e), None);
+        }
+    };
+    match room_and_reads(history, made, read) {
+        Some(both) => (Ok(all), Some(both)),
+        None => {
+            drop(all);
+            (Err(Error::NoMemory), None)
+        }
+    }
+}

@@ -1,0 +1,251 @@
+//! Transactions by a caller: a closure is run over the pages as they are, and what it wrote is made as a group, which is noted.
+ghost use Rattle.std.specs.Prelude.{◌≡◌, ◌∷◌, [], true, IfOk, OnOk, OnErr};
+ghost use Rattle.sled_store.specs.Store.{now};
+ghost use Rattle.sled_model.specs.Refusal.{must_refuse_of};
+ghost use Rattle.sled_model.specs.State.{maps_of};
+ghost use Rattle.sled.specs.Values.{db_state};
+ghost use Rattle.machine_shared.specs.Transactions.{AddsTransaction, RunsIn, RunsOnce, ShowsInsideAtLaw, ShowsInsideLaw, batches_of_tree, transaction_made};
+ghost use Rattle.machine_shared.specs.theory.Transacting.{AddsCommit, AddsFlush, StopsCommit, ran_as};
+
+use crate::caller::Caller;
+use crate::grouping::decided;
+use crate::handle::Handle;
+use crate::state::State;
+use lent_pages::{Lent, run_on};
+use machine_alone::Machine;
+use sled::{TransactionAnswer, TransactionError, TransactionResult, TransactionalTree};
+use sled_batch::Batch;
+use sled_model::{MergeOperator, Tree, Whole};
+use sled_nodes::{Error, Pid, Result};
+use sled_store::Pages;
+use std::alloc::Global;
+use std::sync::Wait;
+use std::sync::ledger::Ledger;
+use tree_transactions::Commit;
+
+// The root of a tree that passes the tests.
+#[tactic(auto, using(sled::proofs::Reading::no_root))]
+pub(crate) fn root_of<P: Pages, M: MergeOperator>(
+    machine: &Machine<P, M>,
+    tree: &Tree,
+) -> Result<Pid>
+    ensures tested { OnOk result (must_refuse_of (db_state P.store M.meant machine.now.db) (tree.now ∷ []) ≡ None) }
+    ensures is { IfOk result (λ root. (now (P.store machine.now.db.pages)).roots tree.now.name ≡ Some root) }
+{
+    if let Err(e) = machine.db().check(tree) {
+        return Err(e);
+    }
+    match machine.db().pages().root(tree.name.as_ref()) {
+        Some(root) => Ok(root),
+        None => unreachable!(),
+    }
+}
+
+// Runs a closure at a tree, over the pages as they are. No id is set aside for it, and nothing is written.
+fn run<P: Pages + Sync, M: MergeOperator, A, E, R: TransactionAnswer<A, E>, F>(
+    machine: &Machine<P, M>,
+    tree: &Tree,
+    f: F,
+) -> TransactionResult<Commit<A, Batch>, E>
+where
+    F: Fn(&mut TransactionalTree<'_, Lent<'_, P>>) -> R,
+    requires { (shown : _) → F.pre f shown }
+    ensures { ran_as (RunsIn P.store M.meant F.Fn R.result_of f tree.now machine.now.db) result }
+{
+    machine.audit();
+    let root = match root_of(machine, tree) {
+        Ok(root) => root,
+        Err(e) => return Err(TransactionError::Storage(e)),
+    };
+    let pages = machine.db().pages();
+    let mut greatest_id = pages.mark();
+    run_on(machine.db().allocator(), pages, root, &mut greatest_id, f)
+}
+
+// What was written of a tree, as a group.
+fn group_of(alloc: Global, tree: &Tree, writes: Batch) -> Result<Vec<(Tree, Batch)>>
+    ensures { IfOk result (λ group. group.items ≡ batches_of_tree tree.now writes) }
+{
+    let tree = match tree.clone() {
+        Ok(tree) => tree,
+        Err(e) => {
+            drop(writes);
+            return Err(e);
+        }
+    };
+    let mut group = Vec::new(alloc);
+    match group.push((tree, writes)) {
+        Ok(()) => Ok(group),
+        Err(failed) => {
+            drop(failed);
+            drop(group);
+            Err(Error::NoMemory)
+        }
+    }
+}
+
+// Makes all durable, and notes it.
+fn make_flush<P: Pages, L: Ledger, M: MergeOperator>(
+    state: &mut State<P, L, M>,
+    me: &mut Caller<L>,
+) -> Result<()>
+    ensures ok { OnOk result (AddsFlush me.old.made me.new.made) }
+    ensures err { OnErr result (me.new.made ≡ me.old.made) }
+    ensures number { me.new.number ≡ me.old.number }
+{
+    let outcome = state.whole(me, Whole::Flush);
+    decided(outcome)
+}
+
+// Makes a group that a transaction wrote, and then all durable if that is asked for.
+pub(crate) fn commit<P: Pages, L: Ledger, M: MergeOperator>(
+    state: &mut State<P, L, M>,
+    me: &mut Caller<L>,
+    group: Vec<(Tree, Batch)>,
+    flushes: bool,
+) -> Result<()>
+    ensures ok { OnOk result (AddsCommit (transaction_made (maps_of (db_state P.store M.meant state.old.machine.db)) group.items) flushes me.old.made me.new.made) }
+    ensures err { OnErr result (StopsCommit (transaction_made (maps_of (db_state P.store M.meant state.old.machine.db)) group.items) flushes me.old.made me.new.made) }
+    ensures number { me.new.number ≡ me.old.number }
+{
+    if let Err(e) = state.make(me, group) {
+        return Err(e);
+    }
+    if !flushes {
+        return Ok(());
+    }
+    make_flush(state, me)
+}
+
+// The same of what was written of a tree.
+fn commit_tree<P: Pages, L: Ledger, M: MergeOperator>(
+    state: &mut State<P, L, M>,
+    me: &mut Caller<L>,
+    tree: &Tree,
+    writes: Batch,
+    flushes: bool,
+) -> Result<()>
+    ensures ok { OnOk result (AddsCommit (transaction_made (maps_of (db_state P.store M.meant state.old.machine.db)) (batches_of_tree tree.now writes)) flushes me.old.made me.new.made) }
+    ensures err { OnErr result (StopsCommit (transaction_made (maps_of (db_state P.store M.meant state.old.machine.db)) (batches_of_tree tree.now writes)) flushes me.old.made me.new.made) }
+    ensures number { me.new.number ≡ me.old.number }
+{
+    let alloc = state.machine.db().allocator();
+    match group_of(alloc, tree, writes) {
+        Ok(group) => commit(state, me, group, flushes),
+        Err(e) => Err(e),
+    }
+}
+
+// A transaction of a tree: its closure is run, and what that wrote is made and noted.
+fn transact<
+    P: Pages + Sync,
+    L: Ledger,
+    M: MergeOperator,
+    A: Drop,
+    E,
+    R: TransactionAnswer<A, E>,
+    F,
+>(state: &mut State<P, L, M>, me: &mut Caller<L>, tree: &Tree, f: F) -> TransactionResult<A, E>
+where
+    F: Fn(&mut TransactionalTree<'_, Lent<'_, P>>) -> R,
+    requires { (shown : _) → F.pre f shown }
+    ensures made { AddsTransaction (RunsOnce P.store M.meant F.Fn R.result_of f tree.now) (batches_of_tree tree.now) true result me.old.made me.new.made }
+    ensures number { me.new.number ≡ me.old.number }
+{
+    let ended = run(&state.machine, tree, f);
+    match ended {
+        Ok(
+            Commit {
+                answer,
+                writes,
+                flushes,
+            },
+        ) => match commit_tree(state, me, tree, writes, flushes) {
+            Ok(()) => Ok(answer),
+            Err(e) => {
+                drop(answer);
+                Err(TransactionError::Storage(e))
+            }
+        },
+        Err(e) => Err(e),
+    }
+}
+
+// The same of what a lock holds. What was taken from under it is closed.
+fn transact_in<
+    P: Pages + Sync,
+    L: Ledger,
+    M: MergeOperator,
+    A: Drop,
+    E,
+    R: TransactionAnswer<A, E>,
+    F,
+>(
+    held: &mut Option<State<P, L, M>>,
+    me: &mut Caller<L>,
+    tree: &Tree,
+    f: F,
+) -> TransactionResult<A, E>
+where
+    F: Fn(&mut TransactionalTree<'_, Lent<'_, P>>) -> R,
+    requires { (shown : _) → F.pre f shown }
+    ensures made { AddsTransaction (RunsOnce P.store M.meant F.Fn R.result_of f tree.now) (batches_of_tree tree.now) true result me.old.made me.new.made }
+    ensures number { me.new.number ≡ me.old.number }
+{
+    match held {
+        None => Err(TransactionError::Storage(Error::Closed)),
+        Some(state) => transact(state, me, tree, f),
+    }
+}
+
+impl<P: Pages + Sync, L: Ledger, M: MergeOperator> Handle<P, L, M> {
+    /// Runs a closure as a transaction of a tree: all that it writes is made, or nothing. It is one step under the lock. What it wrote is
+    /// added to this caller's list, also if that is nothing, with what was before at each key that it wrote: the closure was run over maps
+    /// that had this there. Of keys that it read and did not write the list says nothing.
+    ///
+    /// After it the flush that the closure asked for is added. Of a transaction that is aborted or refused nothing is added to the list;
+    /// but if only the flush is refused what it wrote is made, and is in the list.
+    ///
+    /// The closure ends as one of `transaction` of the database does, and is run again while it ends by `Conflict`. It is called while the
+    /// lock is held: it must make no call on this database. No ids are set aside for it, so `generate_id` inside is refused: take ids
+    /// before. Refused as `transaction` of the database is, and with `Closed` if the database was taken out of its lock.
+    ///
+    /// ```
+    /// // Moves the value of one key to another.
+    /// let moved: TransactionResult<bool, ()> = handle.transaction(rt, &tree, |weather| {
+    ///     let Some(value) = weather.remove(b"ulm")? else {
+    ///         return Ok(false);
+    ///     };
+    ///     weather.insert(b"bern", value.as_ref())?;
+    ///     Ok(true)
+    /// });
+    /// ```
+    pub fn transaction<A: Drop, E, R: TransactionAnswer<A, E>, F>(
+        &mut self,
+        rt: &impl Wait,
+        tree: &Tree,
+        f: F,
+    ) -> R::Ended
+    where
+        F: Fn(&mut TransactionalTree<'_, Lent<'_, P>>) -> R,
+        requires { (shown : _) → F.pre f shown }
+        ensures made { AddsTransaction (RunsOnce P.store M.meant F.Fn R.result_of f tree.now) (batches_of_tree tree.now) true (R.answer_of result) self.old.made self.new.made }
+        ensures number { self.new.number ≡ self.old.number }
+    {
+        let mut guard = self.lock.lock(rt);
+        let ended = transact_in(&mut *guard, &mut self.me, tree, f);
+        drop(guard);
+        R::ended(ended)
+    }
+}
+
+/// What a read shows inside a transaction by a handle, in terms of the maps: the transaction's own write of the key, and if there is none
+/// the value in the map of the tree. It does nothing.
+///
+/// ```
+/// law_shows_inside::<MemPages, Box<dyn MergeOperator + Send>>(); // From here on a proof knows what reads inside show.
+/// ```
+pub fn law_shows_inside<P: Pages, M: MergeOperator>()
+    ensures tree { ShowsInsideLaw P.store M.meant }
+    ensures list { ShowsInsideAtLaw P.store M.meant }
+{}

@@ -1,5 +1,0 @@
-use Rattle.std.proofs.Common.{◌≡◌, [], All}
-use Rattle.shared_examples.proofs.way.handles_of.Given as goal
-
-abbrev pub invariant-loop : goal.invariant-loop
-invariant-loop g l = All (λ h. h.made ≡ []) l.handles.items × (l.shared.given ≡ l.counter) × (l.shared.before ≡ l.fn.shared.before) × (l.shared.opening ≡ l.fn.shared.opening)

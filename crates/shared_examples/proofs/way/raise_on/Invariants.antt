@@ -1,5 +1,0 @@
-use Rattle.shared_examples.specs.Raising.{RaisesOn}
-use Rattle.shared_examples.proofs.way.raise_on.Given as goal
-
-abbrev pub invariant-loop : goal.invariant-loop
-invariant-loop g l = RaisesOn l.tree l.key l.fn.handle.made l.handle.made

@@ -1,4 +1,0 @@
-use Rattle.shared_tests.proofs.beside.lose_all.Given as goal
-
-abbrev pub ghosts-lose_among : goal.ghosts-lose_among
-ghosts-lose_among g a = record { name = a.blank.name; parts = a.blank.parts }

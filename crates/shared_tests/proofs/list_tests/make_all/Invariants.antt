@@ -1,4 +1,0 @@
-use Rattle.shared_tests.proofs.list_tests.make_all.Given as goal
-
-abbrev pub ghosts-share_and_make : goal.ghosts-share_and_make
-ghosts-share_and_make g a = record { name = a.blank.name; parts = a.blank.parts }

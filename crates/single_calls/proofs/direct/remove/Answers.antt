@@ -1,7 +1,0 @@
-use Rattle.single_calls.proofs.direct.remove.Goals as goal
-
-pub returns-clause-ok : goal.returns-clause-ok
-returns-clause-ok c = assumption
-
-pub returns-clause-err : goal.returns-clause-err
-returns-clause-err c = assumption

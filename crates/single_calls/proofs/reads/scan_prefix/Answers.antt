@@ -1,4 +1,0 @@
-use Rattle.single_calls.proofs.reads.scan_prefix.Goals as goal
-
-pub returns : goal.returns
-returns c = assumption

@@ -1,5 +1,0 @@
-use Rattle.std.proofs.Common.{sym}
-use Rattle.sled_calls.proofs.flights.advance_in.Goals as goal
-
-pub advance-requires-after_bounds : goal.advance-requires-after_bounds
-advance-requires-after_bounds g c κs within = c.requires c.in-Some.flight.now (sym c.in-Some.ensures.value)

@@ -1,5 +1,0 @@
-use Rattle.sled_calls.proofs.Wholes.{group_steps}
-use Rattle.sled_calls.proofs.laws.law_group.Goals as goal
-
-pub returns : goal.returns
-returns g c = group_steps g.P.Pages.store g.P.Pages.flush_number g.M.MergeOperator.meant

@@ -1,5 +1,0 @@
-use Rattle.sled_calls.proofs.Hearing.{hears_runs}
-use Rattle.sled_calls.proofs.laws.law_hears.Goals as goal
-
-pub returns : goal.returns
-returns g c = hears_runs g.P.Pages.store g.P.Pages.flush_number g.M.MergeOperator.meant

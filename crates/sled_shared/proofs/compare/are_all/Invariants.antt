@@ -1,5 +1,0 @@
-use Rattle.sled_shared.specs.Gathered.{EachOnceBehind}
-use Rattle.sled_shared.proofs.compare.are_all.Given as goal
-
-abbrev pub invariant-loop-k : goal.invariant-loop-k
-invariant-loop-k g l = EachOnceBehind l.before l.k l.handles

@@ -1,6 +1,0 @@
-use Rattle.std.proofs.Common.{take, All}
-use Rattle.sled_shared.specs.Gathered.{IsGiven}
-use Rattle.sled_shared.proofs.compare.has_no_others.Given as goal
-
-abbrev pub invariant-loop-e : goal.invariant-loop-e
-invariant-loop-e l = All (λ e. IsGiven l.given e.by) (take l.e-index l.history)

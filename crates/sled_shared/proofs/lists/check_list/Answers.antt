@@ -1,7 +1,0 @@
-use Rattle.std.proofs.Common.{◌∙◌, sym}
-use Rattle.sled.specs.Values.{db_state}
-use Rattle.sled_shared.proofs.Listing.{list_passes}
-use Rattle.sled_shared.proofs.lists.check_list.Goals as goal
-
-pub returns-in-Ok : goal.returns-in-Ok
-returns-in-Ok g c = list_passes (db_state g.P.Pages.store g.M.MergeOperator.meant c.args.machine.now.db) c.args.trees.now (sym c.is_open.ensures ∙ c.if-not-is_open.false) c.in-Ok.ensures

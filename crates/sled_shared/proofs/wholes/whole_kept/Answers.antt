@@ -1,5 +1,0 @@
-use Rattle.sled_shared.proofs.WholeTests.{kept_twice}
-use Rattle.sled_shared.proofs.wholes.whole_kept.Goals as goal
-
-pub returns-clause-again : goal.returns-clause-again
-returns-clause-again g c = kept_twice _ _ _ c.whole_kept.ensures.kept

@@ -1,6 +1,0 @@
-use Rattle.std.proofs.Common.{◌≡◌, ◌-◌, length, take}
-use Rattle.store_examples.specs.Log.{state_after}
-use Rattle.store_examples.proofs.log_pages.root_in.Given as goal
-
-abbrev pub invariant-loop-i : goal.invariant-loop-i
-invariant-loop-i l = (state_after (take (length l.log - l.i) l.log)).roots l.name ≡ (state_after l.log).roots l.name

@@ -1,9 +1,0 @@
-use Rattle.std.specs.Option.{option_map}
-use Rattle.tree_steps.proofs.Watching.{of_pair}
-use Rattle.tree_steps.proofs.step.link_watched.Goals as goal
-
-pub link_told-requires-clause-pair : goal.link_told-requires-clause-pair
-link_told-requires-clause-pair g c κs within = of_pair (option_map (λ o. g.M.MergeOperator.meant o.now) c.args.operator) c.args.flight.now c.requires.here c.in-Ok-Some.change (rw c.in-Ok-Some.field-0-is at c.in-Ok-Some.ensures.ok)
-
-pub returns-in-Ok-Some : goal.returns-in-Ok-Some
-returns-in-Ok-Some g c = c.link_told.ensures.is (option_map (λ o. g.M.MergeOperator.meant o.now) c.args.operator) (rw c.in-Ok-Some.field-0-is at c.in-Ok-Some.ensures.ok)
