@@ -20,7 +20,7 @@ use sled_store::Pages;
 use sled_tree::{InFlight, Went, walk_down};
 use std::alloc::Global;
 use std::marker::Model;
-use tree_pages::{number_of, operator_of};
+use tree_lists::{number_of, operator_of};
 use tree_quick::make_quick;
 use tree_steps::advance_over;
 

@@ -10,7 +10,8 @@ use sled_model::MergeOperator;
 use sled_nodes::texts::CORE_STRUCTURES;
 use sled_nodes::{Error, Result};
 use sled_store::Pages;
-use tree_pages::{drop_root, number_of, take_name, take_operator};
+use tree_lists::{number_of, take_name, take_operator};
+use tree_pages::drop_root;
 
 impl<P: Pages, M: MergeOperator> Db<P, M> {
     ghost use Rattle.sled.specs.Drops.{DropsTree, RefusesDrop};

@@ -33,7 +33,7 @@ use sled_queues::Queues;
 use sled_store::{Pages, View};
 use std::alloc::Global;
 use tree_groups::{KeyWrite, is_settled, write_group};
-use tree_pages::number_of;
+use tree_lists::number_of;
 use tree_reads::leaf_near;
 
 // The leaf with its version, if a write of it can be linked at once.

@@ -19,7 +19,7 @@ use sled_queues::Queues;
 use sled_store::{Pages, law_given};
 use std::alloc::Global;
 use tree_check::verify_integrity;
-use tree_pages::{number_of, put_tree, reserve_one};
+use tree_lists::{number_of, put_tree, reserve_one};
 
 // A leaf without pairs that covers every key.
 fn empty_leaf(alloc: Global) -> Result<Node>

@@ -10,7 +10,7 @@ use sled_nodes::Error;
 use sled_nodes::texts::WALK_PASSED_TURNS;
 use sled_store::Pages;
 use sled_tree::{InFlight, Went};
-use tree_pages::operator_of;
+use tree_lists::operator_of;
 use tree_steps::{Kept, keep_over};
 
 impl<P: Pages, M: MergeOperator> Db<P, M> {

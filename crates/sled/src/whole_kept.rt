@@ -16,7 +16,7 @@ use sled_model::{MergeOperator, Reply, Tree};
 use sled_nodes::texts::NUMBERS_USED_UP;
 use sled_nodes::{Error, IVec, Result, clone_pair};
 use sled_store::Pages;
-use tree_pages::number_of;
+use tree_lists::number_of;
 
 // A pop's reply with a copy of this pair. Refused with `NoMemory` alone.
 fn pair_told(pair: &(IVec, IVec)) -> Result<Reply>

@@ -6,7 +6,7 @@ use Rattle.std.specs.Ordering.{nat_cmp, eq_by_cmp, is_eq}
 use Rattle.std.specs.FinMap.{nat_cmp-IsAntisymmetric}
 use Rattle.std.specs.FinMap.Entries.{find}
 use Rattle.std.proofs.lemmas.Cmp.{nat_cmp_total, tied_itself}
-use Rattle.tree_pages.specs.theory.Operators.{with_operator, place}
+use Rattle.tree_lists.specs.theory.Operators.{with_operator, place}
 
 itself : (n : ℕ) → eq_by_cmp nat_cmp n n ≡ true
 itself n = ap is_eq (tied_itself nat_cmp_total n)

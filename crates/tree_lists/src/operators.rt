@@ -4,7 +4,7 @@ ghost use Rattle.std.specs.FinMap.Entries.{find};
 ghost use Rattle.std.specs.Ordering.{nat_cmp};
 ghost use Rattle.std.specs.Option.{option_copied};
 ghost use Rattle.sled_nodes.specs.declared.error.Error.TheVariants.{NoMemory};
-ghost use Rattle.tree_pages.specs.theory.Operators.{with_operator, place};
+ghost use Rattle.tree_lists.specs.theory.Operators.{with_operator, place};
 
 use sled_model::MergeOperator;
 use sled_nodes::Result;

@@ -1,5 +1,5 @@
 use Rattle.std.proofs.Common.{◌≡◌, map, take}
-use Rattle.tree_pages.proofs.tree_list.names_of.Given as goal
+use Rattle.tree_lists.proofs.tree_list.names_of.Given as goal
 
 -- the names so far are listed
 abbrev pub invariant-loop-tree : goal.invariant-loop-tree

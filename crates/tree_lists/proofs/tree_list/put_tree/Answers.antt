@@ -4,7 +4,7 @@ use Rattle.sled_nodes.proofs.Basics.{none_some}
 use Rattle.sled_nodes.specs.Order.{key_cmp}
 use Rattle.sled_nodes.specs.theory.Rising.{IsHit, IsGap}
 use Rattle.sled_nodes.proofs.Rising.{hit_found, gap_goes}
-use Rattle.tree_pages.proofs.tree_list.put_tree.Goals as goal
+use Rattle.tree_lists.proofs.tree_list.put_tree.Goals as goal
 
 pub unreachable-requires : goal.unreachable-requires
 unreachable-requires c =

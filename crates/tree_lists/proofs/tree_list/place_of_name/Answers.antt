@@ -4,7 +4,7 @@ use Rattle.std.specs.Cmp.Lexicographic.{slice_cmp, nat_list_cmp_total}
 use Rattle.std.specs.Ordering.{nat_cmp}
 use Rattle.sled_nodes.specs.Order.{key_cmp}
 use Rattle.sled_nodes.proofs.Rising.{searched}
-use Rattle.tree_pages.proofs.tree_list.place_of_name.Goals as goal
+use Rattle.tree_lists.proofs.tree_list.place_of_name.Goals as goal
 
 pub returns : goal.returns
 unfolding key_cmp
