@@ -1,4 +1,5 @@
--- What a call on a key that is made at once promises, part by part. `Direct` has the same as one record.
+-- What a call on a key that is made at once promises, part by part. `Direct` has all but `ChangesMap` as two records, of an answer and of a
+-- refusal.
 use Rattle.std.specs.Prelude.{◌≡◌, ◌≢◌, ℕ, ◌≤◌, ◌⊎◌, List, [], ◌∷◌, length, Option, Some, None, Result, Ok, Err}
 use Rattle.std.specs.FinMap.Entries.{find, put}
 use Rattle.std.specs.declared.ops.Bound.TheVariants.{Included}
