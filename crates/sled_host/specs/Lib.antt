@@ -1,6 +1,7 @@
 pub mod Event
 pub mod Outcomes
 pub mod Laws
+pub mod Noted
 pub mod Stops
 pub mod Host
 pub mod theory

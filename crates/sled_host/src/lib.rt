@@ -28,3 +28,4 @@ mod system;
 pub use host::HostFile;
 pub use laws::law_honest;
 pub use pair::{HostError, Opening, Pair, open_pair};
+pub use record::{Call, Record};

@@ -2,7 +2,8 @@
 ghost use Rattle.std.specs.Prelude.{◌≡◌, List, [], ◌∷◌};
 ghost use Rattle.std.specs.Borrow.{ftrue};
 ghost use Rattle.sled_host.specs.Event.{Event};
-ghost use Rattle.sled_host.specs.theory.Record.{event_of, events_code};
+ghost use Rattle.sled_host.specs.Noted.{event_of};
+ghost use Rattle.sled_host.specs.theory.Record.{events_code};
 
 use std::marker::Model;
 

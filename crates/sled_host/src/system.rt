@@ -1,7 +1,7 @@
 //! The calls of the system that are made of an open file: each method makes one, and then notes it with its answer.
 ghost use Rattle.std.specs.Prelude.{◌≡◌, [], ◌∷◌, is_ok, IfOk};
 ghost use Rattle.sled_host.specs.Event.{opened, wrote, cut, synced};
-ghost use Rattle.sled_host.specs.theory.Record.{event_of};
+ghost use Rattle.sled_host.specs.Noted.{event_of};
 
 use crate::record::{Call, Record};
 use std::alloc::Global;

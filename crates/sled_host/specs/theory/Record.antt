@@ -1,16 +1,8 @@
--- Of Record, for proofs. What a call is as an event, and how the logic keeps events.
+-- Of Record, for proofs. How the logic keeps events.
 use Rattle.std.specs.Prelude.{◌≡◌, ◌⊎◌, ℕ, Bool, List, refl}
 use Rattle.std.specs.Coded.{Coded, code_by, coded×, coded⊎, coded_ℕ, coded_bool, coded_list}
 use Rattle.std.proofs.Common.{inl, inr}
 use Rattle.sled_host.specs.Event.{Event, opened, wrote, cut, synced}
-use Rattle.sled_host.specs.declared.record.Call.{Call}
-use Rattle.sled_host.specs.declared.record.Call.TheVariants.{Opened, Wrote, Cut, Synced}
-
-abbrev pub event_of : Call → Event
-event_of (Opened bytes) = opened bytes.now
-event_of (Wrote at bytes done) = wrote at bytes.now done
-event_of (Cut n done) = cut n done
-event_of (Synced done) = synced done
 
 abbrev Parts : Type 0
 Parts = List ℕ ⊎ ((ℕ × (List ℕ × Bool)) ⊎ ((ℕ × Bool) ⊎ Bool))

@@ -1,0 +1,81 @@
+//! A file of a store that a crash may have torn is made whole.
+ghost use Rattle.std.specs.Prelude.{◌≡◌, ◌⊎◌, ◌++◌, ◌∷◌, ℕ, List, true, false, take, map, IfOk, IfErr, OnOk, Ok};
+ghost use Rattle.sled_disk.specs.Disk.{Only, NoMore, HasCause};
+ghost use Rattle.sled_disk.specs.declared.disk.DiskError.TheVariants.{NoMemory};
+ghost use Rattle.sled_log.specs.Digest.{digest};
+ghost use Rattle.sled_log.specs.Log.{log_of};
+ghost use Rattle.sled_log.specs.Tear.{log_to_tear};
+ghost use Rattle.sled_files.specs.Header.{header};
+ghost use Rattle.files_once.specs.Mended.{IsOfStore, IsMended};
+
+use sled_disk::{Disk, DiskError, Result};
+use sled_log::{mend, read_all, read_log, read_to_tear};
+use std::alloc::Global;
+
+// "donnavek" as a number, the low byte first.
+const MAGIC: u64 = 0x6b65_7661_6e6e_6f64;
+
+const FORMAT: u32 = 1;
+
+// Whether a payload begins with the header of a store in this format.
+fn is_headed(payload: &[u8]) -> bool
+    ensures { (generation : ℕ) (first : List ℕ) → payload.now ≡ header generation ++ first → result ≡ true }
+{
+    let Some((magic, behind)) = payload.split_first_chunk::<8>() else {
+        return false;
+    };
+    let Some((format, behind)) = behind.split_first_chunk::<4>() else {
+        return false;
+    };
+    u64::from_le_bytes(*magic) == MAGIC
+        && u32::from_le_bytes(*format) == FORMAT
+        && behind.len() >= 8
+}
+
+// Whether a file is one of a store, up to a tear.
+fn is_of_store(alloc: Global, bytes: &[u8]) -> Result<bool>
+    ensures no { IfOk result (λ is. is ≡ false → IsOfStore bytes.now → ⊥) }
+    ensures err { IfErr result (λ e. e ≡ NoMemory) }
+{
+    let log = match read_to_tear(alloc, bytes) {
+        Ok(log) => log,
+        Err(_) => return Err(DiskError::NoMemory),
+    };
+    match log.payloads.first() {
+        Some(payload) => Ok(is_headed(payload)),
+        None => Ok(false),
+    }
+}
+
+// Whether a file is a log with nothing behind its closed gate.
+fn is_whole(alloc: Global, bytes: &[u8]) -> bool
+    ensures { result ≡ true → log_of digest bytes.now ≡ Ok (log_to_tear digest bytes.now) }
+{
+    match read_log(alloc, bytes) {
+        Ok(log) => log.gate + 1 == bytes.len(),
+        Err(_) => false,
+    }
+}
+
+/// Makes the log of a file whole that a crash may have torn while a block was brought to the disk in one sync, if the file is one of a
+/// store, and says whether the file was changed. All of it is brought to the disk first. Refused for want of memory or by the disk.
+///
+/// ```
+/// let was_torn = mend_store(alloc, &mut first)?;
+/// ```
+pub fn mend_store<D: Disk>(alloc: Global, disk: &mut D) -> Result<bool>
+    ensures mended { OnOk result (IsMended (D.seen disk.old) (D.seen disk.new)) }
+    ensures same { IfOk result (λ is. is ≡ false → D.seen disk.new ≡ D.seen disk.old) }
+    ensures durable { OnOk result (Only (D.seen disk.new) (D.may_leave disk.new)) }
+    ensures cause { HasCause (D.faults disk.old) (D.faults disk.new) result }
+{
+    disk.sync()?;
+    let bytes = read_all(disk, alloc)?;
+    let is_done = !is_of_store(alloc, &bytes)? || is_whole(alloc, &bytes);
+    drop(bytes);
+    if is_done {
+        return Ok(false);
+    }
+    mend(disk, alloc)?;
+    Ok(true)
+}
