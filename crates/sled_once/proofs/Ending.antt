@@ -1,5 +1,5 @@
 -- What is known of where a log ends, after one call more.
-use Rattle.std.proofs.Common.{◌≡◌, ◌∙◌, ℕ, ◌+◌, ◌≤◌, ◌<◌, List, [], ◌∷◌, ◌++◌, length, take, drop, refl, sym, ap, subst, arith, append_assoc, length-append, take-append-drop, take-take}
+use Rattle.std.proofs.Common.{◌≡◌, ◌∙◌, ℕ, ◌+◌, ◌<◌, List, [], ◌∷◌, ◌++◌, length, take, drop, refl, sym, ap, subst, arith, append_assoc, length-append, take-append-drop, take-take}
 use Rattle.std.proofs.lemmas.List.{take_at}
 use Rattle.sled_disk.specs.Disk.{written, Torn}
 use Rattle.sled_log.specs.Digest.{digest}

@@ -1,22 +1,18 @@
 -- What the disk behind has after one call more.
-use Rattle.std.proofs.Common.{◌≡◌, ◌∙◌, inl, inr, ⊎_elim, ℕ, ◌+◌, ◌≤◌, ◌<◌, ◌^◌, Bool, true, false, List, [], ◌∷◌, ◌++◌, length, take, refl, sym, ap, subst, arith, length-append}
-use Rattle.std.specs.Prelude.{Result, Ok, Err, ◌⊎◌, min}
+use Rattle.std.proofs.Common.{◌≡◌, ◌∙◌, inl, inr, ⊎_elim, ℕ, ◌+◌, ◌≤◌, Bool, true, false, List, ◌∷◌, length, take, refl, sym, ap, subst, arith}
+use Rattle.std.specs.Prelude.{Result, Ok, Err}
 use Rattle.std.proofs.lemmas.List.{take_all}
 use Rattle.sled_disk.specs.Disk.{written, Torn, Shortened, Follows, NoMore, Only, HasCause, is_caused}
 use Rattle.sled_disk.specs.declared.disk.DiskError.{DiskError}
 use Rattle.sled_disk.specs.declared.disk.DiskError.TheVariants.{NoMemory, Full, Failed}
 use Rattle.sled_disk.proofs.Calls.{torn_written, torn_lost, shortened_cut}
-use Rattle.sled_log.specs.Digest.{digest}
-use Rattle.sled_log.specs.Log.{opened, closed, blocks, IsLog}
 use Rattle.sled_host.specs.Event.{Event, wrote, cut, synced}
-use Rattle.sled_host.specs.Outcomes.{seen_after_all, LeftAfterAll, MayLeave}
-use Rattle.sled_once.specs.Stages.{IsBlock, EndsIn, EndsAs, IsReadAsLeft, IsToldAt, IsThrough, IsHeld, IsOpen, IsTornFrom, IsOver, Stands, HasPlace}
+use Rattle.sled_host.specs.Outcomes.{seen_after_all, LeftAfterAll}
+use Rattle.sled_once.specs.Stages.{EndsAs, IsReadAsLeft, IsOver, Stands}
 use Rattle.sled_once.specs.declared.stage.End.{End}
-use Rattle.sled_once.specs.declared.stage.End.TheVariants.{Closed, Staged}
 use Rattle.sled_once.specs.declared.stage.Stage.{Stage}
 use Rattle.sled_once.specs.declared.stage.Stage.TheVariants.{Through, Held, Opened, Torn as TornOff, Stopped}
-use Rattle.sled_once.proofs.Ending.{behind_block, behind_closed, block_staged}
-use Rattle.sled_once.proofs.Reading.{as_itself, as_staged, as_torn, read_open}
+use Rattle.sled_once.proofs.Reading.{as_itself}
 
 -- refusals that are counted at two places
 pub caused_more : (before now more : ℕ) (e : DiskError) → is_caused before now e → is_caused (before + more) (now + more) e

@@ -1,19 +1,19 @@
 -- A block that is held back, and how it is handed on.
-use Rattle.std.proofs.Common.{◌≡◌, ◌∙◌, inl, inr, ⊎_elim, ℕ, ◌+◌, ◌≤◌, ◌<◌, ◌^◌, Bool, true, false, List, [], ◌∷◌, ◌++◌, length, take, Vec, refl, sym, ap, subst, arith, length-append}
+use Rattle.std.proofs.Common.{◌≡◌, ◌∙◌, inl, inr, ℕ, ◌+◌, ◌≤◌, ◌<◌, ◌^◌, true, false, List, [], ◌∷◌, length, Vec, refl, sym, ap, subst, arith, length-append}
 use Rattle.std.specs.declared.alloc.Global.{Global}
 use Rattle.sled_disk.specs.Disk.{written, Torn, Follows, NoMore, Only}
 use Rattle.sled_disk.proofs.Calls.{torn_written, torn_lost}
 use Rattle.sled_log.specs.Digest.{digest}
-use Rattle.sled_log.specs.Log.{opened, closed, blocks, IsLog}
-use Rattle.sled_host.specs.Event.{Event, wrote, cut, synced}
-use Rattle.sled_host.specs.Outcomes.{seen_after_all, LeftAfterAll, MayLeave}
-use Rattle.sled_once.specs.Stages.{IsBlock, EndsIn, EndsAs, IsReadAsLeft, IsToldAt, IsThrough, IsHeld, IsOpen, IsTornFrom, Stands}
+use Rattle.sled_log.specs.Log.{opened, closed, blocks}
+use Rattle.sled_host.specs.Event.{Event, wrote}
+use Rattle.sled_host.specs.Outcomes.{seen_after_all, LeftAfterAll}
+use Rattle.sled_once.specs.Stages.{IsBlock, EndsIn, EndsAs, IsTornFrom, Stands}
 use Rattle.sled_once.specs.declared.stage.End.{End}
-use Rattle.sled_once.specs.declared.stage.End.TheVariants.{Closed, Staged}
-use Rattle.sled_once.specs.declared.stage.Stage.TheVariants.{Through, Held, Opened, Torn as TornOff, Stopped}
+use Rattle.sled_once.specs.declared.stage.End.TheVariants.{Staged}
+use Rattle.sled_once.specs.declared.stage.Stage.TheVariants.{Through, Held, Opened, Torn as TornOff}
 use Rattle.sled_once.proofs.Ending.{behind_block, behind_closed}
 use Rattle.sled_once.proofs.Reading.{as_staged, as_torn, read_open}
-use Rattle.sled_once.proofs.Going.{stays_wrote, stays_lost, stays_synced, read_unsynced}
+use Rattle.sled_once.proofs.Going.{stays_wrote, stays_lost}
 
 -- the gate is within a file behind whose gate a block was written
 pub gate_within : (gate : ℕ) (bytes file : List ℕ) → EndsIn gate file → gate + 1 ≤ length file → IsBlock bytes → gate < length (written (gate + 1) bytes file)
@@ -138,9 +138,9 @@ module _ {D : Type 0} (seen : D → List ℕ) (may_leave : D → List ℕ → Ty
         same = same ∙ s.agrees.same;
         left = λ c l. subst (λ (d : List ℕ). LeftAfterAll calls d) (sym (only c l ∙ s.agrees.same)) s.stays;
         ends = known (seen new) (
-          subst (λ (n : ℕ). EndsIn (gate + n) (seen new)) (sym count_is)
-          (subst (λ (l : List ℕ). EndsIn (gate + length block.items) l) (sym (same ∙ s.agrees.shows)) (behind_block gate block.items s.agrees.file s.agrees.ends s.agrees.block))
-        );
+            subst (λ (n : ℕ). EndsIn (gate + n) (seen new)) (sym count_is)
+            (subst (λ (l : List ℕ). EndsIn (gate + length block.items) l) (sym (same ∙ s.agrees.shows)) (behind_block gate block.items s.agrees.file s.agrees.ends s.agrees.block))
+            );
         only = λ yes c l. only c l ∙ sym same;
       };
     }

@@ -1,16 +1,16 @@
 -- What a crash leaves of the disk behind is read as what the calls may have left.
-use Rattle.std.proofs.Common.{◌≡◌, ◌∙◌, inl, inr, ⊎_elim, ℕ, ◌+◌, ◌≤◌, ◌<◌, false, List, [], ◌∷◌, ◌++◌, length, take, refl, sym, ap, subst, arith, length-append}
-use Rattle.std.proofs.lemmas.List.{take_all, append-nil}
-use Rattle.sled_disk.specs.Disk.{written, Torn, Shortened}
+use Rattle.std.proofs.Common.{◌≡◌, ◌∙◌, inl, inr, ⊎_elim, ℕ, ◌+◌, ◌≤◌, ◌<◌, List, [], ◌∷◌, ◌++◌, length, refl, sym, ap, subst, arith, length-append}
+use Rattle.std.proofs.lemmas.List.{append-nil}
+use Rattle.sled_disk.specs.Disk.{written, Torn}
 use Rattle.sled_disk.proofs.Calls.{torn_written, torn_lost}
 use Rattle.sled_log.specs.Digest.{digest}
-use Rattle.sled_log.specs.Log.{opened, blocks, IsLog}
+use Rattle.sled_log.specs.Log.{opened, blocks}
 use Rattle.sled_log.specs.Tear.{log_to_tear}
 use Rattle.sled_log.proofs.ReadingLemmas.{digest_small}
 use Rattle.sled_log.proofs.Tearing.{log_reads, torn_gate}
-use Rattle.sled_host.specs.Event.{Event, wrote, cut, synced}
-use Rattle.sled_host.specs.Outcomes.{seen_after_all, LeftAfterAll, MayLeave}
-use Rattle.sled_once.specs.Stages.{IsBlock, EndsIn, IsReadAsLeft, IsToldAt, IsTold, IsThrough, IsHeld, IsOpen, IsTornFrom, Agrees, Stands}
+use Rattle.sled_host.specs.Event.{Event}
+use Rattle.sled_host.specs.Outcomes.{LeftAfterAll, MayLeave}
+use Rattle.sled_once.specs.Stages.{IsBlock, EndsIn, IsReadAsLeft, IsToldAt, IsTold, IsHeld, IsOpen, IsTornFrom, Agrees}
 use Rattle.sled_once.specs.declared.stage.Stage.{Stage}
 use Rattle.sled_once.specs.declared.stage.Stage.TheVariants.{Through, Held, Opened, Torn as TornOff, Stopped}
 use Rattle.sled_once.proofs.Ending.{block_for, with_block, behind_closed}

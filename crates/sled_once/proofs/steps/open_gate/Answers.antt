@@ -1,4 +1,4 @@
-use Rattle.std.proofs.Common.{◌≡◌, ◌∙◌, ap, subst, ◌+◌, List, ℕ}
+use Rattle.std.proofs.Common.{◌∙◌, ap, subst, ◌+◌, List, ℕ}
 use Rattle.sled_disk.specs.Disk.{written, Torn, Follows}
 use Rattle.sled_once.proofs.Handing.{off_block, off_gate, opens}
 use Rattle.sled_once.proofs.steps.open_gate.Goals as goal
