@@ -3,8 +3,8 @@
 //!     bench_files FOLDER PAIRS SEED SHORTEST LONGEST FLUSH WORKLOAD..
 //!
 //! Each workload opens the database in the folder, and drops it. They are `load`, which inserts so many pairs and flushes after each FLUSH
-//! of them, and at the end; and `scan`, which reads all pairs. `load_once` and `scan_once` are the same on a database that brings each block to
-//! the disk in one sync. Keys are 8 bytes that look random, and values have SHORTEST to LONGEST
+//! of them, and at the end; and `scan`, which reads all pairs. `load_once` and `scan_once` are the same, and print the same, on a database that
+//! brings each block to the disk in one sync. Keys are 8 bytes that look random, and values have SHORTEST to LONGEST
 //! bytes. Each workload prints its name, how many calls it made and a checksum of their answers. On standard error it prints `open` and the
 //! time that the opening took, and then its name and the time that it took, both in microseconds of the clock. The status is 1 for other
 //! words, and if anything failed.
@@ -69,8 +69,8 @@ fn scan<P: Pages>(db: &Db<P, Adds>, tree: &Tree) -> Result<Told> {
 fn run<P: Pages>(db: &mut Db<P, Adds>, work: &Work<'_>, name: &str) -> Result<Told> {
     let tree = db.default_tree()?;
     let told = match name {
-        "load" | "load_once" => load(db, &tree, work),
-        "scan" | "scan_once" => scan(db, &tree),
+        "load" => load(db, &tree, work),
+        "scan" => scan(db, &tree),
         _ => Err(Error::Unsupported("there is no such workload")),
     };
     drop(tree);
@@ -145,10 +145,9 @@ fn measure_once(rt: &HostRuntime, work: &Work<'_>, name: &str) -> io::Result<()>
 
 // Runs a workload in the form of its name.
 fn measure(rt: &HostRuntime, work: &Work<'_>, name: &str) -> io::Result<()> {
-    if name.ends_with("_once") {
-        measure_once(rt, work, name)
-    } else {
-        measure_twice(rt, work, name)
+    match name.strip_suffix("_once") {
+        Some(name) => measure_once(rt, work, name),
+        None => measure_twice(rt, work, name),
     }
 }
 
