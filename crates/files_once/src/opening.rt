@@ -34,11 +34,7 @@ fn refusal_of(e: DiskError) -> OpenError
 /// ```
 /// let were_torn = mend_both(alloc, &mut first, &mut second)?;
 /// ```
-pub fn mend_both<D: Disk>(
-    alloc: Global,
-    first: &mut D,
-    second: &mut D,
-) -> sled_disk::Result<bool>
+pub fn mend_both<D: Disk>(alloc: Global, first: &mut D, second: &mut D) -> sled_disk::Result<bool>
     ensures first { OnOk result (IsMended (D.seen first.old) (D.seen first.new)) }
     ensures second { OnOk result (IsMended (D.seen second.old) (D.seen second.new)) }
     ensures same { IfOk result (λ is. is ≡ false → (D.seen first.new ≡ D.seen first.old) × (D.seen second.new ≡ D.seen second.old)) }
@@ -141,7 +137,10 @@ pub fn open_once<D: Disk>(
 /// what is right for the store, as two syncs leave it. `open_once` opens that.
 ///
 /// ```
-/// law_lasts_as_read(&store); // From here on a proof knows what `open_once` finds after a crash.
+/// if let Ok(store) = open_once(alloc, first, second) {
+///     law_lasts_as_read(&store); // From here on a proof knows what `open_once` finds after a crash.
+///     drop(store);
+/// }
 /// ```
 pub fn law_lasts_as_read<D: Disk>(store: &FilePages<OneSync<D>>)
     ensures { LastsAsRead D.may_leave store.now }

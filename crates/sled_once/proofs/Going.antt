@@ -1,33 +1,16 @@
 -- What the disk behind has after one call more.
-use Rattle.std.proofs.Common.{◌≡◌, ◌∙◌, inl, inr, ⊎_elim, ℕ, ◌+◌, ◌≤◌, Bool, true, false, List, ◌∷◌, length, take, refl, sym, ap, subst, arith}
-use Rattle.std.specs.Prelude.{Result, Ok, Err}
+use Rattle.std.proofs.Common.{◌≡◌, ◌∙◌, inl, inr, ⊎_elim, ℕ, ◌≤◌, Bool, true, false, List, ◌∷◌, length, take, refl, sym, ap, subst, arith}
 use Rattle.std.proofs.lemmas.List.{take_all}
-use Rattle.sled_disk.specs.Disk.{written, Torn, Shortened, Follows, NoMore, Only, HasCause, is_caused}
-use Rattle.sled_disk.specs.declared.disk.DiskError.{DiskError}
-use Rattle.sled_disk.specs.declared.disk.DiskError.TheVariants.{NoMemory, Full, Failed}
+use Rattle.sled_disk.specs.Disk.{written, Torn, Shortened, Follows, NoMore, Only}
 use Rattle.sled_disk.proofs.Calls.{torn_written, torn_lost, shortened_cut}
 use Rattle.sled_host.specs.Event.{Event, wrote, cut, synced}
 use Rattle.sled_host.specs.Outcomes.{seen_after_all, LeftAfterAll}
-use Rattle.sled_once.specs.Stages.{EndsAs, IsReadAsLeft, IsOver, Stands}
+use Rattle.sled_once.specs.Stages.{EndsAs, IsReadAsLeft, Stands}
+use Rattle.sled_once.specs.theory.Steps.{IsOver}
 use Rattle.sled_once.specs.declared.stage.End.{End}
 use Rattle.sled_once.specs.declared.stage.Stage.{Stage}
 use Rattle.sled_once.specs.declared.stage.Stage.TheVariants.{Through, Held, Opened, Torn as TornOff, Stopped}
 use Rattle.sled_once.proofs.Reading.{as_itself}
-
--- refusals that are counted at two places
-pub caused_more : (before now more : ℕ) (e : DiskError) → is_caused before now e → is_caused (before + more) (now + more) e
-caused_more before now more NoMemory is = omega (arith, is)
-caused_more before now more Full is = omega (arith, is)
-caused_more before now more Failed is = omega (arith, is)
-
-pub caused_behind : (more before now : ℕ) (e : DiskError) → is_caused before now e → is_caused (more + before) (more + now) e
-caused_behind more before now NoMemory is = omega (arith, is)
-caused_behind more before now Full is = omega (arith, is)
-caused_behind more before now Failed is = omega (arith, is)
-
-pub cause_more : {T : Type 0} (before now more : ℕ) (r : Result T DiskError) → HasCause before now r → HasCause (before + more) (now + more) r
-cause_more before now more (Ok x) h = record { is = omega (arith, h.is) }
-cause_more before now more (Err e) h = record { is = caused_more before now more e h.is }
 
 shortened_lost : (n : ℕ) (file : List ℕ) → Shortened n file file
 shortened_lost n file = record { no_shorter = omega arith; front = sym (take_all (length file) file (omega arith)) }

@@ -1,5 +1,5 @@
 -- How far a block has come that is brought to the disk in one sync, and what the disk has meanwhile.
-use Rattle.std.specs.Prelude.{◌≡◌, ◌⊎◌, ◌+◌, ◌<◌, ◌≤◌, ◌^◌, ℕ, Bool, true, List, [], ◌∷◌, length, drop, Some, Ok}
+use Rattle.std.specs.Prelude.{◌≡◌, ◌⊎◌, ◌+◌, ◌<◌, ◌^◌, ℕ, Bool, true, List, [], ◌∷◌, length, drop, Some, Ok}
 use Rattle.sled_disk.specs.Disk.{written, Torn, Only, NoMore}
 use Rattle.sled_log.specs.Digest.{digest}
 use Rattle.sled_log.specs.Log.{opened, next_of, IsLog}
@@ -107,28 +107,3 @@ Agrees seen may_leave Stopped disk calls = (c : List ℕ) → may_leave disk c �
 pub record Stands {D : Type 0} (seen : D → List ℕ) (may_leave : D → List ℕ → Type 0) (stage : Stage) (disk : D) (calls : List Event) : Type 0 where
   pub stays : LeftAfterAll calls (seen_after_all calls)
   pub agrees : Agrees seen may_leave stage disk calls
-
--- a call was refused, and no more are made
-abbrev pub IsOver : Stage → Type 0
-IsOver (TornOff gate block) = Unit {0}
-IsOver Stopped = Unit {0}
-IsOver _ = ⊥
-
--- the same after some calls
-pub record IsStanding {D : Type 0} (seen : D → List ℕ) (may_leave : D → List ℕ → Type 0) (stage : Stage) (disk : D) : Type 0 where
-  pub calls : List Event
-  pub stands : Stands seen may_leave stage disk calls
-
--- and this place is within what a read returns
-pub record HasPlace {D : Type 0} (seen : D → List ℕ) (may_leave : D → List ℕ → Type 0) (at : ℕ) (stage : Stage) (disk : D) : Type 0 where
-  pub calls : List Event
-  pub stands : Stands seen may_leave stage disk calls
-  pub place : at ≤ length (seen_after_all calls)
-
--- what holds after the same calls before and after
-abbrev pub Stays : {D : Type 0} → (D → List ℕ) → (D → List ℕ → Type 0) → Stage → D → Stage → D → Type 0
-Stays seen may_leave old disk new later = (calls : List Event) → Stands seen may_leave old disk calls → Stands seen may_leave new later calls
-
--- and after one call more
-abbrev pub GoesOn : {D : Type 0} → (D → List ℕ) → (D → List ℕ → Type 0) → Event → Stage → D → Stage → D → Type 0
-GoesOn seen may_leave call old disk new later = (calls : List Event) → Stands seen may_leave old disk calls → Stands seen may_leave new later (call ∷ calls)

@@ -51,10 +51,9 @@ impl<D: Disk> OneSync<D> {
     /// A disk in front of this one, all of which is brought to the disk first. Refused by the disk, which is handed back.
     ///
     /// ```
-    /// let disk = MemoryDisk::new(alloc, vec![in alloc; 0]?)?; // A log of nothing.
     /// match OneSync::new(alloc, disk) {
-    ///     Ok(file) => drop(file), // Blocks that are appended to it are brought to the disk in one sync.
-    ///     Err((disk, e)) => drop(disk),
+    ///     Ok(once) => drop(once),       // Blocks that are appended to it are brought to the disk in one sync.
+    ///     Err((disk, _)) => drop(disk), // The disk refused a call.
     /// }
     /// ```
     pub fn new(alloc: Global, disk: D) -> std::result::Result<OneSync<D>, (D, DiskError)>
@@ -88,7 +87,9 @@ impl<D: Disk> OneSync<D> {
     /// The disk behind it, as it is. A block that is held back is not on it.
     ///
     /// ```
-    /// let disk = file.into_disk();
+    /// if let Ok(once) = OneSync::new(alloc, disk) {
+    ///     drop(once.into_disk());
+    /// }
     /// ```
     pub fn into_disk(self) -> D
         ensures { result ≡ self.disk }
@@ -108,7 +109,9 @@ impl<D: Disk> OneSync<D> {
     /// The disk behind it, to be looked at.
     ///
     /// ```
-    /// let left = file.disk().crash(&mut choices)?; // Where it is in memory: what a crash would leave now.
+    /// if let Ok(once) = OneSync::new(alloc, disk) {
+    ///     let left = once.disk().crash(&mut choices)?; // Where it is in memory: what a crash would leave now.
+    /// }
     /// ```
     pub fn disk(&self) -> &D
         ensures { result.now ≡ self.now.disk }
@@ -200,7 +203,9 @@ impl<D: Disk> Disk for OneSync<D> {
 /// a crash may leave of that disk is read, up to a tear, as what may be left of the `OneSync`.
 ///
 /// ```
-/// law_read_as_left(&file); // From here on a proof knows what `mend` makes of what a crash leaves.
+/// if let Ok(once) = OneSync::new(alloc, disk) {
+///     law_read_as_left(&once); // From here on a proof knows what `mend` makes of what a crash leaves.
+/// }
 /// ```
 pub fn law_read_as_left<D: Disk>(file: &OneSync<D>)
     ensures { LeavesAsRead D.may_leave file.now }

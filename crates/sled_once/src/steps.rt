@@ -1,9 +1,10 @@
 //! The calls of a disk that holds blocks back, and what the disk behind it has after each.
-ghost use Rattle.std.specs.Prelude.{◌≡◌, ◌≤◌, ◌+◌, ◌<◌, ◌∷◌, [], ℕ, Bool, true, List, length, is_ok, IfOk, IfErr, OnOk};
+ghost use Rattle.std.specs.Prelude.{◌≡◌, ◌≤◌, ◌+◌, ◌<◌, ◌∷◌, [], ℕ, Bool, true, List, length, is_ok, IfOk, IfErr, IfSome, OnOk};
 ghost use Rattle.sled_disk.specs.Disk.{HasCause, is_caused};
 ghost use Rattle.sled_log.specs.Log.{opened};
 ghost use Rattle.sled_host.specs.Event.{wrote, cut, synced as was_synced};
-ghost use Rattle.sled_once.specs.Stages.{EndsIn, EndsAs, IsOver, IsStanding, HasPlace, Stays, GoesOn};
+ghost use Rattle.sled_once.specs.Stages.{EndsIn, EndsAs};
+ghost use Rattle.sled_once.specs.theory.Steps.{IsOver, IsStanding, HasPlace, Stays, GoesOn};
 ghost use Rattle.sled_once.specs.declared.stage.End.TheVariants.{Closed};
 ghost use Rattle.sled_once.specs.declared.stage.Stage.TheVariants.{Through, Held, Opened};
 
@@ -158,7 +159,7 @@ fn held_back<D: Disk>(
     bytes: &[u8],
 ) -> Result<Option<(usize, Vec<u8>)>>
     requires { HasPlace D.seen D.may_leave at (Through end is_synced) disk.old }
-    ensures held { IfOk result (λ o. Rattle.std.specs.Prelude.IfSome o (λ x. GoesOn D.seen D.may_leave (wrote at bytes.now true) (Through end is_synced) disk.old (Held x.0 x.1) disk.new)) }
+    ensures held { IfOk result (λ o. IfSome o (λ x. GoesOn D.seen D.may_leave (wrote at bytes.now true) (Through end is_synced) disk.old (Held x.0 x.1) disk.new)) }
     ensures stays { Stays D.seen D.may_leave (Through end is_synced) disk.old (Through end is_synced) disk.new }
     ensures cause { HasCause (D.faults disk.old) (D.faults disk.new) result }
 {

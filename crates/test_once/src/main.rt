@@ -37,9 +37,7 @@ fn run_seeds(report: &Report, counts: &mut Counts, case: Case) -> bool {
             }
             Err(e) => report.tell_failed(format_args!(
                 "snapshots {}, disk {}, call {}, seed {seed}: {e}",
-                case.has_snapshots,
-                case.disk,
-                case.call
+                case.has_snapshots, case.disk, case.call
             )),
         }
     }
@@ -69,8 +67,7 @@ fn run_calls(report: &Report, has_snapshots: bool, disk: u64) {
     };
     report.tell(format_args!(
         "{words}, disk {disk}: {} cases, {} passed",
-        counts.cases,
-        counts.passed
+        counts.cases, counts.passed
     ));
 }
 

@@ -64,7 +64,8 @@ pub fn count(db: &mut Files) -> Result<u64> {
     let mut count = 0u64;
     for pair in db.iter(&tree)? {
         let (key, value) = pair?;
-        let is_next = key.as_ref() == count.to_be_bytes().as_slice() && value.as_ref() == count.to_le_bytes().as_slice();
+        let is_next = key.as_ref() == count.to_be_bytes().as_slice()
+            && value.as_ref() == count.to_le_bytes().as_slice();
         drop(key);
         drop(value);
         expect(is_next, "a pair is not the next one")?;

@@ -6,4 +6,4 @@ use Rattle.sled_log.specs.Digest.{digest}
 use Rattle.files_once.proofs.mending.is_whole.Goals as goal
 
 pub returns-in-Ok : goal.returns-in-Ok
-returns-in-Ok c yes = c.in-Ok.ensures.read ∙ ap (λ (ps : List (List ℕ)). Ok ps) (sym (log_reads digest digest_small c.in-Ok.ensures.log))
+returns-in-Ok c is = c.in-Ok.ensures.read ∙ ap (λ (ps : List (List ℕ)). Ok ps) (sym (log_reads digest digest_small c.in-Ok.ensures.log))
