@@ -2,45 +2,58 @@
 use crate::trouble::{Result, Trouble, expect};
 use example_parts::Adds;
 use files_once::{OneSync, open_once};
-use sled::Db;
+use sled::{Db, Error};
 use sled_disk::MemoryDisk;
-use sled_files::FilePages;
+use sled_files::{FilePages, OpenError};
 use std::alloc::Global;
 
-/// A database in two disks in memory.
-pub type Files = Db<FilePages<OneSync<MemoryDisk>>, Adds>;
+// A store in two disks in memory.
+type Store = FilePages<OneSync<MemoryDisk>>;
+
+/// A database over it.
+pub type Files = Db<Store, Adds>;
 
 /// Two disks.
 pub type Disks = (MemoryDisk, MemoryDisk);
 
-/// Opens the store of two disks. With `has_snapshots` its log is begun anew every few flushes. None if a disk refused a call.
-pub fn open(alloc: Global, disks: Disks, has_snapshots: bool) -> Result<Option<Files>> {
-    let mut store = match open_once(alloc, disks.0, disks.1) {
-        Ok(store) => store,
+// Opens the store of two disks. None if a disk refused a call.
+fn open_store(alloc: Global, disks: Disks) -> Result<Option<Store>> {
+    match open_once(alloc, disks.0, disks.1) {
+        Ok(store) => Ok(Some(store)),
         Err(refused) => {
             let why = refused.error;
             drop(refused);
-            return match why {
-                sled_files::OpenError::Disk(_) => Ok(None),
+            match why {
+                OpenError::Disk(_) => Ok(None),
                 why => Err(Trouble::Closed(why)),
-            };
+            }
         }
-    };
-    if has_snapshots {
-        store.compact_from(1);
     }
+}
+
+// Opens the database of a store. None if a disk refused a call.
+fn open_db(alloc: Global, store: Store) -> Result<Option<Files>> {
     match Db::open_checked(alloc, store, b"pairs") {
         Ok(db) => Ok(Some(db.with_operators::<Adds>())),
         Err((store, e)) => {
             drop(store);
-            if matches!(e, sled::Error::Io(_)) {
-                drop(e);
-                Ok(None)
-            } else {
-                Err(Trouble::Refused(e))
+            match e {
+                Error::Io(_) => Ok(None),
+                e => Err(Trouble::Refused(e)),
             }
         }
     }
+}
+
+/// Opens the database of two disks. With `has_snapshots` its log is begun anew every few flushes. None if a disk refused a call.
+pub fn open(alloc: Global, disks: Disks, has_snapshots: bool) -> Result<Option<Files>> {
+    let Some(mut store) = open_store(alloc, disks)? else {
+        return Ok(None);
+    };
+    if has_snapshots {
+        store.compact_from(1);
+    }
+    open_db(alloc, store)
 }
 
 /// The disks of a database, and all that was not flushed is lost.

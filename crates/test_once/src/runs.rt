@@ -58,29 +58,39 @@ fn run(db: &mut Files, known: &mut Known, pairs: u64) -> bool {
     false
 }
 
-// Opens what a crash left: the pairs that were flushed are there, and none that were not inserted.
-fn reopen(alloc: Global, disks: Disks, known: Known) -> Result<(Files, Known)> {
-    let Some(mut db) = open(alloc, disks, false)? else {
-        return Err(Trouble::Wrong("a disk refused a call after a crash"));
-    };
-    let found = count(&mut db)?;
+// What is known of what a crash left: the pairs that were flushed are there, and none that were not inserted.
+fn found(db: &mut Files, known: Known) -> Result<Known> {
+    let found = count(db)?;
     expect(
         known.flushed <= found && found <= known.inserted,
         "a flushed pair is lost, or one is there that was not inserted",
     )?;
-    let known = Known {
+    Ok(Known {
         flushed: found,
         inserted: found,
+    })
+}
+
+// Opens what a crash left.
+fn reopen(alloc: Global, disks: Disks, known: Known) -> Result<(Files, Known)> {
+    let Some(mut db) = open(alloc, disks, false)? else {
+        return Err(Trouble::Wrong("a disk refused a call after a crash"));
     };
-    Ok((db, known))
+    match found(&mut db, known) {
+        Ok(known) => Ok((db, known)),
+        Err(e) => {
+            drop(into_disks(db));
+            Err(e)
+        }
+    }
 }
 
 // Crashes, opens what is left, goes on, and crashes again.
 fn crash_twice(alloc: Global, disks: &Disks, known: Known, seed: u64) -> Result<()> {
     let (mut db, mut known) = reopen(alloc, crash(alloc, disks, seed)?, known)?;
     let is_refused = run(&mut db, &mut known, 2);
-    expect(!is_refused, "a call was refused after a crash")?;
     let disks = into_disks(db);
+    expect(!is_refused, "a call was refused after a crash")?;
     let left = crash(alloc, &disks, seed.wrapping_add(3))?;
     drop(disks);
     let (db, _) = reopen(alloc, left, known)?;
