@@ -47,8 +47,8 @@ fn open_whole(rt: &HostRuntime, path: &str, opening: Opening) -> Result<Pair, Op
     }
 }
 
-/// Opens a database as `open_with` does, and brings each block of it to the disk in one sync, in place of two. A flush is then about twice
-/// as fast. It trusts the digest of a block: a crash while one is written may leave another one, if their digests are the same, and a block
+/// Opens a database as `open_with` does, and brings each block of it to the disk in one sync, in place of two. A flush then waits for
+/// the disk once. It trusts the digest of a block: a crash while one is written may leave another one, if their digests are the same, and a block
 /// that has decayed ends the log unsaid, as a torn one does. A database that was opened so is opened so again, or by `open` after it
 /// was opened so and dropped.
 ///
