@@ -199,8 +199,8 @@ impl<D: Disk> Disk for OneSync<D> {
     }
 }
 
-/// Does nothing. It says what the disk behind a `OneSync` is left with: if the digest tells what a crash left of the block under way, all that
-/// a crash may leave of that disk is read, up to a tear, as what may be left of the `OneSync`.
+/// Does nothing. It says what the disk behind a `OneSync` is left with. If the digest tells what a crash left of the block under way, all
+/// that it may leave of that disk is read, up to a tear, as what may be left of the `OneSync`.
 ///
 /// ```
 /// if let Ok(once) = OneSync::new(alloc, disk) {
