@@ -36,7 +36,7 @@ returns-in-Err-clause-refused g c = fails_to_reach c.in-Err.ensures.kept c.in-Er
 pub returns-in-Ok-clause-cause : goal.returns-in-Ok-clause-cause
 returns-in-Ok-clause-cause g c =
     let faults = ap (λ (s : Store). s.faults) (ap stored_as c.self.view_is ∙ c.in-Ok.ensures.same) in
-    ungiven_in_memory c.self.inside.pages c.self.inside.faults c.allocate.result (ap (λ (v : Stored g.row.D.Denot). v.pages) c.self.view_is ∙ c.in-Ok.ensures.pages.pages) faults refl c.allocate.ensures.err
+    ungiven_in_memory g.D.Disk.faults c.args.self.now _ c.self.inside.pages c.self.inside.faults c.allocate.result (ap (λ (v : Stored g.row.D.Denot). v.pages) c.self.view_is ∙ c.in-Ok.ensures.pages.pages) faults refl c.allocate.ensures.err
 
 pub returns-in-Err-clause-cause : goal.returns-in-Err-clause-cause
 returns-in-Err-clause-cause g c = inl c.in-Err.ensures.cause
