@@ -1,7 +1,7 @@
 -- Limits that are raised above what comes next.
 use Rattle.std.proofs.Common.{◌≡◌, ◌+◌, ◌-◌, ◌^◌, ◌<◌, ◌≤◌, ℕ, Bool, true, false, nat_lt, nat_le, cond, refl, sym, ◌∙◌, ap, subst, arith, ◌⊎◌, inl, inr, List, [], length}
 use Rattle.std.proofs.lemmas.Bool.Decides.{nat_tests}
-use Rattle.std.specs.Prelude.{min, max, ◌&&◌, ◌==◌, Result, Ok, Err, OnOk, OnErr}
+use Rattle.std.specs.Prelude.{min, ◌&&◌, ◌==◌, Result, Ok, Err, OnOk, OnErr}
 use Rattle.sled_store.specs.Store.{Store}
 use Rattle.sled_pages.specs.Memory.{store_of}
 use Rattle.sled_files.specs.Files.{IsGrown}

@@ -8,7 +8,7 @@ use Rattle.sled_pages.specs.declared.memory.MemPages.{MemPages}
 use Rattle.sled_pages.specs.Memory.{store_of}
 use Rattle.sled_files.specs.Raised.{ComeNext, raised_to}
 use Rattle.sled_files.specs.Stored.{Stored}
-use Rattle.sled_files.specs.Codes.{AreUsedUp, FailsInMemory, is_why_ungiven}
+use Rattle.sled_files.specs.Codes.{AreUsedUp, is_why_ungiven}
 
 below : (q n : ℕ) → q < 2 ^ 64 - 1 → 2 ^ 64 - 1 ≤ n → nat_lt q n ≡ true
 below q n lt high = let k : q < n = omega (arith, lt, high) in grind (arith, nat_tests)

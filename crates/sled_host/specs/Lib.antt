@@ -3,5 +3,6 @@ pub mod Outcomes
 pub mod Laws
 pub mod Stops
 pub mod Host
+pub mod Pair
 pub mod theory
 pub use Rattle.sled_disk.specs as sled_disk

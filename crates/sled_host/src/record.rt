@@ -22,8 +22,8 @@ unsafe impl Send for Record {}
 /// A call, and what the system answered.
 #[derive(Clone, Copy, Drop)]
 pub enum Call<'a> {
-    /// The file was brought to the disk, and then these bytes were read, all that it has.
-    Opened(&'a [u8]),
+    /// The file was made, or was there; it was brought to the disk, and then these bytes were read, all that it has.
+    Opened(bool, &'a [u8]),
     /// These bytes were to be written at this place; whether all were.
     Wrote(usize, &'a [u8], bool),
     /// The file was to be cut to this length; whether it was.

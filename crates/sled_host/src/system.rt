@@ -17,13 +17,13 @@ pub struct SystemFile {
 }
 
 impl SystemFile {
-    /// Brings an open file to the disk, and reads all that it has.
-    pub fn settle(alloc: Global, file: File) -> io::Result<(SystemFile, Vec<u8>)>
-        ensures { IfOk result (λ it. it.0.record.events ≡ opened it.1.items ∷ []) }
+    /// Brings an open file to the disk, and reads all that it has. It is new if its opening made it.
+    pub fn settle(alloc: Global, file: File, is_new: bool) -> io::Result<(SystemFile, Vec<u8>)>
+        ensures { IfOk result (λ it. it.0.record.events ≡ opened is_new it.1.items ∷ []) }
     {
         file.sync_all()?;
         let bytes = whole(alloc, &file)?;
-        let record = Record::new().and(&Call::Opened(&bytes));
+        let record = Record::new().and(&Call::Opened(is_new, &bytes));
         Ok((SystemFile { file, record }, bytes))
     }
 

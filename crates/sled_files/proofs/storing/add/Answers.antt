@@ -1,4 +1,4 @@
-use Rattle.std.proofs.Common.{◌≡◌, [], inl, inr, sym, subst, refl, length, List, ◌∷◌, ◌∙◌, ◌<◌, ◌+◌, ap, cond, Bool, true, false, ℕ, arith, rules}
+use Rattle.std.proofs.Common.{◌≡◌, [], sym, subst, refl, length, List, ◌∷◌, ◌∙◌, ◌<◌, ◌+◌, ap, cond, Bool, true, false, ℕ, arith, rules}
 use Rattle.std.specs.Prelude.{◌==◌}
 use Rattle.std.proofs.lemmas.Bool.Decides.{nat_tests}
 use Rattle.sled_bytes.specs.declared.change.Change.{Change}
