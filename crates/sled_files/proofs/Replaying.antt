@@ -5,7 +5,6 @@ use Rattle.std.specs.List.{All}
 use Rattle.std.proofs.lemmas.List.Elements.{All-nil, All-cons, All-head, All-tail, All-append}
 use Rattle.std.proofs.lemmas.List.{append-nil, drop_more, length-map, length-append, length-drop, get_or-map}
 use Rattle.sled_bytes.specs.declared.change.Change.{Change}
-use Rattle.sled_bytes.specs.declared.change.Change.TheVariants.{Given, Linked, Freed, Rooted, Begun, Sealed, Marked, Limited}
 use Rattle.sled_bytes.specs.declared.refusal.Flaw.{Flaw}
 use Rattle.sled_bytes.specs.declared.refusal.Refusal.TheVariants as refusals
 use Rattle.sled_pages.specs.Rebuild.{Rebuilt}
@@ -13,7 +12,6 @@ use Rattle.sled_files.specs.declared.replay.Replay.{Replay}
 use Rattle.sled_files.specs.declared.replay.Halt.{Halt}
 use Rattle.sled_files.specs.declared.replay.Halt.TheVariants.{NoMemory, Flawed}
 use Rattle.sled_bytes.specs.Reading.{change_at, changes_from, changes_of}
-use Rattle.sled_bytes.specs.Spelling.{kind, number, numbers, string, optional, node_bytes, link_bytes, change_bytes}
 use Rattle.sled_bytes.proofs.Several.{behind_front, changes_begin, changes_go_on, changes_end, changes_done}
 use Rattle.sled_files.specs.Change.{Durable, nothing_yet, changed, changed_all}
 use Rattle.sled_files.specs.Standing.{joined, all_changes}
@@ -70,27 +68,6 @@ changed_both (c ∷ front) more d = changed_both front more (changed c d)
 numbers_both : (front more : List Change) (n : Numbers) → numbers_after_all more (numbers_after_all front n) ≡ numbers_after_all (front ++ more) n
 numbers_both [] more n = refl
 numbers_both (c ∷ front) more n = numbers_both front more (numbers_after c n)
-
--- every change is spelled by a byte at least
-more_bytes : (a b : List ℕ) → 0 < length a → 0 < length (a ++ b)
-more_bytes a b some = omega (arith, some, length-append a b)
-
-kind_bytes : (n : ℕ) (rest : List ℕ) → 0 < length (kind n ++ rest)
-kind_bytes n rest = more_bytes (kind n) rest (omega arith)
-
-some_bytes : (c : Change) → 0 < length (change_bytes c)
-some_bytes (Given pid version node) = more_bytes (kind 1 ++ numbers pid version) (node_bytes node) (kind_bytes 1 (numbers pid version))
-some_bytes (Linked pid version link) = more_bytes (kind 2 ++ numbers pid version) (link_bytes link) (kind_bytes 2 (numbers pid version))
-some_bytes (Freed pid) = kind_bytes 3 (number pid)
-some_bytes (Rooted name root) = more_bytes (kind 4 ++ string name) (optional root) (kind_bytes 4 (string name))
-some_bytes Begun = omega arith
-some_bytes Sealed = omega arith
-some_bytes (Marked upto) = kind_bytes 7 (number upto)
-some_bytes (Limited pids versions) = kind_bytes 8 (numbers pids versions)
-
--- so as many bytes are taken of those that a change begins
-pub takes_some : (c : Change) (bytes : List ℕ) (n : ℕ) → bytes ≡ change_bytes c ++ drop n bytes → 0 < n
-takes_some c bytes n is = omega (arith, some_bytes c, ap length is, length-append (change_bytes c) (drop n bytes), length-drop n bytes)
 
 -- while the changes of a payload are read: those before this place were replayed, and those that are left are read behind them
 pub record ReadsTo (bytes : List ℕ) (at : ℕ) (old new : Replay) : Type 0 where
