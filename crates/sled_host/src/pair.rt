@@ -109,10 +109,22 @@ pub fn open_pair(rt: &HostRuntime, path: &str, opening: Opening) -> Result<Pair,
 {
     let is_new = opening.creates && make_folder(rt, path)?;
     let folder = folder_at(rt, path)?;
-    let (first, is_first_locked) = open_file(rt, &folder, FIRST, opening)?;
-    let (second, is_second_locked) = open_file(rt, &folder, SECOND, opening)?;
-    sync_folder(rt, folder.as_str())?;
-    sync_parent(rt, folder, is_new)?;
+    let pair = open_both(rt, &folder, opening)?;
+    sync_names(rt, folder, is_new)?;
+    Ok(pair)
+}
+
+// Both files of a folder, opened and locked.
+fn open_both(rt: &HostRuntime, folder: &PathBuf, opening: Opening) -> Result<Pair, HostError>
+    ensures first { IfOk result (λ pair. Only (bytes_of pair.first) (outcomes_of pair.first)) }
+    ensures second { IfOk result (λ pair. Only (bytes_of pair.second) (outcomes_of pair.second)) }
+    ensures unfailing { IfOk result (λ pair. (faults_of pair.first ≡ 0) × (faults_of pair.second ≡ 0)) }
+    ensures locked { IfOk result (λ pair. opening.needs_lock ≡ true → pair.is_locked ≡ true) }
+    ensures found { IfOk result (λ pair. AreFound opening pair.first pair.second) }
+    ensures err { IfErr result (is_why_unpaired opening) }
+{
+    let (first, is_first_locked) = open_file(rt, folder, FIRST, opening)?;
+    let (second, is_second_locked) = open_file(rt, folder, SECOND, opening)?;
     Ok(Pair {
         first,
         second,
@@ -229,6 +241,12 @@ fn is_named(rt: &HostRuntime, file: &File, path: &str) -> io::Result<bool> {
     let opened = file.metadata()?;
     let named = fs::symlink_metadata(rt, path)?;
     Ok(named.is_file() && opened.dev() == named.dev() && opened.ino() == named.ino())
+}
+
+// Brings the names of the files to the disk, and that of the folder.
+fn sync_names(rt: &HostRuntime, folder: PathBuf, is_new: bool) -> io::Result<()> {
+    sync_folder(rt, folder.as_str())?;
+    sync_parent(rt, folder, is_new)
 }
 
 fn sync_folder(rt: &HostRuntime, path: &str) -> io::Result<()> {
