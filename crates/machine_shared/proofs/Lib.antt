@@ -26,3 +26,4 @@ pub mod UnderWay
 pub mod Gave
 pub mod ScanSteps
 pub mod ScanStates
+pub mod UnderLocks

@@ -8,6 +8,7 @@ ghost use Rattle.machine_shared.specs.declared.read.Answer.TheVariants as told;
 ghost use Rattle.machine_shared.specs.theory.Orders.{IsPage};
 ghost use Rattle.machine_shared.specs.declared.read.Question.TheVariants as asks;
 ghost use Rattle.machine_shared.specs.declared.read.Read.TheVariants as read;
+ghost use Rattle.machine_shared.specs.UnderLock.{ReadsUnderLock};
 
 use crate::handle::Handle;
 use crate::read::{Answer, Question};
@@ -108,6 +109,7 @@ impl<P: Pages, L: Ledger, M: MergeOperator> Handle<P, L, M> {
         ensures ok { IfOk result (λ answer. self.new.made ≡ self.old.made ++ ReadMade (read.Tree tree.now question answer) ∷ []) }
         ensures err { OnErr result (self.new.made ≡ self.old.made) }
         ensures number { self.new.number ≡ self.old.number }
+        ensures looks { ReadsUnderLock P.store M.meant (λ answer. read.Tree tree.now question answer) result self.old self.new }
     {
         let mut guard = self.lock.lock(rt);
         let answer = read_in(&mut *guard, &mut self.me, tree, question);
@@ -130,6 +132,7 @@ impl<P: Pages, L: Ledger, M: MergeOperator> Handle<P, L, M> {
         ensures ok { IfOk result (λ it. self.new.made ≡ self.old.made ++ ReadMade (read.Tree tree.now (asks.Get key.now) (told.Value it)) ∷ []) }
         ensures err { OnErr result (self.new.made ≡ self.old.made) }
         ensures number { self.new.number ≡ self.old.number }
+        ensures looks { ReadsUnderLock P.store M.meant (λ it. read.Tree tree.now (asks.Get key.now) (told.Value it)) result self.old self.new }
     {
         let question = Question::Get(IVec::from_slice(alloc, key)?);
         match self.read(rt, tree, question) {
@@ -153,6 +156,7 @@ impl<P: Pages, L: Ledger, M: MergeOperator> Handle<P, L, M> {
         ensures ok { IfOk result (λ it. self.new.made ≡ self.old.made ++ ReadMade (read.Tree tree.now (asks.ContainsKey key.now) (told.Flag it)) ∷ []) }
         ensures err { OnErr result (self.new.made ≡ self.old.made) }
         ensures number { self.new.number ≡ self.old.number }
+        ensures looks { ReadsUnderLock P.store M.meant (λ it. read.Tree tree.now (asks.ContainsKey key.now) (told.Flag it)) result self.old self.new }
     {
         let question = Question::ContainsKey(IVec::from_slice(alloc, key)?);
         match self.read(rt, tree, question) {
@@ -170,6 +174,7 @@ impl<P: Pages, L: Ledger, M: MergeOperator> Handle<P, L, M> {
         ensures ok { IfOk result (λ it. self.new.made ≡ self.old.made ++ ReadMade (read.Tree tree.now (asks.First) (told.Pair it)) ∷ []) }
         ensures err { OnErr result (self.new.made ≡ self.old.made) }
         ensures number { self.new.number ≡ self.old.number }
+        ensures looks { ReadsUnderLock P.store M.meant (λ it. read.Tree tree.now (asks.First) (told.Pair it)) result self.old self.new }
     {
         let question = Question::First;
         match self.read(rt, tree, question) {
@@ -187,6 +192,7 @@ impl<P: Pages, L: Ledger, M: MergeOperator> Handle<P, L, M> {
         ensures ok { IfOk result (λ it. self.new.made ≡ self.old.made ++ ReadMade (read.Tree tree.now (asks.Last) (told.Pair it)) ∷ []) }
         ensures err { OnErr result (self.new.made ≡ self.old.made) }
         ensures number { self.new.number ≡ self.old.number }
+        ensures looks { ReadsUnderLock P.store M.meant (λ it. read.Tree tree.now (asks.Last) (told.Pair it)) result self.old self.new }
     {
         let question = Question::Last;
         match self.read(rt, tree, question) {
@@ -210,6 +216,7 @@ impl<P: Pages, L: Ledger, M: MergeOperator> Handle<P, L, M> {
         ensures ok { IfOk result (λ it. self.new.made ≡ self.old.made ++ ReadMade (read.Tree tree.now (asks.GetLt key.now) (told.Pair it)) ∷ []) }
         ensures err { OnErr result (self.new.made ≡ self.old.made) }
         ensures number { self.new.number ≡ self.old.number }
+        ensures looks { ReadsUnderLock P.store M.meant (λ it. read.Tree tree.now (asks.GetLt key.now) (told.Pair it)) result self.old self.new }
     {
         let question = Question::GetLt(IVec::from_slice(alloc, key)?);
         match self.read(rt, tree, question) {
@@ -233,6 +240,7 @@ impl<P: Pages, L: Ledger, M: MergeOperator> Handle<P, L, M> {
         ensures ok { IfOk result (λ it. self.new.made ≡ self.old.made ++ ReadMade (read.Tree tree.now (asks.GetGt key.now) (told.Pair it)) ∷ []) }
         ensures err { OnErr result (self.new.made ≡ self.old.made) }
         ensures number { self.new.number ≡ self.old.number }
+        ensures looks { ReadsUnderLock P.store M.meant (λ it. read.Tree tree.now (asks.GetGt key.now) (told.Pair it)) result self.old self.new }
     {
         let question = Question::GetGt(IVec::from_slice(alloc, key)?);
         match self.read(rt, tree, question) {
@@ -250,6 +258,7 @@ impl<P: Pages, L: Ledger, M: MergeOperator> Handle<P, L, M> {
         ensures ok { IfOk result (λ it. self.new.made ≡ self.old.made ++ ReadMade (read.Tree tree.now (asks.Len) (told.Count it)) ∷ []) }
         ensures err { OnErr result (self.new.made ≡ self.old.made) }
         ensures number { self.new.number ≡ self.old.number }
+        ensures looks { ReadsUnderLock P.store M.meant (λ it. read.Tree tree.now (asks.Len) (told.Count it)) result self.old self.new }
     {
         let question = Question::Len;
         match self.read(rt, tree, question) {
@@ -267,6 +276,7 @@ impl<P: Pages, L: Ledger, M: MergeOperator> Handle<P, L, M> {
         ensures ok { IfOk result (λ it. self.new.made ≡ self.old.made ++ ReadMade (read.Tree tree.now (asks.IsEmpty) (told.Flag it)) ∷ []) }
         ensures err { OnErr result (self.new.made ≡ self.old.made) }
         ensures number { self.new.number ≡ self.old.number }
+        ensures looks { ReadsUnderLock P.store M.meant (λ it. read.Tree tree.now (asks.IsEmpty) (told.Flag it)) result self.old self.new }
     {
         let question = Question::IsEmpty;
         match self.read(rt, tree, question) {
@@ -296,6 +306,7 @@ impl<P: Pages, L: Ledger, M: MergeOperator> Handle<P, L, M> {
         ensures ok { IfOk result (λ it. self.new.made ≡ self.old.made ++ ReadMade (read.Tree tree.now (asks.Page (bound_of lo.entry) (bound_of hi.entry) back most) (told.Pairs it)) ∷ []) }
         ensures err { OnErr result (self.new.made ≡ self.old.made) }
         ensures number { self.new.number ≡ self.old.number }
+        ensures looks { ReadsUnderLock P.store M.meant (λ it. read.Tree tree.now (asks.Page (bound_of lo.entry) (bound_of hi.entry) back most) (told.Pairs it)) result self.old self.new }
     {
         let question = page_between(alloc, lo, hi, back, most)?;
         match self.read(rt, tree, question) {
@@ -313,6 +324,7 @@ impl<P: Pages, L: Ledger, M: MergeOperator> Handle<P, L, M> {
         ensures ok { IfOk result (λ names. self.new.made ≡ self.old.made ++ ReadMade (read.Names names) ∷ []) }
         ensures err { OnErr result (self.new.made ≡ self.old.made) }
         ensures number { self.new.number ≡ self.old.number }
+        ensures looks { ReadsUnderLock P.store M.meant read.Names result self.old self.new }
     {
         let mut guard = self.lock.lock(rt);
         let names = tree_names_in(&mut *guard, &mut self.me);
@@ -330,6 +342,7 @@ impl<P: Pages, L: Ledger, M: MergeOperator> Handle<P, L, M> {
         ensures ok { IfOk result (λ all. self.new.made ≡ self.old.made ++ ReadMade (read.Export all) ∷ []) }
         ensures err { OnErr result (self.new.made ≡ self.old.made) }
         ensures number { self.new.number ≡ self.old.number }
+        ensures looks { ReadsUnderLock P.store M.meant read.Export result self.old self.new }
     {
         let mut guard = self.lock.lock(rt);
         let all = export_in(&mut *guard, &mut self.me);
