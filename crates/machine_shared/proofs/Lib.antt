@@ -27,3 +27,4 @@ pub mod Gave
 pub mod ScanSteps
 pub mod ScanStates
 pub mod UnderLocks
+pub mod Going
