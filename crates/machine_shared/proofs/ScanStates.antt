@@ -33,7 +33,7 @@ use Rattle.machine_shared.specs.WholeNotes.{NotesWhole}
 use Rattle.machine_shared.specs.Scans.{ScansValue, NotesScan, begun_of, noted_at, scanned_of}
 use Rattle.machine_shared.specs.Sound.{CrashLeaves, HasScans, IsOpen}
 use Rattle.machine_shared.specs.Values.{StateValue}
-use Rattle.machine_shared.specs.theory.Fetching.{StaysStill, SwapsNow}
+use Rattle.machine_shared.specs.Fetches.{StaysStill, SwapsNow}
 use Rattle.machine_shared.specs.theory.Transacting.{GroupMade, GroupUnmade}
 use Rattle.machine_shared.specs.Scanned.{AreOfScans}
 use Rattle.machine_shared.specs.UnderWay.{MachineScans}

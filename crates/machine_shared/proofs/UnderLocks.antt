@@ -3,6 +3,7 @@ use Rattle.std.proofs.Common.{◌≡◌, ◌∙◌, inl, inr, ℕ, Bool, true, f
 use Rattle.sled_nodes.specs.declared.error.Error.{Error}
 use Rattle.sled_nodes.specs.declared.error.Error.TheVariants.{NoMemory}
 use Rattle.sled_model.specs.Collections.{Content}
+use Rattle.sled_nodes.specs.Order.{Key}
 use Rattle.sled_store.specs.Store.{Store}
 use Rattle.sled_model.specs.Maps.{Merge}
 use Rattle.sled_model.specs.declared.call.Call.{Call}
@@ -18,6 +19,7 @@ use Rattle.sled_model.specs.declared.outcome.Outcome.{Outcome}
 use Rattle.sled_tree.specs.declared.flight.Job.{Job}
 use Rattle.machine_shared.specs.Made.{MadeValue, ReadMade, EntryValue}
 use Rattle.machine_shared.specs.Notes.{entries_of}
+use Rattle.machine_shared.specs.Fetches.{FetchesOnce, StaysStill, SwapsNow, swap_made}
 use Rattle.machine_shared.specs.declared.called.Stepped.{Stepped}
 use Rattle.machine_shared.specs.declared.called.Stepped.TheVariants.{Ended, On}
 use Rattle.machine_shared.specs.declared.read.Read.{Read}
@@ -112,3 +114,19 @@ refused_as store meant read_of other e me more reads = elim reads [
 -- a read that there was no memory for
 pub unread : {P M A : Type 0} (store : P → Store) (meant : M → Merge) (read_of : A → Read) (e : Error) (me : CallerValue) → e ≡ NoMemory → ReadsUnderLock store meant read_of (Err e) me me
 unread store meant read_of e me is = inl (record { cause = NoMemory; unmade = tt; refused = ap (λ c. Err c) is; same = refl })
+
+-- a fetch, by how it came out
+pub fetched : {P M : Type 0} (store : P → Store) (meant : M → Merge) (machine after : MachineValue P M) (opening : List Content) (scans : ScansValue) (history longer : List EntryValue) (number : ℕ) (list more : List MadeValue)
+    (tree : Tree) (key : Key) (r : Result (Option Key × Option Key) Error) (noted : List MadeValue) (s : StateValue P M) → record { machine = machine; opening = opening; history = history; scans = scans } ≡ s → (m : CallerValue) → record { number = number; made = list } ≡ m
+    → IfOk r (λ both. SwapsNow store meant machine tree key both.0 both.1 after) → OnErr r (StaysStill store meant machine after) → IfOk r (λ both. noted ≡ swap_made tree key both.0 both.1 ∷ []) → OnErr r (noted ≡ [])
+    → after ≡ record machine { db = after.db } → longer ≡ history ++ entries_of number noted → more ≡ list ++ noted
+    → FetchesOnce store meant tree key r m (record { number = number; made = more }) s (record { machine = after; opening = opening; history = longer; scans = scans })
+fetched {P} {M} store meant machine after opening scans history longer number list more tree key r noted s at_s m at_m swaps stays ok err same grows grows_there =
+    subst (λ x. FetchesOnce store meant tree key r m (record { number = number; made = more }) x (record { machine = after; opening = opening; history = longer; scans = scans })) at_s
+    (subst (λ x. FetchesOnce store meant tree key r x (record { number = number; made = more }) (record { machine = machine; opening = opening; history = history; scans = scans }) (record { machine = after; opening = opening; history = longer; scans = scans })) at_m
+    (go r swaps stays ok err))
+  where
+    go : (r : Result (Option Key × Option Key) Error) → IfOk r (λ both. SwapsNow store meant machine tree key both.0 both.1 after) → OnErr r (StaysStill store meant machine after) → IfOk r (λ both. noted ≡ swap_made tree key both.0 both.1 ∷ []) → OnErr r (noted ≡ [])
+        → FetchesOnce store meant tree key r (record { number = number; made = list }) (record { number = number; made = more }) (record { machine = machine; opening = opening; history = history; scans = scans }) (record { machine = after; opening = opening; history = longer; scans = scans })
+    go (Ok both) swaps stays ok err = record { changes = swaps; same = same; adds = record { history = grows ∙ ap (λ n. history ++ entries_of number n) ok; list = ap (λ l. record { number = number; made = l }) (grows_there ∙ ap (λ n. list ++ n) ok); opening = refl }; scans = refl }
+    go (Err e) swaps stays ok err = record { changes = stays; same = same; adds = record { history = grows ∙ ap (λ n. history ++ entries_of number n) err; list = ap (λ l. record { number = number; made = l }) (grows_there ∙ ap (λ n. list ++ n) err); opening = refl }; scans = refl }

@@ -1,12 +1,12 @@
 //! Callers' ways to a database that is shared.
-ghost use Rattle.std.specs.Prelude.{◌≡◌, ◌++◌, IfOk, OnErr, Option};
+ghost use Rattle.std.specs.Prelude.{◌≡◌, ◌++◌, Err, IfErr, IfOk, Ok, OnErr, Option};
 ghost use Rattle.std.specs.Option.{option_copied};
 ghost use Rattle.sled_model.specs.State.{IsOnKey};
 ghost use Rattle.sled_model.specs.declared.call.Call.{Call};
 ghost use Rattle.sled_model.specs.declared.call.Call.TheVariants.{Get, Insert, Remove, CompareAndSwap, Merge};
 ghost use Rattle.sled_nodes.specs.Order.{Key};
 ghost use Rattle.machine_shared.specs.theory.Copied.{AddsStepped, AreCopies, EndsStepped};
-ghost use Rattle.machine_shared.specs.Fetches.{Fetches};
+ghost use Rattle.machine_shared.specs.Fetches.{Fetches, FetchesUnderLock};
 ghost use Rattle.machine_shared.specs.Made.{made_values};
 ghost use Rattle.machine_shared.specs.Notes.{AddsStep, IsEnd, IsGivenUp, noted_of};
 ghost use Rattle.machine_shared.specs.Replies.{RepliesTo};
@@ -168,6 +168,7 @@ impl<P: Pages, L: Ledger, M: MergeOperator> Handle<P, L, M> {
         ensures ok { IfOk result (λ both. Fetches F.FnMut f tree.now key.now both.0 both.1 self.old.made self.new.made) }
         ensures err { OnErr result (self.new.made ≡ self.old.made) }
         ensures number { self.new.number ≡ self.old.number }
+        ensures under_lock { FetchesUnderLock P.store M.meant tree.now key.now result self.old self.new }
     {
         let mut guard = self.lock.lock(rt);
         let fetched = fetch_adding(&mut *guard, &mut self.me, tree, key, f);
@@ -199,6 +200,8 @@ impl<P: Pages, L: Ledger, M: MergeOperator> Handle<P, L, M> {
         ensures ok { IfOk result (λ made. (stood : Option Key) × Fetches F.FnMut f tree.now key.now stood made self.old.made self.new.made) }
         ensures err { OnErr result (self.new.made ≡ self.old.made) }
         ensures number { self.new.number ≡ self.old.number }
+        ensures under_lock { IfOk result (λ made. (stood : Option Key) × FetchesUnderLock P.store M.meant tree.now key.now (Ok (stood, made)) self.old self.new) }
+        ensures refused { IfErr result (λ e. FetchesUnderLock P.store M.meant tree.now key.now (Err e) self.old self.new) }
     {
         match self.fetch(rt, tree, key, f) {
             Ok((stood, made)) => {
@@ -227,6 +230,8 @@ impl<P: Pages, L: Ledger, M: MergeOperator> Handle<P, L, M> {
         ensures ok { IfOk result (λ stood. (made : Option Key) × Fetches F.FnMut f tree.now key.now stood made self.old.made self.new.made) }
         ensures err { OnErr result (self.new.made ≡ self.old.made) }
         ensures number { self.new.number ≡ self.old.number }
+        ensures under_lock { IfOk result (λ stood. (made : Option Key) × FetchesUnderLock P.store M.meant tree.now key.now (Ok (stood, made)) self.old self.new) }
+        ensures refused { IfErr result (λ e. FetchesUnderLock P.store M.meant tree.now key.now (Err e) self.old self.new) }
     {
         match self.fetch(rt, tree, key, f) {
             Ok((stood, made)) => {

@@ -6,14 +6,13 @@ ghost use Rattle.sled_model.specs.declared.outcome.Step.TheVariants as step;
 ghost use Rattle.sled_model.specs.declared.outcome.Outcome.TheVariants as outcome;
 ghost use Rattle.machine_alone.specs.Step.{MachineStepContract};
 ghost use Rattle.machine_alone.specs.Values.{slots_of, job_of_call};
-ghost use Rattle.machine_shared.specs.Fetches.{Fetches};
+ghost use Rattle.machine_shared.specs.Fetches.{Fetches, FetchesOnce, FetchesUnderLock, StaysStill, SwapsNow};
 ghost use Rattle.machine_shared.specs.Made.{entry_values};
 ghost use Rattle.machine_shared.specs.Notes.{AddsStep, IsGivenUp, entries_of, noted_in};
 ghost use Rattle.machine_shared.specs.Replies.{RepliesTo};
 ghost use Rattle.machine_shared.specs.Scans.{AreInOrder, NotesScan, begun_of, noted_at, scanned_of};
 ghost use Rattle.machine_shared.specs.Sound.{HasCrashMaps, HasHistory, HasLegalHistory, HasRisingIds, HasScans};
 ghost use Rattle.machine_shared.specs.Steps.{SlotStep};
-ghost use Rattle.machine_shared.specs.theory.Fetching.{StaysStill, SwapsNow};
 ghost use Rattle.machine_shared.specs.theory.Noting.{job_pair};
 ghost use Rattle.machine_shared.specs.UnderLock.{AbandonsUnderLock, BeginsUnderLock, IsHeld, StepsUnderLock, WholesUnderLock};
 ghost use Rattle.machine_shared.specs.WholeNotes.{AddsWhole, NotesWhole};
@@ -182,6 +181,7 @@ impl<P: Pages, L: Ledger, M: MergeOperator> State<P, L, M> {
         ensures still { OnErr result (StaysStill P.store M.meant self.old.machine self.new.machine) }
         ensures same { self.new.machine ≡ record (self.old.machine) { db = self.new.machine.db } }
         ensures scans { self.new.scans ≡ self.old.scans }
+        ensures once { FetchesOnce P.store M.meant tree.now key.now result me.old me.new self.old self.new }
     {
         self.machine.audit();
         let Caller {
@@ -387,12 +387,18 @@ where
     ensures ok { IfOk result (λ both. Fetches F.FnMut f tree.now key.now both.0 both.1 me.old.made me.new.made) }
     ensures err { OnErr result (me.new.made ≡ me.old.made) }
     ensures number { me.new.number ≡ me.old.number }
+    ensures under_lock { FetchesUnderLock P.store M.meant tree.now key.now result me.old me.new }
 {
     match held {
         None => {
             drop(f);
             Err(Error::Closed)
         }
-        Some(state) => state.fetch(me, tree, key, f),
+        Some(state) => {
+            state.audit();
+            let fetched = state.fetch(me, tree, key, f);
+            state.audit();
+            fetched
+        }
     }
 }
