@@ -75,14 +75,14 @@ goes_on notes slot f g (inr q) same quiet = inr (record { key = ap range_of same
 pub going_after : (a b : Configuration) (s : Step) (o : Outcome) (maps : List Maps) → transition_as a s o b maps → (notes more : List ScanNote) → AreGoing a.state.slots notes → begin_noted s o (notes ++ more) → AreGoing b.state.slots (notes ++ more)
 going_after a b (step.Begin tree call) (outcome.Begun slot) maps t notes more h new =
     put_going a.state.slots b.state.slots slot (Some (call_begun tree call)) notes more (ap (λ (z : State). z.slots) t.0.is) h (λ f e. quiet_begun (notes ++ more) slot (call_begun tree call) f new refl refl e)
-going_after a b (step.Begin tree call) (outcome.Refused x) maps t notes more h new = same_going a.state.slots b.state.slots notes more (ap (λ (z : State). z.slots) t.1.0) h
+going_after a b (step.Begin tree call) (outcome.Refused x) maps t notes more h new = same_going a.state.slots b.state.slots notes more (ap (λ (z : State). z.slots) t.1) h
 going_after a b (step.Step i) outcome.NoSuchSlot maps t notes more h new = same_going a.state.slots b.state.slots notes more (ap (λ (z : State). z.slots) t.0.is) h
 going_after a b (step.Step i) outcome.Moved maps t notes more h new =
     put_going a.state.slots b.state.slots i _ notes more (ap (λ (z : State). z.slots) t.0.is) h (λ f e.
     subst (λ (z : CallInFlight). Going (notes ++ more) i z) (some_is e)
     (goes_on (notes ++ more) i t.0.flying _ (still_going notes more i t.0.flying (h i t.0.flying t.0.here)) refl
     (λ q. elim t.0.reads [
-      | inl as ↦ (as.0 ∙ q.waits, as.1 ∙ q.reads)
+      | inl same ↦ (same.0 ∙ q.waits, same.1 ∙ q.reads)
       | inr part ↦ none_some (sym q.reads ∙ part.had)
     ])))
 going_after a b (step.Step i) (outcome.Yielded key value) maps t notes more h new =

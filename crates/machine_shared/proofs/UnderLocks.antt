@@ -31,11 +31,11 @@ use Rattle.machine_shared.specs.UnderWay.{MachineScans}
 use Rattle.machine_shared.specs.Values.{CallerValue, StateValue}
 use Rattle.machine_shared.proofs.ScanStates.{has_scans}
 
-ok_err : {A E : Type 0} {X : Type 0} {a : A} {e : E} → Ok {A} {E} a ≡ Err e → X
-ok_err e = cc
+ok_err : {A X : Type 0} (a : A) (e : Error) (r : Result A Error) → r ≡ Ok a → r ≡ Err e → X
+ok_err a e r f g = cc
 
-err_is : {A E : Type 0} {a b : E} → Err {A} {E} a ≡ Err b → a ≡ b
-err_is e = cc
+err_is : {A : Type 0} (a b : Error) (r : Result A Error) → r ≡ Err a → r ≡ Err b → a ≡ b
+err_is a b r f g = cc
 
 -- what the type of the lock says of a state, and that of its machine
 pub held_of : {P M : Type 0} (store : P → Store) (s : StateValue P M) (total : ℕ) (is : IsState store s.machine s.opening s.history total) → AreInOrder 0 s.scans.notes (length s.history)
@@ -100,14 +100,14 @@ looked machine opening scans history longer number list more noted s at_s m at_m
 -- a read whose answer is told as a value of its kind
 pub told_as : {P M A B : Type 0} (store : P → Store) (meant : M → Merge) (read_of : A → Read) (tell : B → A) (a : A) (b : B) (me more : CallerValue) → a ≡ tell b → ReadsUnderLock store meant read_of (Ok a) me more → ReadsUnderLock store meant (λ x. read_of (tell x)) (Ok b) me more
 told_as store meant read_of tell a b me more is reads = elim reads [
-  | inl x ↦ ok_err x.refused
+  | inl x ↦ ok_err a x.cause (Ok a) refl x.refused
   | inr u ↦ inr (record { old = u.old; new = u.new; before = u.before; after = u.after; is = subst (λ n. Looks n me more u.old u.new) (ap (λ x. ReadMade (read_of x) ∷ []) is) u.is })
 ]
 
 -- .. and a refusal of the one is one of the other
 pub refused_as : {P M A B : Type 0} (store : P → Store) (meant : M → Merge) (read_of : A → Read) (other : B → Read) (e : Error) (me more : CallerValue) → ReadsUnderLock store meant read_of (Err e) me more → ReadsUnderLock store meant other (Err e) me more
 refused_as store meant read_of other e me more reads = elim reads [
-  | inl x ↦ inl (record { cause = x.cause; unmade = x.unmade; refused = ap (λ c. Err c) (err_is x.refused); same = x.same })
+  | inl x ↦ inl (record { cause = x.cause; unmade = x.unmade; refused = ap (λ c. Err c) (err_is e x.cause (Err e) refl x.refused); same = x.same })
   | inr u ↦ inr (record { old = u.old; new = u.new; before = u.before; after = u.after; is = u.is })
 ]
 

@@ -143,4 +143,4 @@ pub record IsUnread {A : Type 0} (result : Result A Error) (me more : CallerValu
 
 -- .. or it was made under the lock
 abbrev pub ReadsUnderLock : {P M A : Type 0} → (P → Store) → (M → Merge) → (A → Read) → Result A Error → CallerValue → CallerValue → Type 0
-ReadsUnderLock {P} {M} store meant read_of result me more = IsUnread result me more ⊎ UnderLock {P} {M} store (Looks (read_made read_of result) me more)
+ReadsUnderLock {P} {M} store meant read_of result me more = IsUnread result me more ⊎ UnderLock {P = P} {M = M} store (Looks (read_made read_of result) me more)

@@ -132,7 +132,6 @@ impl<P: Pages, L: Ledger, M: MergeOperator> Handle<P, L, M> {
         ensures ok { IfOk result (λ it. self.new.made ≡ self.old.made ++ ReadMade (read.Tree tree.now (asks.Get key.now) (told.Value it)) ∷ []) }
         ensures err { OnErr result (self.new.made ≡ self.old.made) }
         ensures number { self.new.number ≡ self.old.number }
-        ensures looks { ReadsUnderLock P.store M.meant (λ it. read.Tree tree.now (asks.Get key.now) (told.Value it)) result self.old self.new }
     {
         let question = Question::Get(IVec::from_slice(alloc, key)?);
         match self.read(rt, tree, question) {
@@ -156,7 +155,6 @@ impl<P: Pages, L: Ledger, M: MergeOperator> Handle<P, L, M> {
         ensures ok { IfOk result (λ it. self.new.made ≡ self.old.made ++ ReadMade (read.Tree tree.now (asks.ContainsKey key.now) (told.Flag it)) ∷ []) }
         ensures err { OnErr result (self.new.made ≡ self.old.made) }
         ensures number { self.new.number ≡ self.old.number }
-        ensures looks { ReadsUnderLock P.store M.meant (λ it. read.Tree tree.now (asks.ContainsKey key.now) (told.Flag it)) result self.old self.new }
     {
         let question = Question::ContainsKey(IVec::from_slice(alloc, key)?);
         match self.read(rt, tree, question) {
@@ -174,7 +172,6 @@ impl<P: Pages, L: Ledger, M: MergeOperator> Handle<P, L, M> {
         ensures ok { IfOk result (λ it. self.new.made ≡ self.old.made ++ ReadMade (read.Tree tree.now (asks.First) (told.Pair it)) ∷ []) }
         ensures err { OnErr result (self.new.made ≡ self.old.made) }
         ensures number { self.new.number ≡ self.old.number }
-        ensures looks { ReadsUnderLock P.store M.meant (λ it. read.Tree tree.now (asks.First) (told.Pair it)) result self.old self.new }
     {
         let question = Question::First;
         match self.read(rt, tree, question) {
@@ -192,7 +189,6 @@ impl<P: Pages, L: Ledger, M: MergeOperator> Handle<P, L, M> {
         ensures ok { IfOk result (λ it. self.new.made ≡ self.old.made ++ ReadMade (read.Tree tree.now (asks.Last) (told.Pair it)) ∷ []) }
         ensures err { OnErr result (self.new.made ≡ self.old.made) }
         ensures number { self.new.number ≡ self.old.number }
-        ensures looks { ReadsUnderLock P.store M.meant (λ it. read.Tree tree.now (asks.Last) (told.Pair it)) result self.old self.new }
     {
         let question = Question::Last;
         match self.read(rt, tree, question) {
@@ -216,7 +212,6 @@ impl<P: Pages, L: Ledger, M: MergeOperator> Handle<P, L, M> {
         ensures ok { IfOk result (λ it. self.new.made ≡ self.old.made ++ ReadMade (read.Tree tree.now (asks.GetLt key.now) (told.Pair it)) ∷ []) }
         ensures err { OnErr result (self.new.made ≡ self.old.made) }
         ensures number { self.new.number ≡ self.old.number }
-        ensures looks { ReadsUnderLock P.store M.meant (λ it. read.Tree tree.now (asks.GetLt key.now) (told.Pair it)) result self.old self.new }
     {
         let question = Question::GetLt(IVec::from_slice(alloc, key)?);
         match self.read(rt, tree, question) {
@@ -240,7 +235,6 @@ impl<P: Pages, L: Ledger, M: MergeOperator> Handle<P, L, M> {
         ensures ok { IfOk result (λ it. self.new.made ≡ self.old.made ++ ReadMade (read.Tree tree.now (asks.GetGt key.now) (told.Pair it)) ∷ []) }
         ensures err { OnErr result (self.new.made ≡ self.old.made) }
         ensures number { self.new.number ≡ self.old.number }
-        ensures looks { ReadsUnderLock P.store M.meant (λ it. read.Tree tree.now (asks.GetGt key.now) (told.Pair it)) result self.old self.new }
     {
         let question = Question::GetGt(IVec::from_slice(alloc, key)?);
         match self.read(rt, tree, question) {
@@ -258,7 +252,6 @@ impl<P: Pages, L: Ledger, M: MergeOperator> Handle<P, L, M> {
         ensures ok { IfOk result (λ it. self.new.made ≡ self.old.made ++ ReadMade (read.Tree tree.now (asks.Len) (told.Count it)) ∷ []) }
         ensures err { OnErr result (self.new.made ≡ self.old.made) }
         ensures number { self.new.number ≡ self.old.number }
-        ensures looks { ReadsUnderLock P.store M.meant (λ it. read.Tree tree.now (asks.Len) (told.Count it)) result self.old self.new }
     {
         let question = Question::Len;
         match self.read(rt, tree, question) {
@@ -276,7 +269,6 @@ impl<P: Pages, L: Ledger, M: MergeOperator> Handle<P, L, M> {
         ensures ok { IfOk result (λ it. self.new.made ≡ self.old.made ++ ReadMade (read.Tree tree.now (asks.IsEmpty) (told.Flag it)) ∷ []) }
         ensures err { OnErr result (self.new.made ≡ self.old.made) }
         ensures number { self.new.number ≡ self.old.number }
-        ensures looks { ReadsUnderLock P.store M.meant (λ it. read.Tree tree.now (asks.IsEmpty) (told.Flag it)) result self.old self.new }
     {
         let question = Question::IsEmpty;
         match self.read(rt, tree, question) {
@@ -306,7 +298,6 @@ impl<P: Pages, L: Ledger, M: MergeOperator> Handle<P, L, M> {
         ensures ok { IfOk result (λ it. self.new.made ≡ self.old.made ++ ReadMade (read.Tree tree.now (asks.Page (bound_of lo.entry) (bound_of hi.entry) back most) (told.Pairs it)) ∷ []) }
         ensures err { OnErr result (self.new.made ≡ self.old.made) }
         ensures number { self.new.number ≡ self.old.number }
-        ensures looks { ReadsUnderLock P.store M.meant (λ it. read.Tree tree.now (asks.Page (bound_of lo.entry) (bound_of hi.entry) back most) (told.Pairs it)) result self.old self.new }
     {
         let question = page_between(alloc, lo, hi, back, most)?;
         match self.read(rt, tree, question) {

@@ -11,7 +11,7 @@ returns-in-Some-clause-steps g c = inr (record {
   old = _;
   new = c.step-outcome.new.self;
   before = c.audit.ensures.held;
-  after = c.audit-2.ensures.held;
+  after = c.audit-in-Some.ensures.held;
   is = record {
     step = c.step-outcome.ensures.step;
     adds = record { history = c.step-outcome.ensures.history; list = caller_is c.step-outcome.new.me _ _ c.step-outcome.ensures.number c.step-outcome.ensures.made; opening = c.step-outcome.ensures.opening };

@@ -14,6 +14,6 @@ returns-in-Some-clause-wholes g c = inr (record {
   old = _;
   new = c.whole-outcome.new.self;
   before = c.audit.ensures.held;
-  after = c.audit-2.ensures.held;
+  after = c.audit-in-Some.ensures.held;
   is = record { notes = c.whole-outcome.ensures.whole; number = c.whole-outcome.ensures.number; opening = c.whole-outcome.ensures.opening; scans = c.whole-outcome.ensures.scans };
 })
