@@ -26,7 +26,7 @@ use Rattle.machine_shared.specs.declared.read.Read.{Read}
 use Rattle.machine_shared.specs.theory.Copied.{EndsStepped, TakesOn}
 use Rattle.machine_shared.specs.Scans.{ScansValue, NotesScan, AreNoted, AreNotKept, AreInOrder, begun_of, noted_at}
 use Rattle.machine_shared.specs.Sound.{IsState}
-use Rattle.machine_shared.specs.UnderLock.{IsHeld, BeginsUnderLock, EndsUnderLock, Looks, ReadsUnderLock, read_made}
+use Rattle.machine_shared.specs.UnderLock.{IsHeld, AbandonsSlot, BeginsUnderLock, EndsUnderLock, Looks, ReadsUnderLock, read_made}
 use Rattle.machine_shared.specs.UnderWay.{MachineScans}
 use Rattle.machine_shared.specs.Values.{CallerValue, StateValue}
 use Rattle.machine_shared.proofs.ScanStates.{has_scans}
@@ -60,10 +60,15 @@ quiet_scans old new same = go old.keeps refl
     go false k = AreNotKept k same
 
 -- a state whose machine alone is another
-pub machine_alone : {P M : Type 0} (old new : StateValue P M) → new.history ≡ old.history → new.opening ≡ old.opening → new.scans ≡ old.scans → new ≡ record old { machine = new.machine }
+machine_alone : {P M : Type 0} (old new : StateValue P M) → new.history ≡ old.history → new.opening ≡ old.opening → new.scans ≡ old.scans → new ≡ record old { machine = new.machine }
 machine_alone old new history opening scans =
     ap (λ h. record { machine = new.machine; opening = new.opening; history = h; scans = new.scans }) history ∙ ap (λ o. record { machine = new.machine; opening = o; history = old.history; scans = new.scans }) opening
     ∙ ap (λ s. record { machine = new.machine; opening = old.opening; history = old.history; scans = s }) scans
+
+-- an abandonment, by its parts
+pub abandons : {P M : Type 0} (store : P → Store) (number : P → ℕ) (meant : M → Merge) (old new : StateValue P M) (slot : ℕ) (o : Outcome) → MachineStepContract store number meant old.machine (step.Abandon slot) o new.machine
+    → new.history ≡ old.history → new.opening ≡ old.opening → new.scans ≡ old.scans → AbandonsSlot store number meant slot o old new
+abandons store number meant old new slot o s history opening scans = record { step = s; same = machine_alone old new history opening scans }
 
 -- a caller of which number and list are known
 pub caller_is : (more : CallerValue) (number : ℕ) (made : List MadeValue) → more.number ≡ number → more.made ≡ made → more ≡ record { number = number; made = made }
