@@ -21,15 +21,11 @@ use Rattle.machine_shared.specs.Scans.{noted_at, scanned_of}
 use Rattle.machine_shared.specs.UnderWay.{AreGoing, IsQuiet}
 use Rattle.machine_shared.specs.declared.scans.Scanned.TheVariants as did
 use Rattle.machine_shared.specs.declared.scans.ScanNote.{ScanNote}
+use Rattle.machine_shared.proofs.Gave.{note_left}
 use Rattle.machine_shared.proofs.Noted.{no_end}
 
 no_pair : {X : Type 0} {p : Key × Key} {ps : List (Key × Key)} → [] ≡ p ∷ ps → X
 no_pair e = cc
-
-note_left : (n : ScanNote) (ns ms : List ScanNote) → In n ns → In n (ns ++ ms)
-note_left n [] ms h = absurd h
-note_left n (x ∷ ns) ms (inl h) = inl h
-note_left n (x ∷ ns) ms (inr h) = inr (note_left n ns ms h)
 
 note_last : (n : ScanNote) (ns : List ScanNote) → In n (ns ++ n ∷ [])
 note_last n [] = inl refl
