@@ -303,6 +303,7 @@ impl<P: Pages, M: MergeOperator> Db<P, M> {
         ensures ok { OnOk result (GroupDecided P.store M.meant self.old batches.now self.new) }
         ensures err { IfErr result (λ e. GroupRefused P.store M.meant self.old batches.now e self.new) }
         ensures quiet { IsQuietGroup P.store M.meant self.old batches.now self.new }
+        ensures changes { OnOk result (db_state P.store M.meant self.new ≡ after_writes (writes_of batches.now) (db_state P.store M.meant self.old)) }
     {
         if let Err(e) = self.check_batches(batches) {
             return Err(e);
@@ -333,6 +334,7 @@ impl<P: Pages, M: MergeOperator> Db<P, M> {
         ensures ok { OnOk result (GroupDecided P.store M.meant self.old ((tree.now, batch) ∷ []) self.new) }
         ensures err { IfErr result (λ e. GroupRefused P.store M.meant self.old ((tree.now, batch) ∷ []) e self.new) }
         ensures quiet { IsQuietGroup P.store M.meant self.old ((tree.now, batch) ∷ []) self.new }
+        ensures changes { OnOk result (db_state P.store M.meant self.new ≡ after_writes (writes_of ((tree.now, batch) ∷ [])) (db_state P.store M.meant self.old)) }
     {
         if let Err(e) = self.check(tree) {
             drop(batch);
