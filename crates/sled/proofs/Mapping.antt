@@ -1,7 +1,7 @@
 -- What whole calls that are made at once, and those of closures, make of the maps.
 use Rattle.std.proofs.Common.{◌≡◌, ◌≢◌, ℕ, zero, suc, Bool, true, false, List, [], ◌∷◌, Option, Some, None, is_some, option_map, Result, Ok, Err, IfOk, OnOk, sym, refl, ap, ◌∙◌, subst, T}
 use Rattle.sled_nodes.proofs.Basics.{of_true}
-use Rattle.std.specs.FinMap.Entries.{find, is_sorted}
+use Rattle.std.specs.FinMap.Entries.{is_sorted}
 use Rattle.sled_nodes.specs.Order.{Key, key_cmp}
 use Rattle.sled_batch.specs.Batch.{Writes}
 use Rattle.sled_store.specs.Store.{Store}
@@ -26,7 +26,7 @@ use Rattle.sled.specs.Direct.{Conducts, WholeDecided, WholeRefused}
 use Rattle.sled.specs.Groups.{GroupDecided}
 use Rattle.sled.specs.Drops.{DropsTree, drops_as}
 use Rattle.sled.specs.theory.Pops.{end_of, pop_of}
-use Rattle.sled.specs.Promises.{ChangesMap, RefusesCall, BecomesMap, OpensMap, DropsMap, map_opened, without_found}
+use Rattle.sled.specs.Promises.{ChangesMap, RefusesCall, OpensMap, DropsMap, map_opened, without_found}
 use Rattle.sled.proofs.Promising.{remove_takes}
 use Rattle.sled.proofs.Trees.{maps_ascend}
 

@@ -5,7 +5,6 @@ use Rattle.std.specs.Ordering.{nat_cmp}
 use Rattle.sled_nodes.specs.Node.{value_at}
 use Rattle.sled_nodes.specs.declared.error.Error.{Error}
 use Rattle.sled_store.specs.Store.{Store}
-use Rattle.sled_store.specs.declared.page.View.{View}
 use Rattle.sled_model.specs.Answer.{key_of}
 use Rattle.sled_model.specs.Maps.{Merge}
 use Rattle.sled_model.specs.State.{IsOnKey, range_of}
