@@ -28,3 +28,4 @@ pub mod ScanSteps
 pub mod ScanStates
 pub mod UnderLocks
 pub mod Going
+pub mod Committing

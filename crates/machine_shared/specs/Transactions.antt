@@ -2,12 +2,17 @@
 use Rattle.std.specs.Prelude.{◌≡◌, ◌⊎◌, ℕ, Bool, true, false, ◌&&◌, List, [], ◌∷◌, ◌++◌, map, Option, Some, None, Result, Ok, Err, slice_get}
 use Rattle.std.specs.Option.{unwrap_or}
 use Rattle.std.specs.FinMap.Entries.{find}
+use Rattle.std.specs.Global.{Vec}
 use Rattle.sled_nodes.specs.Order.{Key, key_cmp}
 use Rattle.sled_batch.specs.Batch.{Writes}
 use Rattle.sled_store.specs.Store.{Store, now}
 use Rattle.sled_model.specs.Maps.{Maps, Merge}
 use Rattle.sled_model.specs.Refusal.{must_refuse_of}
 use Rattle.sled_model.specs.State.{maps_of}
+use Rattle.sled_model.specs.declared.call.Whole.TheVariants.{Flush, Group}
+use Rattle.sled_model.specs.declared.outcome.Outcome.TheVariants.{Decided}
+use Rattle.sled_model.specs.declared.outcome.Step.TheVariants as step
+use Rattle.sled_model.specs.declared.reply.Reply.{Reply}
 use Rattle.sled_model.specs.declared.reply.Reply.TheVariants.{Number}
 use Rattle.sled_model.specs.declared.tree.Tree.{Tree}
 use Rattle.tree_transactions.specs.Attempts.{Answer, Closure}
@@ -25,8 +30,11 @@ use Rattle.lent_pages.specs.declared.lent.Lent.{Lent}
 use Rattle.sled.specs.Reads.{ReadsMap}
 use Rattle.sled.specs.Sound.{IsDb}
 use Rattle.sled.specs.Values.{DbValue, db_state}
+use Rattle.machine_alone.specs.Step.{MachineStepContract}
 use Rattle.machine_shared.specs.Made.{MadeValue, WholeMade, TransactionMade}
 use Rattle.machine_shared.specs.Stood.{stood_in}
+use Rattle.machine_shared.specs.UnderLock.{AddsMade, IsHeld, MakesWhole, UnderLock}
+use Rattle.machine_shared.specs.Values.{CallerValue, StateValue}
 use Rattle.machine_shared.specs.Wholes as value
 
 -- How the closure of a transaction ends: in this database no test refuses the tree, and the closure is run at the tree's root, over the
@@ -107,6 +115,46 @@ module _ {A E W : Type 0} (reaches : Maps → Result (Commit A W) (TransactionEr
     pub noted : List MadeValue
     pub notes : notes_ended ended noted
     pub adds : more ≡ made ++ noted
+
+module _ {P M : Type 0} (store : P → Store) (flush_number : P → ℕ) (meant : M → Merge) where
+  -- if a flush was asked for it is made from this state, under the same lock
+  abbrev pub flush_follows : Bool → StateValue P M → CallerValue → CallerValue → Type 0
+  flush_follows false from me more = more ≡ me
+  flush_follows true from me more = (reply : Reply) × (flush : UnderLock store (MakesWhole store flush_number meant Flush (Decided reply) me more)) × (flush.old ≡ from)
+
+  -- these batches are made as a group, from this state under the lock, and noted with what was at their keys; and the flush follows
+  pub record CommitsGroup (batches : List (Tree × Writes)) (flushes : Bool) (old : StateValue P M) (me more : CallerValue) : Type 0 where
+    pub made : StateValue P M
+    pub between : CallerValue
+    pub before : IsHeld store old
+    pub after : IsHeld store made
+    pub group : Vec (Tree × Writes)
+    pub holds : group.items ≡ batches
+    pub reply : Reply
+    pub step : MachineStepContract store flush_number meant old.machine (step.Whole (Group group)) (Decided reply) made.machine
+    pub adds : AddsMade old me (transaction_made (maps_of (db_state store meant old.machine.db)) batches ∷ []) made between
+    pub scans : made.scans ≡ old.scans
+    pub flush : flush_follows flushes made between more
+
+  module _ {A E W : Type 0} (runs : DbValue P M → Result (Commit A W) (TransactionError E) → Type 0) (batches_of : W → List (Tree × Writes)) (has_trees : Bool) where
+    -- A transaction was made. Its closure was run over the database of a state under the lock, whose maps are those at its place in the
+    -- history; and what it wrote was made from that state
+    pub record MakesTransaction (answer : A) (me more : CallerValue) : Type 0 where
+      pub commit : Commit A W
+      pub answers : commit.answer ≡ answer
+      pub old : StateValue P M
+      pub ran : runs old.machine.db (Ok commit)
+      pub commits : CommitsGroup (batches_of commit.writes) (has_trees && commit.flushes) old me more
+
+    -- .. or its closure aborted it, over such a database, and nothing changed
+    pub record AbortsTransaction (e : E) (me more : CallerValue) : Type 0 where
+      pub under : UnderLock store (λ old new. runs old.machine.db (Err (Abort e)) × (new ≡ old))
+      pub unchanged : more ≡ me
+
+    abbrev pub TransactsUnderLock : Result A (TransactionError E) → CallerValue → CallerValue → Type 0
+    TransactsUnderLock (Ok answer) me more = MakesTransaction answer me more
+    TransactsUnderLock (Err (Abort e)) me more = AbortsTransaction e me more
+    TransactsUnderLock (Err (Storage e)) me more = Unit {0}
 
 -- What a read of a key shows inside a closure that is run at a tree over pages that are lent: its own write of the key, and if there is
 -- none the value in the map of the tree

@@ -7,6 +7,7 @@ ghost use Rattle.sled.specs.Values.{db_state};
 ghost use Rattle.machine_shared.specs.Made.{TransactionMade, made_value};
 ghost use Rattle.machine_shared.specs.Stood.{stands_at, stood_in};
 ghost use Rattle.machine_shared.specs.Transactions.{transaction_made};
+ghost use Rattle.machine_shared.specs.UnderLock.{AddsMade};
 ghost use Rattle.machine_shared.specs.theory.Noting.{first_noted, second_noted};
 ghost use Rattle.machine_shared.specs.theory.Transacting.{GroupMade, GroupRefused, GroupUnmade, is_decided, is_undecided};
 
@@ -240,6 +241,9 @@ impl<P: Pages, L: Ledger, M: MergeOperator> State<P, L, M> {
         ensures ok { OnOk result (me.new.made ≡ me.old.made ++ transaction_made (maps_of (db_state P.store M.meant self.old.machine.db)) group.items ∷ []) }
         ensures err { OnErr result (me.new.made ≡ me.old.made) }
         ensures number { me.new.number ≡ me.old.number }
+        ensures group { OnOk result (GroupMade P.store P.flush_number M.meant self.old.machine group self.new.machine) }
+        ensures adds { OnOk result (AddsMade self.old me.old (transaction_made (maps_of (db_state P.store M.meant self.old.machine.db)) group.items ∷ []) self.new me.new) }
+        ensures scans { self.new.scans ≡ self.old.scans }
     {
         self.machine.audit();
         let Caller {

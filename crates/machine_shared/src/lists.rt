@@ -7,7 +7,7 @@ ghost use Rattle.sled_model.specs.State.{maps_of};
 ghost use Rattle.sled_model.specs.declared.tree.Tree.{Tree};
 ghost use Rattle.sled.specs.Transactions.{has_trees, trees_of_list};
 ghost use Rattle.sled.specs.Values.{db_state};
-ghost use Rattle.machine_shared.specs.Transactions.{AddsTransaction, RunsAllIn, RunsAllOnce, transaction_made};
+ghost use Rattle.machine_shared.specs.Transactions.{AddsTransaction, CommitsGroup, RunsAllIn, RunsAllOnce, TransactsUnderLock, transaction_made};
 ghost use Rattle.machine_shared.specs.theory.Transacting.{AddsCommit, StopsCommit, ran_as};
 
 use crate::caller::Caller;
@@ -175,6 +175,7 @@ fn commit_list<P: Pages, L: Ledger, M: MergeOperator>(
     ensures ok { OnOk result (AddsCommit (transaction_made (maps_of (db_state P.store M.meant state.old.machine.db)) (zip (trees_of_list trees.now) writes.items)) (has_trees (trees_of_list trees.now) && flushes) me.old.made me.new.made) }
     ensures err { OnErr result (StopsCommit (transaction_made (maps_of (db_state P.store M.meant state.old.machine.db)) (zip (trees_of_list trees.now) writes.items)) (has_trees (trees_of_list trees.now) && flushes) me.old.made me.new.made) }
     ensures number { me.new.number ≡ me.old.number }
+    ensures commits { OnOk result (CommitsGroup P.store P.flush_number M.meant (zip (trees_of_list trees.now) writes.items) (has_trees (trees_of_list trees.now) && flushes) state.old me.old me.new) }
 {
     let alloc = state.machine.db().allocator();
     match group_of(alloc, trees, writes) {
@@ -198,7 +199,9 @@ where
     requires { (shown : _) → F.pre f shown }
     ensures made { AddsTransaction (RunsAllOnce P.store M.meant F.Fn R.result_of f (trees_of_list trees.now)) (zip (trees_of_list trees.now)) (has_trees (trees_of_list trees.now)) result me.old.made me.new.made }
     ensures number { me.new.number ≡ me.old.number }
+    ensures under_lock { TransactsUnderLock P.store P.flush_number M.meant (RunsAllIn P.store M.meant F.Fn R.result_of f (trees_of_list trees.now)) (zip (trees_of_list trees.now)) (has_trees (trees_of_list trees.now)) result me.old me.new }
 {
+    state.audit();
     let ended = run_all(&state.machine, trees, f);
     match ended {
         Ok(
@@ -238,6 +241,7 @@ where
     requires { (shown : _) → F.pre f shown }
     ensures made { AddsTransaction (RunsAllOnce P.store M.meant F.Fn R.result_of f (trees_of_list trees.now)) (zip (trees_of_list trees.now)) (has_trees (trees_of_list trees.now)) result me.old.made me.new.made }
     ensures number { me.new.number ≡ me.old.number }
+    ensures under_lock { TransactsUnderLock P.store P.flush_number M.meant (RunsAllIn P.store M.meant F.Fn R.result_of f (trees_of_list trees.now)) (zip (trees_of_list trees.now)) (has_trees (trees_of_list trees.now)) result me.old me.new }
 {
     match held {
         None => Err(TransactionError::Storage(Error::Closed)),
@@ -273,6 +277,7 @@ impl<P: Pages + Sync, L: Ledger, M: MergeOperator> Handle<P, L, M> {
         requires { (shown : _) → F.pre f shown }
         ensures made { AddsTransaction (RunsAllOnce P.store M.meant F.Fn R.result_of f (trees_of_list trees.now)) (zip (trees_of_list trees.now)) (has_trees (trees_of_list trees.now)) (R.answer_of result) self.old.made self.new.made }
         ensures number { self.new.number ≡ self.old.number }
+        ensures under_lock { TransactsUnderLock P.store P.flush_number M.meant (RunsAllIn P.store M.meant F.Fn R.result_of f (trees_of_list trees.now)) (zip (trees_of_list trees.now)) (has_trees (trees_of_list trees.now)) (R.answer_of result) self.old self.new }
     {
         let mut guard = self.lock.lock(rt);
         let ended = transact_all_in(&mut *guard, &mut self.me, trees, f);

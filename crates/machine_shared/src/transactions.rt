@@ -4,7 +4,7 @@ ghost use Rattle.sled_store.specs.Store.{now};
 ghost use Rattle.sled_model.specs.Refusal.{must_refuse_of};
 ghost use Rattle.sled_model.specs.State.{maps_of};
 ghost use Rattle.sled.specs.Values.{db_state};
-ghost use Rattle.machine_shared.specs.Transactions.{AddsTransaction, RunsIn, RunsOnce, ShowsInsideAtLaw, ShowsInsideLaw, batches_of_tree, transaction_made};
+ghost use Rattle.machine_shared.specs.Transactions.{AddsTransaction, CommitsGroup, RunsIn, RunsOnce, ShowsInsideAtLaw, ShowsInsideLaw, TransactsUnderLock, batches_of_tree, flush_follows, transaction_made};
 ghost use Rattle.machine_shared.specs.theory.Transacting.{AddsCommit, AddsFlush, StopsCommit, ran_as};
 
 use crate::caller::Caller;
@@ -92,8 +92,11 @@ fn make_flush<P: Pages, L: Ledger, M: MergeOperator>(
     ensures ok { OnOk result (AddsFlush me.old.made me.new.made) }
     ensures err { OnErr result (me.new.made ≡ me.old.made) }
     ensures number { me.new.number ≡ me.old.number }
+    ensures follows { OnOk result (flush_follows P.store P.flush_number M.meant true state.old me.old me.new) }
 {
+    state.audit();
     let outcome = state.whole(me, Whole::Flush);
+    state.audit();
     decided(outcome)
 }
 
@@ -107,10 +110,13 @@ pub(crate) fn commit<P: Pages, L: Ledger, M: MergeOperator>(
     ensures ok { OnOk result (AddsCommit (transaction_made (maps_of (db_state P.store M.meant state.old.machine.db)) group.items) flushes me.old.made me.new.made) }
     ensures err { OnErr result (StopsCommit (transaction_made (maps_of (db_state P.store M.meant state.old.machine.db)) group.items) flushes me.old.made me.new.made) }
     ensures number { me.new.number ≡ me.old.number }
+    ensures commits { OnOk result (CommitsGroup P.store P.flush_number M.meant group.items flushes state.old me.old me.new) }
 {
+    state.audit();
     if let Err(e) = state.make(me, group) {
         return Err(e);
     }
+    state.audit();
     if !flushes {
         return Ok(());
     }
@@ -128,6 +134,7 @@ fn commit_tree<P: Pages, L: Ledger, M: MergeOperator>(
     ensures ok { OnOk result (AddsCommit (transaction_made (maps_of (db_state P.store M.meant state.old.machine.db)) (batches_of_tree tree.now writes)) flushes me.old.made me.new.made) }
     ensures err { OnErr result (StopsCommit (transaction_made (maps_of (db_state P.store M.meant state.old.machine.db)) (batches_of_tree tree.now writes)) flushes me.old.made me.new.made) }
     ensures number { me.new.number ≡ me.old.number }
+    ensures commits { OnOk result (CommitsGroup P.store P.flush_number M.meant (batches_of_tree tree.now writes) flushes state.old me.old me.new) }
 {
     let alloc = state.machine.db().allocator();
     match group_of(alloc, tree, writes) {
@@ -151,7 +158,9 @@ where
     requires { (shown : _) → F.pre f shown }
     ensures made { AddsTransaction (RunsOnce P.store M.meant F.Fn R.result_of f tree.now) (batches_of_tree tree.now) true result me.old.made me.new.made }
     ensures number { me.new.number ≡ me.old.number }
+    ensures under_lock { TransactsUnderLock P.store P.flush_number M.meant (RunsIn P.store M.meant F.Fn R.result_of f tree.now) (batches_of_tree tree.now) true result me.old me.new }
 {
+    state.audit();
     let ended = run(&state.machine, tree, f);
     match ended {
         Ok(
@@ -191,6 +200,7 @@ where
     requires { (shown : _) → F.pre f shown }
     ensures made { AddsTransaction (RunsOnce P.store M.meant F.Fn R.result_of f tree.now) (batches_of_tree tree.now) true result me.old.made me.new.made }
     ensures number { me.new.number ≡ me.old.number }
+    ensures under_lock { TransactsUnderLock P.store P.flush_number M.meant (RunsIn P.store M.meant F.Fn R.result_of f tree.now) (batches_of_tree tree.now) true result me.old me.new }
 {
     match held {
         None => Err(TransactionError::Storage(Error::Closed)),
@@ -231,6 +241,7 @@ impl<P: Pages + Sync, L: Ledger, M: MergeOperator> Handle<P, L, M> {
         requires { (shown : _) → F.pre f shown }
         ensures made { AddsTransaction (RunsOnce P.store M.meant F.Fn R.result_of f tree.now) (batches_of_tree tree.now) true (R.answer_of result) self.old.made self.new.made }
         ensures number { self.new.number ≡ self.old.number }
+        ensures under_lock { TransactsUnderLock P.store P.flush_number M.meant (RunsIn P.store M.meant F.Fn R.result_of f tree.now) (batches_of_tree tree.now) true (R.answer_of result) self.old self.new }
     {
         let mut guard = self.lock.lock(rt);
         let ended = transact_in(&mut *guard, &mut self.me, tree, f);
