@@ -4,7 +4,7 @@ ghost use Rattle.sled_model.specs.State.{IsOnKey};
 ghost use Rattle.machine_shared.specs.Made.{ReadMade};
 ghost use Rattle.machine_shared.specs.Notes.{AddsStep, IsEnd, noted_of};
 ghost use Rattle.machine_shared.specs.Reads.{IsAnswerTo};
-ghost use Rattle.machine_shared.specs.Steps.{StepsUnderLock};
+ghost use Rattle.machine_shared.specs.UnderLock.{StepsUnderLock};
 ghost use Rattle.machine_shared.specs.declared.read.Read.TheVariants as read;
 
 use machine_shared::{Answer, Gate, Handle, Question};
@@ -38,7 +38,7 @@ pub fn step_by_handle<P: Pages, L: Ledger, M: MergeOperator>(
 ) -> Outcome
     ensures made { AddsStep result handle.old.made handle.new.made }
     ensures number { handle.new.number ≡ handle.old.number }
-    ensures steps { StepsUnderLock P.store P.flush_number M.meant handle.old.number slot result }
+    ensures steps { StepsUnderLock P.store P.flush_number M.meant slot result handle.old handle.new }
 {
     handle.step(rt, slot)
 }

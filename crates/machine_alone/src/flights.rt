@@ -8,7 +8,7 @@ ghost use Rattle.sled_store.specs.Update.{put_at};
 ghost use Rattle.sled.specs.Values.{snapshot_of_db};
 ghost use Rattle.sled_tree.specs.Known.{IsKnown};
 ghost use Rattle.tree_quick.specs.Outcomes.{went_of};
-ghost use Rattle.tree_steps.specs.Outcomes.{outcome_of, kept_of};
+ghost use Rattle.tree_steps.specs.Outcomes.{outcome_of};
 ghost use Rattle.sled.specs.Flights.{DbStepContract, DbRunsToEnd};
 ghost use Rattle.sled_tree.specs.declared.flight.InFlight.{InFlight};
 ghost use Rattle.machine_alone.specs.StepsInSlot.{flight_after};
@@ -20,6 +20,7 @@ use sled_nodes::{Error, Result};
 use sled_store::Pages;
 use sled_tree::{InFlight, Job, Went};
 use std::collections::BTreeMap;
+use tree_steps::Keep;
 
 // The outcome of a step, as a machine returns it.
 pub(crate) fn outcome_of(went: Went) -> Outcome
@@ -111,78 +112,44 @@ fn settle(flights: &mut BTreeMap<u64, InFlight>, slot: u64, went: Went) -> Outco
     }
 }
 
-// One step of the call in a slot, on the database, if there is one.
-fn advance_in<P: Pages, M: MergeOperator>(
+// One step of the call in a slot, on the database, and what is kept of it, if there is one.
+#[inline(always)]
+fn advance_in<P: Pages, M: MergeOperator, K: Keep>(
     db: &mut Db<P, M>,
     flights: &mut BTreeMap<u64, InFlight>,
     slot: u64,
-) -> Option<Went>
+) -> Option<(Went, K)>
     requires { (f : InFlight) → get nat_cmp flights.old slot ≡ Some f → IsKnown (snapshot_of_db P.store db.old) f }
-    ensures flew { IfSome result (λ went. FliesInSlot (DbStepContract P.store M.meant) db.old (get nat_cmp flights.old) slot went db.new (get nat_cmp flights.new)) }
+    ensures flew { IfSome result (λ told. FliesInSlot (DbStepContract P.store M.meant) db.old (get nat_cmp flights.old) slot told.0 db.new (get nat_cmp flights.new)) }
+    ensures kept { IfSome result (λ told. told.1 ≡ K.kept (outcome_of told.0)) }
     ensures none { IfNone result (get nat_cmp flights.old slot ≡ None) }
     ensures same { IfNone result (flights.new.entries ≡ flights.old.entries) }
     ensures rests { IfNone result (db.new ≡ db.old) }
 {
     match flights.get_mut(&slot) {
-        Some(flight) => Some(db.advance(flight)),
+        Some(flight) => Some(db.advance_keeping(flight)),
         None => None,
     }
 }
 
 // The same, and a call that has ended is dropped.
-pub(crate) fn step_in<P: Pages, M: MergeOperator>(
+#[inline(always)]
+pub(crate) fn step_in<P: Pages, M: MergeOperator, K: Keep>(
     db: &mut Db<P, M>,
     flights: &mut BTreeMap<u64, InFlight>,
     slot: u64,
-) -> Option<Outcome>
+) -> Option<(Outcome, K)>
     requires { (f : InFlight) → get nat_cmp flights.old slot ≡ Some f → IsKnown (snapshot_of_db P.store db.old) f }
-    ensures steps { IfSome result (λ o. StepsInSlot (DbStepContract P.store M.meant) db.old (get nat_cmp flights.old) slot o db.new (get nat_cmp flights.new)) }
+    ensures steps { IfSome result (λ told. StepsInSlot (DbStepContract P.store M.meant) db.old (get nat_cmp flights.old) slot told.0 db.new (get nat_cmp flights.new)) }
+    ensures kept { IfSome result (λ told. told.1 ≡ K.kept told.0) }
     ensures none { IfNone result (get nat_cmp flights.old slot ≡ None) }
     ensures same { IfNone result (flights.new.entries ≡ flights.old.entries) }
     ensures rests { IfNone result (db.new ≡ db.old) }
 {
-    let Some(went) = advance_in(db, flights, slot) else {
+    let Some((went, kept)) = advance_in(db, flights, slot) else {
         return None;
     };
-    Some(settle(flights, slot, went))
-}
-
-// One step of the call in a slot, on the database, with copies of its reply, if there is one.
-fn keep_in<P: Pages, M: MergeOperator>(
-    db: &mut Db<P, M>,
-    flights: &mut BTreeMap<u64, InFlight>,
-    slot: u64,
-) -> Option<(Went, Option<(Reply, Reply)>)>
-    requires { (f : InFlight) → get nat_cmp flights.old slot ≡ Some f → IsKnown (snapshot_of_db P.store db.old) f }
-    ensures flew { IfSome result (λ kept. FliesInSlot (DbStepContract P.store M.meant) db.old (get nat_cmp flights.old) slot kept.0 db.new (get nat_cmp flights.new)) }
-    ensures kept { IfSome result (λ kept. kept.1 ≡ kept_of (outcome_of kept.0)) }
-    ensures none { IfNone result (get nat_cmp flights.old slot ≡ None) }
-    ensures same { IfNone result (flights.new.entries ≡ flights.old.entries) }
-    ensures rests { IfNone result (db.new ≡ db.old) }
-{
-    match flights.get_mut(&slot) {
-        Some(flight) => Some(db.advance_kept(flight)),
-        None => None,
-    }
-}
-
-// The same, and a call that has ended is dropped.
-pub(crate) fn step_kept_in<P: Pages, M: MergeOperator>(
-    db: &mut Db<P, M>,
-    flights: &mut BTreeMap<u64, InFlight>,
-    slot: u64,
-) -> Option<(Outcome, Option<(Reply, Reply)>)>
-    requires { (f : InFlight) → get nat_cmp flights.old slot ≡ Some f → IsKnown (snapshot_of_db P.store db.old) f }
-    ensures steps { IfSome result (λ o. StepsInSlot (DbStepContract P.store M.meant) db.old (get nat_cmp flights.old) slot o.0 db.new (get nat_cmp flights.new)) }
-    ensures kept { IfSome result (λ o. o.1 ≡ kept_of o.0) }
-    ensures none { IfNone result (get nat_cmp flights.old slot ≡ None) }
-    ensures same { IfNone result (flights.new.entries ≡ flights.old.entries) }
-    ensures rests { IfNone result (db.new ≡ db.old) }
-{
-    let Some((went, copies)) = keep_in(db, flights, slot) else {
-        return None;
-    };
-    Some((settle(flights, slot, went), copies))
+    Some((settle(flights, slot, went), kept))
 }
 
 // Steps of the call in a slot to its end, or of a scan to its next pair, on the database, if there is one.

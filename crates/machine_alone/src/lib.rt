@@ -9,7 +9,6 @@
 mod flights;
 mod laws;
 mod machine;
-mod step_kept;
 mod whole_kept;
 
 pub use laws::{law_extended, law_flushed, law_group, law_hears, law_scans, law_steps};

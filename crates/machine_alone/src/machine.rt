@@ -8,6 +8,7 @@ ghost use Rattle.sled_model.specs.declared.call.Whole.TheVariants.{Flush, PopMin
 ghost use Rattle.sled_model.specs.declared.call.Call.{Call};
 ghost use Rattle.sled_model.specs.declared.outcome.Outcome.TheVariants as outcome;
 ghost use Rattle.sled_model.specs.declared.outcome.Step.TheVariants as step;
+ghost use Rattle.tree_steps.specs.Outcomes.{kept_of};
 
 use crate::flights::{
     add, finish_in, job_in, outcome_at_once, outcome_of, remove, step_in, turns_in,
@@ -24,6 +25,7 @@ use sled_tree::{InFlight, Job};
 use std::alloc::AllocError;
 use std::collections::BTreeMap;
 use std::marker::Model;
+use tree_steps::Keep;
 
 /// A database and the calls in flight on it.
 pub struct Machine<P: Pages, M = Box<dyn MergeOperator + Send>> {
@@ -310,10 +312,49 @@ impl<P: Pages, M: MergeOperator> Machine<P, M> {
         ensures loses { MachineKeepsTreePages P.store self.old (step.Step slot) result self.new }
         ensures leaves { MachineLeaksNoPage P.store self.old (step.Step slot) result self.new }
     {
-        let Some(outcome) = step_in(&mut self.db, &mut self.flights, slot.0) else {
-            return Outcome::NoSuchSlot;
-        };
+        let (outcome, ()) = self.step_keeping(slot);
         outcome
+    }
+
+    /// Does the next page action of the call in the slot, as `step` does; if that decides the call, with two copies of the reply. They
+    /// are made before the action that decides it: if there is no memory for them the step is refused with `NoMemory`, which ends the
+    /// slot as any refusal does.
+    ///
+    /// ```
+    /// let slot = machine.begin(&tree, Call::remove(alloc, b"ulm")?)?;
+    /// let (outcome, copies) = machine.step_kept(slot); // No copies where it is `Moved`.
+    /// ```
+    pub fn step_kept(&mut self, slot: Slot) -> (Outcome, Option<(Reply, Reply)>)
+        ensures step { MachineStep P.store P.flush_number M.meant self.old (step.Step slot) result.0 self.new }
+        ensures sound { MachineSound P.store self.old self.new }
+        ensures does { MachineActs P.store M.meant self.old (step.Step slot) result.0 self.new }
+        ensures follows { MachineFollows P.store M.meant self.old (step.Step slot) result.0 self.new }
+        ensures passes { MachinePasses P.store self.old (step.Step slot) result.0 self.new }
+        ensures slots { MachineSlots self.old (step.Step slot) result.0 self.new }
+        ensures loses { MachineKeepsTreePages P.store self.old (step.Step slot) result.0 self.new }
+        ensures leaves { MachineLeaksNoPage P.store self.old (step.Step slot) result.0 self.new }
+        ensures kept { result.1 ≡ kept_of result.0 }
+    {
+        self.step_keeping(slot)
+    }
+
+    // The same, with what is kept of it.
+    #[inline(always)]
+    fn step_keeping<K: Keep>(&mut self, slot: Slot) -> (Outcome, K)
+        ensures step { MachineStep P.store P.flush_number M.meant self.old (step.Step slot) result.0 self.new }
+        ensures sound { MachineSound P.store self.old self.new }
+        ensures does { MachineActs P.store M.meant self.old (step.Step slot) result.0 self.new }
+        ensures follows { MachineFollows P.store M.meant self.old (step.Step slot) result.0 self.new }
+        ensures passes { MachinePasses P.store self.old (step.Step slot) result.0 self.new }
+        ensures slots { MachineSlots self.old (step.Step slot) result.0 self.new }
+        ensures loses { MachineKeepsTreePages P.store self.old (step.Step slot) result.0 self.new }
+        ensures leaves { MachineLeaksNoPage P.store self.old (step.Step slot) result.0 self.new }
+        ensures kept { result.1 ≡ K.kept result.0 }
+    {
+        let Some(told) = step_in(&mut self.db, &mut self.flights, slot.0) else {
+            return (Outcome::NoSuchSlot, K::nothing());
+        };
+        told
     }
 
     /// Abandons the call in the slot. What it did to the pages stays, and no map changes.

@@ -21,12 +21,11 @@ use Rattle.sled.specs.Values.{DbValue, db_state}
 use Rattle.machine_alone.specs.Ids.{RiseBetween}
 use Rattle.machine_alone.specs.Values.{MachineValue}
 use Rattle.machine_alone.proofs.Runs.{extended}
-use Rattle.machine_shared.specs.Fetches.{swap_made}
 use Rattle.machine_shared.specs.History.{MakesPoint, ids_made}
 use Rattle.machine_shared.specs.Made.{EntryValue, MadeValue, PointMade}
 use Rattle.machine_shared.specs.Notes.{entries_of}
 use Rattle.machine_shared.specs.Sound.{CrashLeaves, IsOpen, IsState, maps_now}
-use Rattle.machine_shared.specs.theory.Fetching.{SwapsNow, StaysStill}
+use Rattle.machine_shared.specs.Fetches.{SwapsNow, StaysStill, swap_made}
 use Rattle.machine_alone.proofs.Rising.{at_most}
 use Rattle.machine_shared.proofs.Ids.{longer_rises}
 use Rattle.machine_shared.proofs.Moments.{GoesOn}

@@ -26,3 +26,5 @@ pub mod UnderWay
 pub mod Gave
 pub mod ScanSteps
 pub mod ScanStates
+pub mod UnderLocks
+pub mod Going

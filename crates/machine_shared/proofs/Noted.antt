@@ -34,7 +34,7 @@ either_no_end : (b : Bool) (x y : Decision) → (x.reply ≡ told.End → ⊥) �
 either_no_end true x y f g h = f h
 either_no_end false x y f g h = g h
 
-no_end : (merge : Option Merge) (call : Call) (value : Option Key) → range_of call ≡ None → (decision_of merge call value).reply ≢ told.End
+pub no_end : (merge : Option Merge) (call : Call) (value : Option Key) → range_of call ≡ None → (decision_of merge call value).reply ≢ told.End
 no_end merge (Get k) value e h = cc
 no_end merge (Insert k v) value e h = cc
 no_end merge (Remove k) value e h = cc

@@ -33,8 +33,9 @@ use Rattle.machine_shared.specs.WholeNotes.{NotesWhole}
 use Rattle.machine_shared.specs.Scans.{ScansValue, NotesScan, begun_of, noted_at, scanned_of}
 use Rattle.machine_shared.specs.Sound.{CrashLeaves, HasScans, IsOpen}
 use Rattle.machine_shared.specs.Values.{StateValue}
-use Rattle.machine_shared.specs.theory.Fetching.{StaysStill, SwapsNow}
+use Rattle.machine_shared.specs.Fetches.{StaysStill, SwapsNow}
 use Rattle.machine_shared.specs.theory.Transacting.{GroupMade, GroupUnmade}
+use Rattle.machine_shared.specs.Scanned.{AreOfScans}
 use Rattle.machine_shared.specs.UnderWay.{MachineScans}
 use Rattle.machine_shared.proofs.Leading.{tested}
 use Rattle.machine_shared.proofs.Legal.{maps_same}
@@ -62,7 +63,7 @@ module _ {P M : Type 0} (store : P → Store) (number : P → ℕ) (meant : M �
         → IfErr r (λ e. MachineStepContract store number meant a (step.Begin tree call) (outcome.Refused e) b) → IfOk r (λ slot. NotesScan scans (noted_at slot (length history) (begun_of tree call)) new) → OnErr r (new ≡ scans)
         → MachineScans store b c.moments (length longer) new
     after_begin tree call (Ok slot) new ok err notes same = scans_begin (at_of a) (at_of b) l.moments c.moments (length history) (length longer) goes more (last_moment a opening history l) (last_moment b opening longer c) scans h ascend tree call slot ok.step.maps ok.step.step new notes
-    after_begin tree call (Err x) new ok err notes same = subst (λ (z : ScansValue). MachineScans store b c.moments (length longer) z) (sym same) (scans_quiet (at_of a) (at_of b) l.moments c.moments (length history) (length longer) goes more (last_moment a opening history l) (last_moment b opening longer c) scans h ascend (step.Begin tree call) (outcome.Refused x) err.step.maps err.step.step (λ s. refl))
+    after_begin tree call (Err x) new ok err notes same = subst (λ (z : ScansValue). MachineScans store b c.moments (length longer) z) (sym same) (scans_quiet (at_of a) (at_of b) l.moments c.moments (length history) (length longer) goes more (last_moment a opening history l) (last_moment b opening longer c) scans h ascend (step.Begin tree call) (outcome.Refused x) err.step.maps err.step.step (λ s. refl) tt)
 
     pub after_step : (i : ℕ) (o : Outcome) → MachineStep store number meant a (step.Step i) o b → AreSlotsGiven a.flights a.slots_given → (new : ScansValue) → NotesScan scans (noted_at i (length history) (scanned_of o)) new
         → MachineScans store b c.moments (length longer) new
@@ -80,7 +81,7 @@ module _ {P M : Type 0} (store : P → Store) (number : P → ℕ) (meant : M �
         go (Some f) is e = scans_key (at_of a) (at_of b) l.moments c.moments (length history) (length longer) goes more (last_moment a opening history l) (last_moment b opening longer c) scans h ascend i o t.maps t.step f is (ap (λ (j : Tree × Call). range_of j.1) (some_is e) ∙ key)
 
     pub after_abandon : (i : ℕ) (o : Outcome) → MachineStepContract store number meant a (step.Abandon i) o b → MachineScans store b c.moments (length longer) scans
-    after_abandon i o s = scans_quiet (at_of a) (at_of b) l.moments c.moments (length history) (length longer) goes more (last_moment a opening history l) (last_moment b opening longer c) scans h ascend (step.Abandon i) o s.step.maps s.step.step (λ slot. refl)
+    after_abandon i o s = scans_quiet (at_of a) (at_of b) l.moments c.moments (length history) (length longer) goes more (last_moment a opening history l) (last_moment b opening longer c) scans h ascend (step.Abandon i) o s.step.maps s.step.step (λ slot. refl) tt
 
     -- where nothing was done
     pub after_none : b ≡ a → MachineScans store b c.moments (length longer) scans
@@ -88,15 +89,15 @@ module _ {P M : Type 0} (store : P → Store) (number : P → ℕ) (meant : M �
 
     pub after_whole : (n : ℕ) (made more_made : List MadeValue) (w : Whole) (o : Outcome) → NotesWhole store number meant a history n made w o b longer more_made → MachineScans store b c.moments (length longer) scans
     after_whole n made more_made w o notes = elim notes.comes [
-      | inl d ↦ scans_quiet (at_of a) (at_of b) l.moments c.moments (length history) (length longer) goes more (last_moment a opening history l) (last_moment b opening longer c) scans h ascend (step.Whole w) o d.step.step.maps d.step.step.step (λ slot. refl)
+      | inl d ↦ scans_quiet (at_of a) (at_of b) l.moments c.moments (length history) (length longer) goes more (last_moment a opening history l) (last_moment b opening longer c) scans h ascend (step.Whole w) o d.step.step.maps d.step.step.step (λ slot. refl) tt
       | inr d ↦ after_none d.same
     ]
 
     pub after_group : (group : Vec (Tree × Writes)) (r : Result (Unit {0}) Error) → OnOk r (GroupMade store number meant a group b) → OnErr r (GroupUnmade store number meant a group b) → MachineScans store b c.moments (length longer) scans
-    after_group group (Ok x) made unmade = scans_quiet (at_of a) (at_of b) l.moments c.moments (length history) (length longer) goes more (last_moment a opening history l) (last_moment b opening longer c) scans h ascend (step.Whole (Group group)) (outcome.Decided made.reply) made.step.step.maps made.step.step.step (λ slot. refl)
+    after_group group (Ok x) made unmade = scans_quiet (at_of a) (at_of b) l.moments c.moments (length history) (length longer) goes more (last_moment a opening history l) (last_moment b opening longer c) scans h ascend (step.Whole (Group group)) (outcome.Decided made.reply) made.step.step.maps made.step.step.step (λ slot. refl) tt
     after_group group (Err x) made unmade = elim unmade [
       | inl same ↦ after_none same
-      | inr g ↦ scans_quiet (at_of a) (at_of b) l.moments c.moments (length history) (length longer) goes more (last_moment a opening history l) (last_moment b opening longer c) scans h ascend (step.Whole (Group group)) g.outcome g.step.step.maps g.step.step.step (λ slot. refl)
+      | inr g ↦ scans_quiet (at_of a) (at_of b) l.moments c.moments (length history) (length longer) goes more (last_moment a opening history l) (last_moment b opening longer c) scans h ascend (step.Whole (Group group)) g.outcome g.step.step.maps g.step.step.step (λ slot. refl) tt
     ]
 
     pub after_fetch : (tree : Tree) (key : Key) (r : Result (Option Key × Option Key) Error) → IfOk r (λ both. SwapsNow store meant a tree key both.0 both.1 b) → OnErr r (StaysStill store meant a b) → b ≡ record a { db = b.db } → Ascend (at_of b).state
@@ -116,12 +117,14 @@ no_shorter history longer more e =
 
 -- what a state tells of its scans
 pub has_scans : {P M : Type 0} (store : P → Store) (s : StateValue P M) (c : CrashLeaves store s.machine s.opening s.history) (to : ℕ) → MachineScans store s.machine c.moments to s.scans → HasScans store s
-has_scans store s c to h = record { moments = c.moments; last = c.last; are = c.are; now = c.now; gave = h.gave }
+has_scans store s c to h = record { moments = c.moments; last = c.last; are = c.are; now = c.now; gave = h.gave; of_scans = h.of_scans; going = h.going }
 
 -- before anything was noted
-pub first_scans : {P M : Type 0} (store : P → Store) (m : MachineValue P M) (moments : List Maps) (to : ℕ) (scans : ScansValue) → scans.notes ≡ [] → MachineScans store m moments to scans
-first_scans store m moments to scans none = record {
+pub first_scans : {P M : Type 0} (store : P → Store) (m : MachineValue P M) (moments : List Maps) (to : ℕ) (scans : ScansValue) → scans.notes ≡ [] → m.flights ≡ [] → MachineScans store m moments to scans
+first_scans store m moments to scans none empty = record {
   gave = λ n tree lo hi back i d. absurd (subst (λ ns. In n ns) none i);
+  of_scans = subst (λ ns. AreOfScans [] ns) (sym none) tt;
+  going = λ k slot f e. none_some (sym (ap (λ fs. slots_of fs slot) empty) ∙ e);
   bounded = λ n i. absurd (subst (λ ns. In n ns) none i);
   under_way = λ k o n tree lo hi back i d f e. absurd (subst (λ ns. In n ns) none i);
 }

@@ -8,7 +8,7 @@ use Rattle.sled_nodes.specs.Ranges.{Range}
 use Rattle.sled_store.specs.In.{In}
 use Rattle.sled_store.specs.theory.Facts.{put_here}
 use Rattle.sled_model.specs.Maps.{Maps}
-use Rattle.sled_model.specs.State.{State, CallInFlight, range_of}
+use Rattle.sled_model.specs.State.{State, CallInFlight, IsOnKey, range_of}
 use Rattle.sled_model.specs.Transition.{Configuration, Transition}
 use Rattle.sled_model.specs.declared.call.Call.{Call}
 use Rattle.sled_model.specs.declared.call.Call.TheVariants.{Scan}
@@ -24,13 +24,14 @@ use Rattle.scan_laws.proofs.Lists.{in_right}
 use Rattle.sled_queues.proofs.Closing.{opens_none}
 use Rattle.scan_laws.proofs.Staying.{leaves}
 use Rattle.machine_shared.specs.Moments.{AtOneMoment}
-use Rattle.machine_shared.specs.Scanned.{pair_of, gave_in, IsPairOf, GaveAllOf, AreScanned}
+use Rattle.machine_shared.specs.Scanned.{pair_of, gave_in, IsPairOf, GaveAllOf, AreOfScans, AreScanned}
 use Rattle.machine_shared.specs.Scans.{ScansValue, NotesScan, AreNoted, AreNotKept, Stops, begun_of, noted_at, scanned_of}
 use Rattle.machine_shared.specs.declared.scans.Scanned.{Scanned}
 use Rattle.machine_shared.specs.declared.scans.Scanned.TheVariants as did
 use Rattle.machine_shared.specs.declared.scans.ScanNote.{ScanNote}
-use Rattle.machine_shared.specs.UnderWay.{IsOfMoment, IsUnderWay, ScansAre}
+use Rattle.machine_shared.specs.UnderWay.{AreGoing, IsOfMoment, IsUnderWay, ScansAre}
 use Rattle.machine_shared.proofs.Gave.{GivesOn, are_later, are_more, gave_none, gave_nothing, gave_on, gave_one, gives_none, note_either}
+use Rattle.machine_shared.proofs.Going.{begin_noted, begun_last, going_after, of_one_more, of_step}
 use Rattle.machine_shared.proofs.Moments.{GoesOn}
 use Rattle.machine_shared.proofs.UnderWay.{WasThere, was_there, opens_of, ends_complete, gives_seen, stepped, yields_now, under_way_step, under_way_change}
 
@@ -98,6 +99,8 @@ module _ (A B : Configuration) (moments after : List Maps) (to later : ℕ) (goe
   unkept : A.state.slots_given ≤ B.state.slots_given → (new : ScansValue) → new.keeps ≡ false → new.notes ≡ scans.notes → KnownOf B after later new
   unkept given new none same = record {
     gave = subst (λ ns. AreScanned after ns) (sym same) (are_later goes h.gave);
+    of_scans = subst (λ ns. AreOfScans [] ns) (sym same) h.of_scans;
+    going = λ k. true_false (sym k ∙ none);
     bounded = λ n i. bounded_later given n (subst (λ ns. In n ns) same i);
     under_way = λ k. true_false (sym k ∙ none);
   }
@@ -106,6 +109,8 @@ module _ (A B : Configuration) (moments after : List Maps) (to later : ℕ) (goe
   pub scans_beside : B.state.slots ≡ A.state.slots → B.state.slots_given ≡ A.state.slots_given → Ascend B.state → (B.state.is_open ≡ true → A.state.is_open ≡ true) → KnownOf B after later scans
   scans_beside same given asc opens = record {
     gave = are_later goes h.gave;
+    of_scans = h.of_scans;
+    going = λ k slot f e. h.going k slot f (sym (ap (λ (z : ℕ → Option CallInFlight). z slot) same) ∙ e);
     bounded = bounded_later (le_of_eq (sym given));
     under_way = λ k o n tree lo hi back i d f e.
         let from = (h.bounded n i).1 in
@@ -134,9 +139,11 @@ module _ (A B : Configuration) (moments after : List Maps) (to later : ℕ) (goe
         (at_a (opened e) n.at from) (at_b e n.at (le_trans from more)) (there n i) f here
 
     -- a step that is no slot's own
-    pub scans_quiet : ((slot : ℕ) → is_own slot s ≡ false) → KnownOf B after later scans
-    scans_quiet none = record {
+    pub scans_quiet : ((slot : ℕ) → is_own slot s ≡ false) → begin_noted s o (scans.notes ++ []) → KnownOf B after later scans
+    scans_quiet none noted = record {
       gave = are_later goes h.gave;
+      of_scans = h.of_scans;
+      going = λ k. subst (λ ns. AreGoing B.state.slots ns) (append-nil scans.notes) (going_after A B s o maps t.is scans.notes [] (h.going k) noted);
       bounded = bounded_later given_rises;
       under_way = λ k e n tree lo hi back i d f here. goes_on k e scans.notes n tree lo hi back i d (sym (ap (λ x. gave_in n.slot scans.notes ++ cond x (given_by o) []) (none n.slot) ∙ append-nil (gave_in n.slot scans.notes))) f here;
     }
@@ -239,6 +246,8 @@ module _ (A B : Configuration) (moments after : List Maps) (to later : ℕ) (goe
     scans_step given new (Stops k some e) = unkept (given_rises (step.Step i) o maps t) new (ap (λ (z : ScansValue). z.keeps) e) (ap (λ (z : ScansValue). z.notes) e)
     scans_step given new (AreNoted k e) = subst (λ (z : ScansValue). KnownOf B after later z) (sym e) (record {
       gave = are_later goes (gave_now k);
+      of_scans = of_step A B i to o maps t.is scans.notes (h.going k) h.of_scans;
+      going = λ kept. going_after A B (step.Step i) o maps t.is scans.notes (noted_at i to (scanned_of o)) (h.going k) tt;
       bounded = λ n x. bounded_step n x (fits given);
       under_way = λ kept is_open n tree lo hi back x d f here.
           goes_on (step.Step i) o maps t k is_open (scans.notes ++ noted_at i to (scanned_of o)) n tree lo hi back (old_begun n tree lo hi back x d) d (gave_step n.slot i to o scans.notes) f here;
@@ -248,6 +257,8 @@ module _ (A B : Configuration) (moments after : List Maps) (to later : ℕ) (goe
     pub scans_key : (f : CallInFlight) → A.state.slots i ≡ Some f → range_of f.call ≡ None → KnownOf B after later scans
     scans_key f there key = record {
       gave = are_later goes h.gave;
+      of_scans = h.of_scans;
+      going = λ k. subst (λ ns. AreGoing B.state.slots ns) (append-nil scans.notes) (going_after A B (step.Step i) o maps t.is scans.notes [] (h.going k) tt);
       bounded = bounded_later (given_rises (step.Step i) o maps t);
       under_way = λ k e n tree lo hi back x d g here. goes_on (step.Step i) o maps t k e scans.notes n tree lo hi back x d (quiet k (opened (step.Step i) o maps t e) n tree lo hi back x d (nat_eq i n.slot) refl) g here;
     }
@@ -310,6 +321,8 @@ module _ (A B : Configuration) (moments after : List Maps) (to later : ℕ) (goe
       scans_begun : scans.keeps ≡ true → KnownOf B after later (record { keeps = true; notes = scans.notes ++ begin_note lo hi back ∷ [] })
       scans_begun k = record {
         gave = are_later goes gave_begun;
+        of_scans = of_one_more [] scans.notes (begin_note lo hi back) h.of_scans (record { lo = lo; hi = hi; back = back }, refl);
+        going = λ kept. going_after A B (step.Begin tree call) (outcome.Begun slot) maps t.is scans.notes (begin_note lo hi back ∷ []) (h.going k) (inr (begun_last scans.notes slot (begin_note lo hi back) refl tt));
         bounded = λ n i. elim (note_either n scans.notes (begin_note lo hi back) i) [
           | inl old ↦ bounded_later (given_rises (step.Begin tree call) (outcome.Begun slot) maps t) n old
           | inr same ↦ subst (λ (m : ScanNote). (m.slot ≤ B.state.slots_given) × (m.at ≤ later)) (sym same) (le_of_eq (sym (ap (λ (z : State). z.slots_given) t.is.0.is)), more)
@@ -327,10 +340,10 @@ module _ (A B : Configuration) (moments after : List Maps) (to later : ℕ) (goe
     scans_begin new (Stops k some e) = unkept (given_rises (step.Begin tree call) (outcome.Begun slot) maps t) new (ap (λ (z : ScansValue). z.keeps) e) (ap (λ (z : ScansValue). z.notes) e)
     scans_begin new (AreNoted k e) = subst (λ (z : ScansValue). KnownOf B after later z) (sym e) (go call refl)
       where
-        nothing : KnownOf B after later (record { keeps = true; notes = scans.notes ++ [] })
-        nothing = subst (λ (z : ScansValue). KnownOf B after later z) (ap (λ x. record { keeps = x; notes = scans.notes }) k ∙ ap (λ ns. record { keeps = true; notes = ns }) (sym (append-nil scans.notes)))
-            (scans_quiet (step.Begin tree call) (outcome.Begun slot) maps t (λ s. refl))
+        nothing : IsOnKey call → KnownOf B after later (record { keeps = true; notes = scans.notes ++ [] })
+        nothing key = subst (λ (z : ScansValue). KnownOf B after later z) (ap (λ x. record { keeps = x; notes = scans.notes }) k ∙ ap (λ ns. record { keeps = true; notes = ns }) (sym (append-nil scans.notes)))
+            (scans_quiet (step.Begin tree call) (outcome.Begun slot) maps t (λ s. refl) (inl key))
 
         go : (z : Call) → call ≡ z → KnownOf B after later (record { keeps = true; notes = scans.notes ++ noted_at slot to (begun_of tree z) })
         go (Scan lo hi back) is = scans_begun lo hi back is k
-        go other is = nothing
+        go other is = nothing (ap range_of is)

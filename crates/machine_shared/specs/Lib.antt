@@ -14,6 +14,7 @@ pub mod UnderWay
 pub mod Crashes
 pub mod Sound
 pub mod Steps
+pub mod UnderLock
 pub mod Notes
 pub mod WholeNotes
 pub mod Replies

@@ -5,6 +5,7 @@ use Rattle.sled_nodes.specs.Order.{Key}
 use Rattle.sled_nodes.specs.Ranges.{Range, is_in_range}
 use Rattle.sled_store.specs.In.{In}
 use Rattle.sled_model.specs.Maps.{Map, Maps}
+use Rattle.sled_model.specs.State.{range_of}
 use Rattle.sled_model.specs.declared.call.Call.TheVariants.{Scan}
 use Rattle.sled_model.specs.declared.tree.Tree.{Tree}
 use Rattle.scan_laws.specs.Scanned.{InOrder}
@@ -47,3 +48,25 @@ pub record GaveAllOf (moments : List Maps) (notes : List ScanNote) (slot from : 
 abbrev pub AreScanned : List Maps → List ScanNote → Type 0
 AreScanned moments notes = (n : ScanNote) (tree : Tree) (lo hi : Bound Key) (back : Bool) → In n notes → n.did ≡ did.Begun tree (Scan lo hi back)
     → GaveAllOf moments notes n.slot n.at tree (record { lo = lo; hi = hi; back = back })
+
+-- it is noted that something began
+abbrev pub IsBegin : Scanned → Type 0
+IsBegin (did.Begun tree call) = Unit {0}
+IsBegin d = ⊥
+
+-- the begin of a scan in this slot is noted
+pub record HasBegun (notes : List ScanNote) (slot : ℕ) : Type 0 where
+  pub note : ScanNote
+  pub there : In note notes
+  pub here : note.slot ≡ slot
+  pub begins : IsBegin note.did
+
+-- what began is a scan, and a pair or an end is one of a scan whose begin was noted before it
+abbrev pub is_of_scan : List ScanNote → ℕ → Scanned → Type 0
+is_of_scan before slot (did.Begun tree call) = (bounds : Range) × (range_of call ≡ Some bounds)
+is_of_scan before slot d = HasBegun before slot
+
+-- so it is with all that is noted behind these
+abbrev pub AreOfScans : List ScanNote → List ScanNote → Type 0
+AreOfScans before [] = Unit {0}
+AreOfScans before (n ∷ ns) = is_of_scan before n.slot n.did × AreOfScans (before ++ n ∷ []) ns

@@ -7,12 +7,13 @@ use Rattle.sled_model.specs.State.{maps_of}
 use Rattle.sled.specs.Values.{db_state}
 use Rattle.machine_alone.specs.CrashMaps.{AreCrashMaps}
 use Rattle.machine_alone.specs.Ids.{RiseBetween}
-use Rattle.machine_alone.specs.Values.{MachineValue}
+use Rattle.machine_alone.specs.Values.{MachineValue, slots_of}
 use Rattle.machine_shared.specs.Made.{EntryValue}
 use Rattle.machine_shared.specs.Crashes.{LeadsThrough}
 use Rattle.machine_shared.specs.History.{IsLegal, maps_from, ids_made}
 use Rattle.machine_shared.specs.Moments.{AreMoments}
-use Rattle.machine_shared.specs.Scanned.{AreScanned}
+use Rattle.machine_shared.specs.Scanned.{AreOfScans, AreScanned}
+use Rattle.machine_shared.specs.UnderWay.{AreGoing}
 use Rattle.machine_shared.specs.Values.{StateValue}
 
 -- the database is open
@@ -64,13 +65,15 @@ abbrev pub HasCrashMaps : {P M : Type 0} → (P → Store) → StateValue P M �
 HasCrashMaps store s = CrashLeaves store s.machine s.opening s.history
 
 -- .. and by the maps at each moment of its history, the last of which are the maps now while the database is open, each scan whose begin
--- was noted gave what scans give
+-- was noted gave what scans give. Nothing else is noted, and while notes are kept the begin of each scan in flight is
 pub record HasScans {P M : Type 0} (store : P → Store) (s : StateValue P M) : Type 0 where
   pub moments : List Maps
   pub last : Maps
   pub are : AreMoments (maps_from s.opening) s.history last moments
   pub now : IsOpen store s.machine → last ≡ maps_now store s.machine
   pub gave : AreScanned moments s.scans.notes
+  pub of_scans : AreOfScans [] s.scans.notes
+  pub going : s.scans.keeps ≡ true → AreGoing (slots_of s.machine.flights) s.scans.notes
 
 -- the ids in its history rise, up to the greatest that the database gave
 abbrev pub HasRisingIds : {P M : Type 0} → StateValue P M → Type 0

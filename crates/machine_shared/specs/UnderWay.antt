@@ -1,11 +1,11 @@
 -- What is known of the scans that are under way.
-use Rattle.std.specs.Prelude.{◌≡◌, ◌≤◌, ℕ, Bool, true, not, List, Option, Some}
+use Rattle.std.specs.Prelude.{◌≡◌, ◌⊎◌, ◌≤◌, ℕ, Bool, true, not, List, [], Option, Some, None}
 use Rattle.std.specs.declared.ops.Bound.{Bound}
 use Rattle.sled_nodes.specs.Order.{Key}
 use Rattle.sled_store.specs.In.{In}
 use Rattle.sled_store.specs.Store.{Store, now}
 use Rattle.sled_model.specs.Maps.{Maps}
-use Rattle.sled_model.specs.State.{State, NamedTree, CallInFlight, maps_of}
+use Rattle.sled_model.specs.State.{State, NamedTree, CallInFlight, IsOnKey, maps_of}
 use Rattle.sled_model.specs.Transition.{Configuration, Transition}
 use Rattle.sled_model.specs.declared.call.Call.TheVariants.{Scan}
 use Rattle.sled_model.specs.declared.tree.Tree.{Tree}
@@ -16,7 +16,7 @@ use Rattle.sled_model.specs.declared.outcome.Outcome.TheVariants.{Begun}
 use Rattle.scan_laws.specs.Scanned.{Ascend, RunsBeside, NoSteps, OneMore, OneBeside, AtOwnSteps, yielded}
 use Rattle.machine_alone.specs.Values.{MachineValue, slots_of}
 use Rattle.machine_shared.specs.Moments.{AtOneMoment}
-use Rattle.machine_shared.specs.Scanned.{AreScanned, gave_in}
+use Rattle.machine_shared.specs.Scanned.{AreOfScans, AreScanned, HasBegun, gave_in}
 use Rattle.machine_shared.specs.Scans.{ScansValue}
 use Rattle.machine_shared.specs.declared.scans.Scanned.TheVariants as did
 use Rattle.machine_shared.specs.declared.scans.ScanNote.{ScanNote}
@@ -56,10 +56,22 @@ pub record IsUnderWay (moments : List Maps) (notes : List ScanNote) (slot from t
   pub moments_are : Throughout (IsOfMoment moments from to) run
   pub numbered : AtOwnSteps slot (IsNumbered tree) run
 
--- What is known of the scans that were noted: what they gave; and while notes are kept and the database is open, by which steps those that
--- are in flight gave it
+-- a call on a key has nothing to give
+pub record IsQuiet (f : CallInFlight) : Type 0 where
+  pub key : IsOnKey f.call
+  pub waits : f.waiting ≡ []
+  pub reads : f.rest ≡ None
+
+-- of each scan in flight the begin is noted
+abbrev pub AreGoing : (ℕ → Option CallInFlight) → List ScanNote → Type 0
+AreGoing slots notes = (slot : ℕ) (f : CallInFlight) → slots slot ≡ Some f → HasBegun notes slot ⊎ IsQuiet f
+
+-- What is known of the scans that were noted: what they gave; while notes are kept, that those in flight are noted; and while the database
+-- is open too, by which steps these gave it
 pub record ScansAre (is_open : Bool) (slots : ℕ → Option CallInFlight) (slots_given : ℕ) (moments : List Maps) (to : ℕ) (scans : ScansValue) : Type 0 where
   pub gave : AreScanned moments scans.notes
+  pub of_scans : AreOfScans [] scans.notes
+  pub going : scans.keeps ≡ true → AreGoing slots scans.notes
   pub bounded : (n : ScanNote) → In n scans.notes → (n.slot ≤ slots_given) × (n.at ≤ to)
   pub under_way : scans.keeps ≡ true → is_open ≡ true → (n : ScanNote) (tree : Tree) (lo hi : Bound Key) (back : Bool) → In n scans.notes → n.did ≡ did.Begun tree (Scan lo hi back)
       → (f : CallInFlight) → slots n.slot ≡ Some f → IsUnderWay moments scans.notes n.slot n.at to tree lo hi back slots slots_given

@@ -1,5 +1,4 @@
 pub mod Noting
-pub mod Fetching
 pub mod Transacting
 pub mod Reading
 pub mod Orders

@@ -3,7 +3,7 @@ ghost use Rattle.std.specs.Prelude.{◌≡◌, ◌++◌, IfNone, IfSome, Some};
 ghost use Rattle.std.specs.Option.{option_map};
 ghost use Rattle.sled_model.specs.State.{IsOnKey};
 ghost use Rattle.machine_alone.specs.Values.{slots_of, job_of_call};
-ghost use Rattle.machine_shared.specs.theory.Copied.{AddsStepped, AreCopies, TakesOn};
+ghost use Rattle.machine_shared.specs.theory.Copied.{AddsStepped, AreCopies, EndsStepped, TakesOn};
 ghost use Rattle.machine_shared.specs.Notes.{IsEnd, entries_of, noted_of};
 ghost use Rattle.machine_shared.specs.Steps.{SlotStep};
 ghost use Rattle.machine_shared.specs.theory.Noting.{job_pair};
@@ -89,8 +89,11 @@ impl<P: Pages, L: Ledger, M: MergeOperator> State<P, L, M> {
         requires key { IsOnKey jobs.0.call }
         ensures made { AddsStepped jobs.0.tree jobs.0.call result me.old.made me.new.made }
         ensures number { me.new.number ≡ me.old.number }
+        ensures ends { EndsStepped P.store P.flush_number M.meant jobs.0.tree jobs.0.call result me.old me.new }
     {
+        self.audit();
         let (outcome, left) = self.step_copied(me, slot, jobs);
+        self.audit();
         taken_on(outcome, slot, left)
     }
 
@@ -100,8 +103,12 @@ impl<P: Pages, L: Ledger, M: MergeOperator> State<P, L, M> {
         requires key { IsOnKey call }
         ensures made { AddsStepped tree.now call result me.old.made me.new.made }
         ensures number { me.new.number ≡ me.old.number }
+        ensures ends { EndsStepped P.store P.flush_number M.meant tree.now call result me.old me.new }
     {
-        match self.begin(tree, call) {
+        self.audit();
+        let begun = self.begin(tree, call);
+        self.audit();
+        match begun {
             Ok(slot) => self.step_on(me, slot, jobs),
             Err(e) => {
                 drop(jobs);
@@ -125,6 +132,7 @@ pub(crate) fn begin_on<P: Pages, L: Ledger, M: MergeOperator>(
     requires key { IsOnKey call }
     ensures made { AddsStepped tree.now call result me.old.made me.new.made }
     ensures number { me.new.number ≡ me.old.number }
+    ensures ends { EndsStepped P.store P.flush_number M.meant tree.now call result me.old me.new }
 {
     match held {
         None => {
@@ -147,6 +155,7 @@ pub(crate) fn step_on<P: Pages, L: Ledger, M: MergeOperator>(
     requires key { IsOnKey jobs.0.call }
     ensures made { AddsStepped jobs.0.tree jobs.0.call result me.old.made me.new.made }
     ensures number { me.new.number ≡ me.old.number }
+    ensures ends { EndsStepped P.store P.flush_number M.meant jobs.0.tree jobs.0.call result me.old me.new }
 {
     match held {
         Some(state) if has_job(&state.machine, slot, &jobs.0) => state.step_on(me, slot, jobs),

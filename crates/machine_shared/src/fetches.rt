@@ -5,8 +5,7 @@ ghost use Rattle.std.specs.Option.{option_copied, option_map};
 ghost use Rattle.sled_model.specs.declared.call.Call.TheVariants as call;
 ghost use Rattle.sled_model.specs.declared.reply.Reply.TheVariants as told;
 ghost use Rattle.sled.specs.Fetch.{Answers, Stands};
-ghost use Rattle.machine_shared.specs.Fetches.{MakesOf, swap_made};
-ghost use Rattle.machine_shared.specs.theory.Fetching.{StaysStill, SwapsNow};
+ghost use Rattle.machine_shared.specs.Fetches.{MakesOf, StaysStill, SwapsNow, swap_made};
 ghost use Rattle.machine_shared.specs.Made.{PointMade, made_value};
 ghost use Rattle.machine_shared.specs.theory.Noting.{first_noted, second_noted};
 

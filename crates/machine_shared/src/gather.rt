@@ -3,6 +3,7 @@ ghost use Rattle.std.specs.Prelude.{◌≡◌, ◌+◌, true, All, IfOk, IfErr, 
 ghost use Rattle.sled_model.specs.Collections.{contents_of};
 ghost use Rattle.machine_shared.specs.Sound.{HasCrashMaps, HasHistory, HasLegalHistory, HasRisingIds, HasScans};
 ghost use Rattle.machine_shared.specs.Gathered.{EachOnceBehind, IsMadeIn, IsOfGiven};
+ghost use Rattle.machine_shared.specs.UnderLock.{IsHeld};
 
 use crate::compare::{all_agree, are_all, are_same_collections, has_no_others};
 use crate::db::Db;
@@ -66,6 +67,7 @@ impl<P: Pages, L: Ledger, M: MergeOperator> Db<P, L, M> {
         ensures crashes { IfOk result (HasCrashMaps P.store) }
         ensures scans { IfOk result (HasScans P.store) }
         ensures ids { IfOk result HasRisingIds }
+        ensures held { IfOk result (IsHeld P.store) }
         ensures err { IfErr result (λ e. (e.0 ≡ self) × (e.1 ≡ handles)) }
     {
         match self.take_if(rt, handles.as_slice()) {
@@ -96,6 +98,7 @@ impl<P: Pages, L: Ledger, M: MergeOperator> Db<P, L, M> {
         ensures crashes { IfOk result (HasCrashMaps P.store) }
         ensures scans { IfOk result (HasScans P.store) }
         ensures ids { IfOk result HasRisingIds }
+        ensures held { IfOk result (IsHeld P.store) }
         ensures err { IfErr result (λ d. d ≡ self) }
     {
         match self.take_left(rt) {

@@ -1,16 +1,16 @@
 //! Callers' ways to a database that is shared.
-ghost use Rattle.std.specs.Prelude.{◌≡◌, ◌++◌, IfOk, OnErr, Option};
+ghost use Rattle.std.specs.Prelude.{◌≡◌, ◌++◌, Err, IfErr, IfOk, Ok, OnErr, Option};
 ghost use Rattle.std.specs.Option.{option_copied};
 ghost use Rattle.sled_model.specs.State.{IsOnKey};
 ghost use Rattle.sled_model.specs.declared.call.Call.{Call};
 ghost use Rattle.sled_model.specs.declared.call.Call.TheVariants.{Get, Insert, Remove, CompareAndSwap, Merge};
 ghost use Rattle.sled_nodes.specs.Order.{Key};
-ghost use Rattle.machine_shared.specs.theory.Copied.{AddsStepped, AreCopies};
-ghost use Rattle.machine_shared.specs.Fetches.{Fetches};
+ghost use Rattle.machine_shared.specs.theory.Copied.{AddsStepped, AreCopies, EndsStepped};
+ghost use Rattle.machine_shared.specs.Fetches.{Fetches, FetchesUnderLock};
 ghost use Rattle.machine_shared.specs.Made.{made_values};
 ghost use Rattle.machine_shared.specs.Notes.{AddsStep, IsEnd, IsGivenUp, noted_of};
 ghost use Rattle.machine_shared.specs.Replies.{RepliesTo};
-ghost use Rattle.machine_shared.specs.Steps.{StepsUnderLock};
+ghost use Rattle.machine_shared.specs.UnderLock.{AbandonsUnderLock, BeginsUnderLock, EndsUnderLock, StepsUnderLock, WholesUnderLock};
 ghost use Rattle.machine_shared.specs.WholeNotes.{AddsWhole};
 
 use crate::called::{Stepped, begin_on, step_on};
@@ -20,7 +20,7 @@ use crate::noting::{Jobs, copies_of};
 use crate::state::State;
 use crate::steps::{abandon_in, begin_in, fetch_adding, step_adding, whole_adding};
 use sled_model::{Call, MergeOperator, Outcome, Slot, Tree, Whole};
-use sled_nodes::{IVec, Result};
+use sled_nodes::{Error, IVec, Result};
 use sled_store::Pages;
 use std::alloc::{AllocError, Global};
 use std::marker::Model;
@@ -93,7 +93,8 @@ impl<P: Pages, L: Ledger, M: MergeOperator> Handle<P, L, M> {
     /// let slot = handle.begin(rt, &tree, Call::get(alloc, b"ulm")?)?;
     /// ```
     pub fn begin(&mut self, rt: &impl Wait, tree: &Tree, call: Call) -> Result<Slot>
-        ensures { self.new ≡ self.old }
+        ensures same { self.new ≡ self.old }
+        ensures begins { BeginsUnderLock P.store P.flush_number M.meant tree.now call result }
     {
         let mut guard = self.lock.lock(rt);
         let begun = begin_in(&mut *guard, tree, call);
@@ -102,7 +103,7 @@ impl<P: Pages, L: Ledger, M: MergeOperator> Handle<P, L, M> {
     }
 
     /// One step of the call in the slot, whichever caller began it. A call on a key that it decides becomes this caller's. The contract
-    /// says this of some state with a legal history; that it is the state under the lock is tested.
+    /// says this of some states of which all holds that holds under the lock; that it is this lock is tested.
     ///
     /// ```
     /// let outcome = handle.step(rt, slot);
@@ -110,7 +111,7 @@ impl<P: Pages, L: Ledger, M: MergeOperator> Handle<P, L, M> {
     pub fn step(&mut self, rt: &impl Wait, slot: Slot) -> Outcome
         ensures made { AddsStep result self.old.made self.new.made }
         ensures number { self.new.number ≡ self.old.number }
-        ensures steps { StepsUnderLock P.store P.flush_number M.meant self.old.number slot result }
+        ensures steps { StepsUnderLock P.store P.flush_number M.meant slot result self.old self.new }
     {
         let mut guard = self.lock.lock(rt);
         let outcome = step_adding(&mut *guard, &mut self.me, slot);
@@ -126,6 +127,7 @@ impl<P: Pages, L: Ledger, M: MergeOperator> Handle<P, L, M> {
     pub fn abandon(&mut self, rt: &impl Wait, slot: Slot) -> Outcome
         ensures given_up { IsGivenUp result }
         ensures same { self.new ≡ self.old }
+        ensures abandons { AbandonsUnderLock P.store P.flush_number M.meant slot result }
     {
         let mut guard = self.lock.lock(rt);
         let outcome = abandon_in(&mut *guard, slot);
@@ -144,6 +146,7 @@ impl<P: Pages, L: Ledger, M: MergeOperator> Handle<P, L, M> {
         ensures made { AddsWhole whole result self.old.made self.new.made }
         ensures replies { RepliesTo whole result }
         ensures number { self.new.number ≡ self.old.number }
+        ensures wholes { WholesUnderLock P.store P.flush_number M.meant whole result self.old self.new }
     {
         let mut guard = self.lock.lock(rt);
         let outcome = whole_adding(&mut *guard, &mut self.me, whole);
@@ -165,6 +168,7 @@ impl<P: Pages, L: Ledger, M: MergeOperator> Handle<P, L, M> {
         ensures ok { IfOk result (λ both. Fetches F.FnMut f tree.now key.now both.0 both.1 self.old.made self.new.made) }
         ensures err { OnErr result (self.new.made ≡ self.old.made) }
         ensures number { self.new.number ≡ self.old.number }
+        ensures under_lock { FetchesUnderLock P.store M.meant tree.now key.now result self.old self.new }
     {
         let mut guard = self.lock.lock(rt);
         let fetched = fetch_adding(&mut *guard, &mut self.me, tree, key, f);
@@ -196,6 +200,8 @@ impl<P: Pages, L: Ledger, M: MergeOperator> Handle<P, L, M> {
         ensures ok { IfOk result (λ made. (stood : Option Key) × Fetches F.FnMut f tree.now key.now stood made self.old.made self.new.made) }
         ensures err { OnErr result (self.new.made ≡ self.old.made) }
         ensures number { self.new.number ≡ self.old.number }
+        ensures under_lock { IfOk result (λ made. (stood : Option Key) × FetchesUnderLock P.store M.meant tree.now key.now (Ok (stood, made)) self.old self.new) }
+        ensures refused { IfErr result (λ e. FetchesUnderLock P.store M.meant tree.now key.now (Err e) self.old self.new) }
     {
         match self.fetch(rt, tree, key, f) {
             Ok((stood, made)) => {
@@ -224,6 +230,8 @@ impl<P: Pages, L: Ledger, M: MergeOperator> Handle<P, L, M> {
         ensures ok { IfOk result (λ stood. (made : Option Key) × Fetches F.FnMut f tree.now key.now stood made self.old.made self.new.made) }
         ensures err { OnErr result (self.new.made ≡ self.old.made) }
         ensures number { self.new.number ≡ self.old.number }
+        ensures under_lock { IfOk result (λ stood. (made : Option Key) × FetchesUnderLock P.store M.meant tree.now key.now (Ok (stood, made)) self.old self.new) }
+        ensures refused { IfErr result (λ e. FetchesUnderLock P.store M.meant tree.now key.now (Err e) self.old self.new) }
     {
         match self.fetch(rt, tree, key, f) {
             Ok((stood, made)) => {
@@ -240,6 +248,7 @@ impl<P: Pages, L: Ledger, M: MergeOperator> Handle<P, L, M> {
         requires key { IsOnKey call }
         ensures made { AddsStepped tree.now call result self.old.made self.new.made }
         ensures number { self.new.number ≡ self.old.number }
+        ensures ends { EndsStepped P.store P.flush_number M.meant tree.now call result self.old self.new }
     {
         let mut guard = self.lock.lock(rt);
         let stepped = begin_on(&mut *guard, &mut self.me, tree, call, jobs);
@@ -253,6 +262,7 @@ impl<P: Pages, L: Ledger, M: MergeOperator> Handle<P, L, M> {
         requires key { IsOnKey jobs.0.call }
         ensures made { AddsStepped jobs.0.tree jobs.0.call result self.old.made self.new.made }
         ensures number { self.new.number ≡ self.old.number }
+        ensures ends { EndsStepped P.store P.flush_number M.meant jobs.0.tree jobs.0.call result self.old self.new }
     {
         let mut guard = self.lock.lock(rt);
         let stepped = step_on(&mut *guard, &mut self.me, slot, jobs);
@@ -267,6 +277,7 @@ impl<P: Pages, L: Ledger, M: MergeOperator> Handle<P, L, M> {
         ensures made { self.new.made ≡ self.old.made ++ noted_of result jobs.0.tree jobs.0.call }
         ensures number { self.new.number ≡ self.old.number }
         ensures ends { IsEnd result }
+        ensures under_lock { EndsUnderLock P.store P.flush_number M.meant jobs.0.tree jobs.0.call result self.old self.new }
     {
         let mut left = jobs;
         for _ in rt.forever() {
@@ -291,12 +302,14 @@ impl<P: Pages, L: Ledger, M: MergeOperator> Handle<P, L, M> {
         ensures made { self.new.made ≡ self.old.made ++ noted_of result tree.now call }
         ensures number { self.new.number ≡ self.old.number }
         ensures ends { IsEnd result }
+        ensures under_lock { EndsUnderLock P.store P.flush_number M.meant tree.now call result self.old self.new }
     {
         let jobs = match copies_of(tree, &call) {
             Ok(jobs) => jobs,
             Err(e) => {
+                drop(e);
                 drop(call);
-                return Outcome::Refused(e);
+                return Outcome::Refused(Error::NoMemory);
             }
         };
         match self.begin_on(rt, tree, call, jobs) {
@@ -311,10 +324,14 @@ impl<P: Pages, L: Ledger, M: MergeOperator> Handle<P, L, M> {
         ensures made { (call : Call) → IfOk made (λ it. it ≡ call) → self.new.made ≡ self.old.made ++ noted_of result tree.now call }
         ensures number { self.new.number ≡ self.old.number }
         ensures ends { IsEnd result }
+        ensures under_lock { (call : Call) → IfOk made (λ it. it ≡ call) → EndsUnderLock P.store P.flush_number M.meant tree.now call result self.old self.new }
     {
         match made {
             Ok(call) => self.call(rt, tree, call, &NoGate),
-            Err(e) => Outcome::Refused(e),
+            Err(e) => {
+                drop(e);
+                Outcome::Refused(Error::NoMemory)
+            }
         }
     }
 
@@ -328,6 +345,7 @@ impl<P: Pages, L: Ledger, M: MergeOperator> Handle<P, L, M> {
         ensures made { self.new.made ≡ self.old.made ++ noted_of result tree.now (Get key.now) }
         ensures number { self.new.number ≡ self.old.number }
         ensures ends { IsEnd result }
+        ensures under_lock { EndsUnderLock P.store P.flush_number M.meant tree.now (Get key.now) result self.old self.new }
     {
         self.call_made(rt, tree, Call::get(alloc, key))
     }
@@ -349,6 +367,7 @@ impl<P: Pages, L: Ledger, M: MergeOperator> Handle<P, L, M> {
         ensures made { self.new.made ≡ self.old.made ++ noted_of result tree.now (Insert key.now value.now) }
         ensures number { self.new.number ≡ self.old.number }
         ensures ends { IsEnd result }
+        ensures under_lock { EndsUnderLock P.store P.flush_number M.meant tree.now (Insert key.now value.now) result self.old self.new }
     {
         self.call_made(rt, tree, Call::insert(alloc, key, value))
     }
@@ -363,6 +382,7 @@ impl<P: Pages, L: Ledger, M: MergeOperator> Handle<P, L, M> {
         ensures made { self.new.made ≡ self.old.made ++ noted_of result tree.now (Remove key.now) }
         ensures number { self.new.number ≡ self.old.number }
         ensures ends { IsEnd result }
+        ensures under_lock { EndsUnderLock P.store P.flush_number M.meant tree.now (Remove key.now) result self.old self.new }
     {
         self.call_made(rt, tree, Call::remove(alloc, key))
     }
@@ -385,6 +405,7 @@ impl<P: Pages, L: Ledger, M: MergeOperator> Handle<P, L, M> {
         ensures made { self.new.made ≡ self.old.made ++ noted_of result tree.now (CompareAndSwap key.now (option_copied old.entry) (option_copied new.entry)) }
         ensures number { self.new.number ≡ self.old.number }
         ensures ends { IsEnd result }
+        ensures under_lock { EndsUnderLock P.store P.flush_number M.meant tree.now (CompareAndSwap key.now (option_copied old.entry) (option_copied new.entry)) result self.old self.new }
     {
         self.call_made(rt, tree, Call::compare_and_swap(alloc, key, old, new))
     }
@@ -406,6 +427,7 @@ impl<P: Pages, L: Ledger, M: MergeOperator> Handle<P, L, M> {
         ensures made { self.new.made ≡ self.old.made ++ noted_of result tree.now (Merge key.now bytes.now) }
         ensures number { self.new.number ≡ self.old.number }
         ensures ends { IsEnd result }
+        ensures under_lock { EndsUnderLock P.store P.flush_number M.meant tree.now (Merge key.now bytes.now) result self.old self.new }
     {
         self.call_made(rt, tree, Call::merge(alloc, key, bytes))
     }

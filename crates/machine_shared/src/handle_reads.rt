@@ -8,6 +8,7 @@ ghost use Rattle.machine_shared.specs.declared.read.Answer.TheVariants as told;
 ghost use Rattle.machine_shared.specs.theory.Orders.{IsPage};
 ghost use Rattle.machine_shared.specs.declared.read.Question.TheVariants as asks;
 ghost use Rattle.machine_shared.specs.declared.read.Read.TheVariants as read;
+ghost use Rattle.machine_shared.specs.UnderLock.{ReadsUnderLock};
 
 use crate::handle::Handle;
 use crate::read::{Answer, Question};
@@ -108,6 +109,7 @@ impl<P: Pages, L: Ledger, M: MergeOperator> Handle<P, L, M> {
         ensures ok { IfOk result (λ answer. self.new.made ≡ self.old.made ++ ReadMade (read.Tree tree.now question answer) ∷ []) }
         ensures err { OnErr result (self.new.made ≡ self.old.made) }
         ensures number { self.new.number ≡ self.old.number }
+        ensures looks { ReadsUnderLock P.store M.meant (λ answer. read.Tree tree.now question answer) result self.old self.new }
     {
         let mut guard = self.lock.lock(rt);
         let answer = read_in(&mut *guard, &mut self.me, tree, question);
@@ -313,6 +315,7 @@ impl<P: Pages, L: Ledger, M: MergeOperator> Handle<P, L, M> {
         ensures ok { IfOk result (λ names. self.new.made ≡ self.old.made ++ ReadMade (read.Names names) ∷ []) }
         ensures err { OnErr result (self.new.made ≡ self.old.made) }
         ensures number { self.new.number ≡ self.old.number }
+        ensures looks { ReadsUnderLock P.store M.meant read.Names result self.old self.new }
     {
         let mut guard = self.lock.lock(rt);
         let names = tree_names_in(&mut *guard, &mut self.me);
@@ -330,6 +333,7 @@ impl<P: Pages, L: Ledger, M: MergeOperator> Handle<P, L, M> {
         ensures ok { IfOk result (λ all. self.new.made ≡ self.old.made ++ ReadMade (read.Export all) ∷ []) }
         ensures err { OnErr result (self.new.made ≡ self.old.made) }
         ensures number { self.new.number ≡ self.old.number }
+        ensures looks { ReadsUnderLock P.store M.meant read.Export result self.old self.new }
     {
         let mut guard = self.lock.lock(rt);
         let all = export_in(&mut *guard, &mut self.me);

@@ -42,6 +42,7 @@ impl<P: Pages, L: Ledger, M> Model for State<P, L, M> {
 impl<P: Pages, L: Ledger, M: MergeOperator> State<P, L, M> {
     ghost use Rattle.std.specs.Prelude.{◌≡◌, ◌<◌};
     ghost use Rattle.machine_shared.specs.Sound.{HasCrashMaps, HasHistory, HasLegalHistory, HasRisingIds, HasScans};
+    ghost use Rattle.machine_shared.specs.UnderLock.{IsHeld};
 
     /// The machine, lent: its database, its pages and its calls in flight. So a program can ask whether the database of a state is open.
     ///
@@ -66,7 +67,9 @@ impl<P: Pages, L: Ledger, M: MergeOperator> State<P, L, M> {
         ensures crashes { HasCrashMaps P.store self }
         ensures scans { HasScans P.store self }
         ensures ids { HasRisingIds self }
+        ensures held { IsHeld P.store self }
     {
+        self.audit();
         let Self {
             machine,
             opening,

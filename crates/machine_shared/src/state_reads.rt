@@ -3,6 +3,7 @@ ghost use Rattle.std.specs.Prelude.{◌≡◌, ◌++◌, ◌∷◌, [], IfOk, On
 ghost use Rattle.machine_shared.specs.Made.{ReadMade};
 ghost use Rattle.machine_shared.specs.Reads.{IsAnswerTo};
 ghost use Rattle.machine_shared.specs.declared.read.Read.TheVariants as read;
+ghost use Rattle.machine_shared.specs.UnderLock.{Looks, ReadsUnderLock, read_made};
 
 use crate::caller::Caller;
 use crate::noting::note_and_count;
@@ -24,6 +25,7 @@ impl<P: Pages, L: Ledger, M: MergeOperator> State<P, L, M> {
         ensures number { me.new.number ≡ me.old.number }
         ensures machine { self.new.machine ≡ self.old.machine }
         ensures scans { self.new.scans ≡ self.old.scans }
+        ensures looks { Looks (read_made (λ answer. read.Tree tree.now question answer) result) me.old me.new self.old self.new }
     {
         self.machine.audit();
         let Caller {
@@ -50,6 +52,7 @@ impl<P: Pages, L: Ledger, M: MergeOperator> State<P, L, M> {
         ensures number { me.new.number ≡ me.old.number }
         ensures machine { self.new.machine ≡ self.old.machine }
         ensures scans { self.new.scans ≡ self.old.scans }
+        ensures looks { Looks (read_made read.Names result) me.old me.new self.old self.new }
     {
         self.machine.audit();
         let Caller {
@@ -76,6 +79,7 @@ impl<P: Pages, L: Ledger, M: MergeOperator> State<P, L, M> {
         ensures number { me.new.number ≡ me.old.number }
         ensures machine { self.new.machine ≡ self.old.machine }
         ensures scans { self.new.scans ≡ self.old.scans }
+        ensures looks { Looks (read_made read.Export result) me.old me.new self.old self.new }
     {
         self.machine.audit();
         let Caller {
@@ -109,13 +113,19 @@ pub(crate) fn read_in<P: Pages, L: Ledger, M: MergeOperator>(
     ensures ok { IfOk result (λ answer. me.new.made ≡ me.old.made ++ ReadMade (read.Tree tree.now question answer) ∷ []) }
     ensures err { OnErr result (me.new.made ≡ me.old.made) }
     ensures number { me.new.number ≡ me.old.number }
+    ensures looks { ReadsUnderLock P.store M.meant (λ answer. read.Tree tree.now question answer) result me.old me.new }
 {
     match held {
         None => {
             drop(question);
             Err(Error::Closed)
         }
-        Some(state) => state.read(me, tree, question),
+        Some(state) => {
+            state.audit();
+            let answer = state.read(me, tree, question);
+            state.audit();
+            answer
+        }
     }
 }
 
@@ -127,10 +137,16 @@ pub(crate) fn tree_names_in<P: Pages, L: Ledger, M: MergeOperator>(
     ensures ok { IfOk result (λ names. me.new.made ≡ me.old.made ++ ReadMade (read.Names names) ∷ []) }
     ensures err { OnErr result (me.new.made ≡ me.old.made) }
     ensures number { me.new.number ≡ me.old.number }
+    ensures looks { ReadsUnderLock P.store M.meant read.Names result me.old me.new }
 {
     match held {
         None => Err(Error::Closed),
-        Some(state) => state.tree_names(me),
+        Some(state) => {
+            state.audit();
+            let names = state.tree_names(me);
+            state.audit();
+            names
+        }
     }
 }
 
@@ -142,9 +158,15 @@ pub(crate) fn export_in<P: Pages, L: Ledger, M: MergeOperator>(
     ensures ok { IfOk result (λ all. me.new.made ≡ me.old.made ++ ReadMade (read.Export all) ∷ []) }
     ensures err { OnErr result (me.new.made ≡ me.old.made) }
     ensures number { me.new.number ≡ me.old.number }
+    ensures looks { ReadsUnderLock P.store M.meant read.Export result me.old me.new }
 {
     match held {
         None => Err(Error::Closed),
-        Some(state) => state.export(me),
+        Some(state) => {
+            state.audit();
+            let all = state.export(me);
+            state.audit();
+            all
+        }
     }
 }

@@ -6,15 +6,15 @@ ghost use Rattle.sled_model.specs.declared.outcome.Step.TheVariants as step;
 ghost use Rattle.sled_model.specs.declared.outcome.Outcome.TheVariants as outcome;
 ghost use Rattle.machine_alone.specs.Step.{MachineStepContract};
 ghost use Rattle.machine_alone.specs.Values.{slots_of, job_of_call};
-ghost use Rattle.machine_shared.specs.Fetches.{Fetches};
+ghost use Rattle.machine_shared.specs.Fetches.{Fetches, FetchesOnce, FetchesUnderLock, StaysStill, SwapsNow};
 ghost use Rattle.machine_shared.specs.Made.{entry_values};
 ghost use Rattle.machine_shared.specs.Notes.{AddsStep, IsGivenUp, entries_of, noted_in};
 ghost use Rattle.machine_shared.specs.Replies.{RepliesTo};
 ghost use Rattle.machine_shared.specs.Scans.{AreInOrder, NotesScan, begun_of, noted_at, scanned_of};
 ghost use Rattle.machine_shared.specs.Sound.{HasCrashMaps, HasHistory, HasLegalHistory, HasRisingIds, HasScans};
-ghost use Rattle.machine_shared.specs.Steps.{SlotStep, StepsUnderLock};
-ghost use Rattle.machine_shared.specs.theory.Fetching.{StaysStill, SwapsNow};
+ghost use Rattle.machine_shared.specs.Steps.{SlotStep};
 ghost use Rattle.machine_shared.specs.theory.Noting.{job_pair};
+ghost use Rattle.machine_shared.specs.UnderLock.{AbandonsUnderLock, BeginsUnderLock, IsHeld, StepsUnderLock, WholesUnderLock};
 ghost use Rattle.machine_shared.specs.WholeNotes.{AddsWhole, NotesWhole};
 
 use crate::caller::Caller;
@@ -181,6 +181,7 @@ impl<P: Pages, L: Ledger, M: MergeOperator> State<P, L, M> {
         ensures still { OnErr result (StaysStill P.store M.meant self.old.machine self.new.machine) }
         ensures same { self.new.machine ≡ record (self.old.machine) { db = self.new.machine.db } }
         ensures scans { self.new.scans ≡ self.old.scans }
+        ensures once { FetchesOnce P.store M.meant tree.now key.now result me.old me.new self.old self.new }
     {
         self.machine.audit();
         let Caller {
@@ -264,7 +265,7 @@ impl<P: Pages, L: Ledger, M: MergeOperator> State<P, L, M> {
     /// What holds of every state: the history is legal. From the opening on each entry's call replied and wrote what it would have, made
     /// alone at its place, and while the database is open the maps after the last entry are the maps now. What a crash may leave are the
     /// maps after each entry and part of it, from its last flush on. The ids in it rise, and none is above the greatest that the database
-    /// gave. It does nothing.
+    /// gave. Its pages are well formed, and what its calls in flight know of them is true. It does nothing.
     ///
     /// ```
     /// state.audit(); // From here on a proof knows that the history is legal.
@@ -275,8 +276,9 @@ impl<P: Pages, L: Ledger, M: MergeOperator> State<P, L, M> {
         ensures crashes { HasCrashMaps P.store self.now }
         ensures scans { HasScans P.store self.now }
         ensures ids { HasRisingIds self.now }
+        ensures held { IsHeld P.store self.now }
     {
-        let _history = &self.history;
+        self.machine.audit();
     }
 }
 
@@ -288,13 +290,20 @@ pub(crate) fn begin_in<P: Pages, L: Ledger, M: MergeOperator>(
     held: &mut Option<State<P, L, M>>,
     tree: &Tree,
     call: Call,
-) -> Result<Slot> {
+) -> Result<Slot>
+    ensures begins { BeginsUnderLock P.store P.flush_number M.meant tree.now call result }
+{
     match held {
         None => {
             drop(call);
             Err(Error::Closed)
         }
-        Some(state) => state.begin(tree, call),
+        Some(state) => {
+            state.audit();
+            let begun = state.begin(tree, call);
+            state.audit();
+            begun
+        }
     }
 }
 
@@ -306,11 +315,12 @@ pub(crate) fn step_adding<P: Pages, L: Ledger, M: MergeOperator>(
 ) -> Outcome
     ensures made { AddsStep result me.old.made me.new.made }
     ensures number { me.new.number ≡ me.old.number }
-    ensures steps { StepsUnderLock P.store P.flush_number M.meant me.old.number slot result }
+    ensures steps { StepsUnderLock P.store P.flush_number M.meant slot result me.old me.new }
 {
     match held {
         None => Outcome::Refused(Error::Closed),
         Some(state) => {
+            state.audit();
             let outcome = state.step(me, slot);
             state.audit();
             outcome
@@ -323,11 +333,17 @@ pub(crate) fn abandon_in<P: Pages, L: Ledger, M: MergeOperator>(
     held: &mut Option<State<P, L, M>>,
     slot: Slot,
 ) -> Outcome
-    ensures { IsGivenUp result }
+    ensures given_up { IsGivenUp result }
+    ensures abandons { AbandonsUnderLock P.store P.flush_number M.meant slot result }
 {
     match held {
         None => Outcome::Refused(Error::Closed),
-        Some(state) => state.abandon(slot),
+        Some(state) => {
+            state.audit();
+            let outcome = state.abandon(slot);
+            state.audit();
+            outcome
+        }
     }
 }
 
@@ -341,13 +357,19 @@ pub(crate) fn whole_adding<P: Pages, L: Ledger, M: MergeOperator>(
     ensures made { AddsWhole whole result me.old.made me.new.made }
     ensures replies { RepliesTo whole result }
     ensures number { me.new.number ≡ me.old.number }
+    ensures wholes { WholesUnderLock P.store P.flush_number M.meant whole result me.old me.new }
 {
     match held {
         None => {
             drop(whole);
             Outcome::Refused(Error::Closed)
         }
-        Some(state) => state.whole(me, whole),
+        Some(state) => {
+            state.audit();
+            let outcome = state.whole(me, whole);
+            state.audit();
+            outcome
+        }
     }
 }
 
@@ -365,12 +387,18 @@ where
     ensures ok { IfOk result (λ both. Fetches F.FnMut f tree.now key.now both.0 both.1 me.old.made me.new.made) }
     ensures err { OnErr result (me.new.made ≡ me.old.made) }
     ensures number { me.new.number ≡ me.old.number }
+    ensures under_lock { FetchesUnderLock P.store M.meant tree.now key.now result me.old me.new }
 {
     match held {
         None => {
             drop(f);
             Err(Error::Closed)
         }
-        Some(state) => state.fetch(me, tree, key, f),
+        Some(state) => {
+            state.audit();
+            let fetched = state.fetch(me, tree, key, f);
+            state.audit();
+            fetched
+        }
     }
 }

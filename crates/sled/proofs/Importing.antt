@@ -216,8 +216,12 @@ module _ {P M : Type 0} (store : P → Store) (meant : M → Merge) where
       opens : OpensTree (db_state store meant old) name (told.Tree tree) (db_state store meant new) w.maps
       opens = w.decides (λ n. None) 0 0
 
-      pub replied : tree ≡ record { database = old.name; name = name; number = number_opened ((db_state store meant old).trees name) (db_state store meant old) }
+      replied : tree ≡ record { database = old.name; name = name; number = number_opened ((db_state store meant old).trees name) (db_state store meant old) }
       replied = told_tree _ _ opens.replies
+
+      -- so is a copy that was made before of what names it
+      pub copy_opened : (number : ℕ) → number ≡ number_opened ((db_state store meant old).trees name) (db_state store meant old) → (copy : Tree) → copy ≡ record { database = old.name; name = name; number = number } → told.Tree copy ≡ told.Tree tree
+      copy_opened number ahead copy is = ap told.Tree (is ∙ ap (λ (n : ℕ). record { database = old.name; name = name; number = n }) ahead ∙ sym replied)
 
       pub opened_name : tree.name ≡ name
       opened_name = ap (λ (t : Tree). t.name) replied

@@ -14,8 +14,8 @@ pub mod Reading
 pub mod Scanning
 pub mod Counting
 pub mod Popping
-pub mod Keeping
 pub mod Promising
+pub mod Mapping
 pub mod Fetching
 pub mod Naming
 pub mod Numbering

@@ -24,8 +24,8 @@ use Rattle.sled.specs.Values.{DbValue, numbers_of, given_to, named, state_of, db
 use Rattle.sled.specs.Sound.{IsDb}
 use Rattle.sled.specs.Calls.{MustBeRefused, must_be_refused_as}
 use Rattle.sled.specs.Operators.{OperatorSet, OperatorNotSet, without_operators}
-use Rattle.tree_pages.specs.theory.Operators.{with_operator}
-use Rattle.tree_pages.proofs.Operating.{find_set, find_other}
+use Rattle.tree_lists.specs.theory.Operators.{with_operator}
+use Rattle.tree_lists.proofs.Operating.{find_set, find_other}
 use Rattle.sled.proofs.Testing.{first_alone, must_plain, must_operated, must_unoperated, must_first}
 use Rattle.sled.proofs.Trees.{current}
 

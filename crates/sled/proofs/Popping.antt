@@ -38,6 +38,9 @@ use Rattle.sled.specs.Reads.{ReadsMap, RefusesReading, refuses_reading_as, stops
 use Rattle.tree_groups.specs.Writes.{ActsOften, NoAction, OneAction}
 use Rattle.sled.specs.Direct.{Conducts, PointDecided, PointRefused, WholeDecided, WholeRefused, effect_of_whole, changes_only, lost_of, LeavesAll, changes_refused}
 use Rattle.sled.specs.Pops.{TakesOut, RefusesToTake, IsAtEnd, PopsBySteps, PopRefusedBySteps, GivesUpPop, ClearsBySteps, ClearsNone, ClearsMore, ClearRefusedBySteps}
+use Rattle.sled.specs.declared.whole.Side.{Side}
+use Rattle.sled.specs.declared.whole.Side.TheVariants.{Least, Greatest}
+use Rattle.sled.specs.theory.Pops.{reads_of, end_of, pop_of, takes_as, leaves_pair_as}
 use Rattle.sled.specs.Parts.{most_parts, told_parts, ClearsParts}
 use Rattle.sled.proofs.Conducting.{conducts_then, conducts_none, conducts_refused}
 use Rattle.sled.proofs.Counting.{told_one}
@@ -112,7 +115,7 @@ min_is tree = record {
   refuses = λ s a b e new may is. (may, is, refl);
 }
 
-pub max_is : (tree : Tree) → IsPop (IsPredecessor Unbounded) IsGreatest tree (PopMax tree)
+max_is : (tree : Tree) → IsPop (IsPredecessor Unbounded) IsGreatest tree (PopMax tree)
 max_is tree = record {
   ends = greatest_is;
   which = inr refl;
@@ -121,6 +124,10 @@ max_is tree = record {
   decides = λ old reply new maps k. k;
   refuses = λ s a b e new may is. (may, is, refl);
 }
+
+pub pop_is : (side : Side) (tree : Tree) → IsPop (reads_of side) (end_of side) tree (pop_of side tree)
+pop_is Least tree = min_is tree
+pop_is Greatest tree = max_is tree
 
 -- what a pop does and leaves is what the removal does and leaves
 module _ (tree : Tree) (whole : Whole) (which : (whole ≡ PopMin tree) ⊎ (whole ≡ PopMax tree)) where
@@ -207,8 +214,8 @@ module _ {P M : Type 0} (store : P → Store) (meant : M → Merge) (old : DbVal
   at_found read found e r = record { tested = r.tested; named = r.named; there = r.there; is = pop.ends r.named.map found (subst (reads r.named.map) e r.is) }
 
   -- the tree has no pair
-  pub pop_none : IsDb store old → (read : Option (Key × Key)) → read ≡ None → ReadsMap store meant old tree (λ map. reads map read) → WholeDecided store meant old whole (Pair None) old
-  pop_none db read e r = let k = at_found read None e r in pop_decided tree whole pop.which store meant old (Pair None) old (maps_of (db_state store meant old) ∷ [])
+  pop_none : IsDb store old → ReadsMap store meant old tree (λ map. reads map None) → WholeDecided store meant old whole (Pair None) old
+  pop_none db r = let k = at_found None None refl r in pop_decided tree whole pop.which store meant old (Pair None) old (maps_of (db_state store meant old) ∷ [])
       (λ slots given number. pop.decides (configuration_of store meant old slots given number) (Pair None) (state_of store meant old slots given) (maps_of (db_state store meant old) ∷ [])
       (record { free = pop.must (state_of store meant old slots given) ∙ r.tested; named = k.named; there = k.there; found = None; ends = k.is; replies = refl; is = refl; added = refl }))
       (let none = conducts_none store meant old in record {
@@ -227,7 +234,7 @@ module _ {P M : Type 0} (store : P → Store) (meant : M → Merge) (old : DbVal
     at_end = let k = at_found read (Some pair) pair_is r in record { named = k.named; there = k.there; ends = k.is }
 
     -- the pair was taken out
-    pub pop_found : (found : Option (Key × Key)) (new : DbValue P M) → TakesOut store meant old tree pair found new → WholeDecided store meant old whole (Pair found) new
+    pop_found : (found : Option (Key × Key)) (new : DbValue P M) → TakesOut store meant old tree pair found new → WholeDecided store meant old whole (Pair found) new
     pop_found found new t =
         let d = t.decided.decides in
         pop_decided tree whole pop.which store meant old (Pair found) new (maps_of (db_state store meant new) ∷ [])
@@ -253,7 +260,7 @@ module _ {P M : Type 0} (store : P → Store) (meant : M → Merge) (old : DbVal
     may_end slots given b e k = record { is = subst (λ o. may_refuse_as o (state_of store meant old slots given) (store old.pages) b (ToCall whole) e) (sym (pop.must (state_of store meant old slots given) ∙ r.tested)) (pop.cause (state_of store meant old slots given) (store old.pages) b e k) }
 
     -- it was not taken out
-    pub pop_untaken : (e : Error) (new : DbValue P M) → RefusesToTake store meant old tree pair e new → WholeRefused store meant old whole e new
+    pop_untaken : (e : Error) (new : DbValue P M) → RefusesToTake store meant old tree pair e new → WholeRefused store meant old whole e new
     pop_untaken e new t = elim t.is [
       | inl p ↦ refused e new
           (λ slots given. may_end slots given (store new.pages) e (take_cause slots given (store new.pages) e (subst (λ o. may_refuse_as o (db_state store meant old) (store old.pages) (store new.pages) (ToPoint tree (Remove pair.0)) e) (first_alone (must_refuse_of (db_state store meant old) (tree ∷ [])) ∙ r.tested) p.refuses.may.is)))
@@ -263,19 +270,13 @@ module _ {P M : Type 0} (store : P → Store) (meant : M → Merge) (old : DbVal
           (refused error.NoMemory old (λ slots given. may_end slots given (store old.pages) error.NoMemory tt) refl (conducts_refused store meant old error.NoMemory refl) (λ must. refl)))
     ]
 
-    pub taken_steps : (found : Option (Key × Key)) (new : DbValue P M) → TakesOut store meant old tree pair found new → PopsBySteps store meant old tree is_end found new
-    taken_steps found new t = record { is = inr (pair, at_end, t) }
-
-    pub untaken_steps : (of : ℕ → ℕ) (e : Error) (new : DbValue P M) → RefusesToTake store meant old tree pair e new → PopRefusedBySteps store meant old tree is_end of e new
-    untaken_steps of e new t = record { is = inr (pair, at_end, t) }
-
-    pub gives_up_untaken : (of : ℕ → ℕ) (e : Error) (new : DbValue P M) → RefusesToTake store meant old tree pair e new → GivesUpPop store meant old tree is_end of e
+    gives_up_untaken : (of : ℕ → ℕ) (e : Error) (new : DbValue P M) → RefusesToTake store meant old tree pair e new → GivesUpPop store meant old tree is_end of e
     gives_up_untaken of e new t = elim t.is [
       | inl p ↦ record { is = λ turns. inr (record { named = at_end.named; there = at_end.there; pair = pair; ends = at_end.ends; long = p.turns turns }) }
       | inr m ↦ record { is = λ turns. absurd (subst TellsTurns m.0 turns) }
     ]
 
-  pub gives_up_unread : (of : ℕ → ℕ) (e : Error) → RefusesReading store meant old tree of e → GivesUpPop store meant old tree is_end of e
+  gives_up_unread : (of : ℕ → ℕ) (e : Error) → RefusesReading store meant old tree of e → GivesUpPop store meant old tree is_end of e
   gives_up_unread of e r = record { is = λ turns. inl (go e (must_refuse_of (db_state store meant old) (tree ∷ [])) r.is turns) }
     where
       go : (e : Error) (o : Option MustRefuse) → refuses_reading_as store meant old tree of o e → TellsTurns e → MOST_PAGES ≤ of (tree_pages (now (store old.pages)) tree.name)
@@ -283,12 +284,25 @@ module _ {P M : Type 0} (store : P → Store) (meant : M → Merge) (old : DbVal
       go e (Some must) k turns = absurd (untold_turns (Some must) e k turns)
       go other None k turns = absurd turns
 
-module _ {P M : Type 0} (store : P → Store) (meant : M → Merge) (old : DbValue P M) (tree : Tree) where
-  pub none_steps : (is_end : Map → Option (Key × Key) → Type 0) → PopsBySteps store meant old tree is_end None old
-  none_steps is_end = record { is = inl (refl, refl) }
+  -- what a refused pop promises, whether the read was refused or the removal
+  abbrev Stops : (ℕ → ℕ) → Error → DbValue P M → Type 0
+  Stops of e new = WholeRefused store meant old whole e new × GivesUpPop store meant old tree is_end of e × PopRefusedBySteps store meant old tree is_end of e new
 
-  pub unread_steps : (is_end : Map → Option (Key × Key) → Type 0) (of : ℕ → ℕ) (e : Error) → RefusesReading store meant old tree of e → PopRefusedBySteps store meant old tree is_end of e old
-  unread_steps is_end of e r = record { is = inl (r, refl) }
+  pub stops_unread : (of : ℕ → ℕ) (e : Error) → RefusesReading store meant old tree of e → Stops of e old
+  stops_unread of e r = (pop_unread of e r, gives_up_unread of e r, record { is = inl (r, refl) })
+
+  pub stops_untaken : (found : Option (Key × Key)) → ReadsMap store meant old tree (λ map. reads map found) → (of : ℕ → ℕ) (e : Error) (new : DbValue P M) → leaves_pair_as store meant old tree found e new → Stops of e new
+  stops_untaken None r of e new t = absurd t
+  stops_untaken (Some pair) r of e new t = (pop_untaken pair (Some pair) refl r e new t, gives_up_untaken pair (Some pair) refl r of e new t, record { is = inr (pair, at_end pair (Some pair) refl r, t) })
+
+  -- what one promises that is decided
+  pub takes_out : IsDb store old → (found : Option (Key × Key)) → ReadsMap store meant old tree (λ map. reads map found) → (new : DbValue P M) → takes_as store meant old tree found new → WholeDecided store meant old whole (Pair found) new × PopsBySteps store meant old tree is_end found new
+  takes_out db None r new same = subst (λ z. WholeDecided store meant old whole (Pair None) z × PopsBySteps store meant old tree is_end None z) (sym same) (pop_none db r, record { is = inl (refl, refl) })
+  takes_out db (Some pair) r new t = (pop_found pair (Some pair) refl r (Some pair) new t, record { is = inr (pair, at_end pair (Some pair) refl r, t) })
+
+-- there was no memory for what was read
+pub short_read : {P M : Type 0} (store : P → Store) (meant : M → Merge) (old : DbValue P M) (tree : Tree) (claim : Map → Type 0) → ReadsMap store meant old tree claim → (of : ℕ → ℕ) (e : Error) → e ≡ error.NoMemory → RefusesReading store meant old tree of e
+short_read store meant old tree claim r of e is = record { is = subst (λ o. refuses_reading_as store meant old tree of o e) (sym r.tested) (subst (stops_reading store meant old tree of) (sym is) tt) }
 
 -- ---- clears
 

@@ -69,7 +69,7 @@ none_out : (k : Key) (m : Map) → T (is_sorted key_cmp m) → find key_cmp k m 
 none_out k m sorted none =
     sym (same_entries key_cmp key_total key_same (without k m) m (is_sorted-where_key key_cmp (λ x. not (eq_by_cmp key_cmp k x)) m sorted) sorted (none_stays k m none))
 
-remove_takes : (merge : Option Merge) (k : Key) (m : Map) → T (is_sorted key_cmp m) → (answer_of merge (Remove k) m).map ≡ without k m
+pub remove_takes : (merge : Option Merge) (k : Key) (m : Map) → T (is_sorted key_cmp m) → (answer_of merge (Remove k) m).map ≡ without k m
 remove_takes merge k m sorted = go (find key_cmp k m) refl
   where
     go : (o : Option Key) → find key_cmp k m ≡ o → map_after (decision_of merge (Remove k) o).effect k m ≡ without k m
@@ -237,6 +237,13 @@ module _ {P M : Type 0} (store : P → Store) (meant : M → Merge) (old : DbVal
         did new (calls.Merge key bytes) (Value value) q (Merges ((db_state store meant old).trees tree.name) key bytes value)
         (subst (λ o. Merges o key bytes value named.map (answer_of named.merge (calls.Merge key bytes) named.map).map) (sym q.decides.there)
         (merge_is named key bytes value named.merge refl (ap has_operator (sym q.decides.there) ∙ has_one (db_state store meant old) tree key bytes q.decides.free) q.decides.replies))
+
+  -- a swap that found what stood sets the other value
+  pub sets : (key : Key) (stood made : Option Key) (new : DbValue P M) → PointDecided store meant old tree (CompareAndSwap key stood made) (Swapped (Ok tt)) new → ChangesMap store meant old tree (λ before after. (stood ≡ find key_cmp key before) × (after ≡ with_value key made before)) new
+  sets key stood made new p =
+      let m = p.decides.named.map in
+      let s = swap_is key stood made m (same_value (find key_cmp key m) stood) refl (Ok tt) p.decides.replies in
+      (did new (CompareAndSwap key stood made) (Swapped (Ok tt)) p (λ before after. (stood ≡ find key_cmp key before) × (after ≡ with_value key made before)) (sym s.0, s.1)).changes
 
   -- ---- the records, made of their parts again
 

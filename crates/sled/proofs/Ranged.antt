@@ -1,19 +1,17 @@
 -- The removal of all keys within two bounds.
-use Rattle.std.proofs.Common.{◌≡◌, ◌⊎◌, inl, inr, ℕ, Bool, true, false, ◌&&◌, List, [], ◌∷◌, ◌++◌, length, map, Option, Some, None, option_map, Result, Ok, Err, IfOk, IfErr, OnOk, Ordering, is_lt, sym, refl, ap, ◌∙◌, subst}
+use Rattle.std.proofs.Common.{◌≡◌, ◌⊎◌, inl, inr, ℕ, Bool, true, false, ◌&&◌, List, [], ◌∷◌, ◌++◌, length, Option, Some, None, option_map, Result, Ok, Err, IfOk, IfErr, Ordering, is_lt, sym, refl, ap, ◌∙◌, subst}
 use Rattle.std.specs.FinMap.Entries.{is_sorted, below_all, put, where_key, is_sorted-where_key}
 use Rattle.std.specs.declared.ops.Bound.{Bound}
-use Rattle.sled_nodes.proofs.Basics.{some_is, none_some, true_of, of_true}
+use Rattle.sled_nodes.proofs.Basics.{true_of, of_true}
 use Rattle.sled_nodes.specs.Among.{is_from, is_up_to}
 use Rattle.sled_nodes.specs.Order.{Key, key_cmp}
-use Rattle.sled_nodes.specs.Ranges.{is_reversed}
 use Rattle.sled_nodes.specs.declared.error.Error.{Error}
 use Rattle.sled_nodes.specs.declared.error.Error.TheVariants as error
-use Rattle.sled_batch.specs.Batch.{Writes, Rises}
+use Rattle.sled_batch.specs.Batch.{Writes}
 use Rattle.sled_batch.proofs.Copying.{SoFar, copied_on, copied_all}
-use Rattle.sled_store.specs.Store.{Store, now}
+use Rattle.sled_store.specs.Store.{Store}
 use Rattle.sled_model.specs.Maps.{Map, Merge}
 use Rattle.sled_model.specs.State.{NamedTree, maps_of}
-use Rattle.sled_model.specs.Groups.{writes_of, events_of_writes}
 use Rattle.sled_model.specs.Refusal.{MustRefuse, must_refuse_of}
 use Rattle.sled_model.specs.declared.tree.Tree.{Tree}
 use Rattle.tree_reads.specs.Ranges.{Coming, pairs_within, TakesFirst, whole}
@@ -21,7 +19,7 @@ use Rattle.tree_reads.specs.Walk.{RefusesWalk, once}
 use Rattle.tree_reads.proofs.Ranging.{reversed_none}
 use Rattle.sled.specs.Values.{DbValue, db_state}
 use Rattle.sled.specs.Sound.{IsDb, MapsAscend}
-use Rattle.sled.specs.Calls.{MustBeRefused, must_be_refused_as}
+use Rattle.sled.specs.Calls.{must_be_refused_as}
 use Rattle.sled.specs.Reads.{ReadsMap, BeginsRange, RefusesReading, refuses_reading_as, stops_reading, RefusesRange, refuses_range_as}
 use Rattle.sled.specs.Groups.{GroupDecided, GroupRefused, IsQuietGroup}
 use Rattle.sled.specs.Removals.{removals, removals_within, range_group, RangeRemoved}

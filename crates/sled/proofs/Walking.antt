@@ -5,7 +5,6 @@ use Rattle.std.specs.Ordering.{nat_cmp}
 use Rattle.sled_nodes.specs.Node.{value_at}
 use Rattle.sled_nodes.specs.declared.error.Error.{Error}
 use Rattle.sled_store.specs.Store.{Store}
-use Rattle.sled_store.specs.declared.page.View.{View}
 use Rattle.sled_model.specs.Answer.{key_of}
 use Rattle.sled_model.specs.Maps.{Merge}
 use Rattle.sled_model.specs.State.{IsOnKey, range_of}
@@ -55,7 +54,7 @@ module _ {P M : Type 0} (store : P → Store) (meant : M → Merge) (db : DbValu
         follows = step.settles.follows;
       } in
       let over = alone operator (store db.pages) (store db.pages) f g db.queues sound.calm (λ view is. absurd (step.on_walk (subst IsOffWalk (sym is) tt))) went steps in
-      (flown_as store meant db db refl sound f db.pages db.queues step.has_turns went g tested known (record { is = subst (λ r. steps_over_as r operator (store db.pages) db.queues f went (store db.pages) db.queues g) (sym on_key) over })).0
+      (flown_as store meant db db refl sound f db.pages db.queues step.has_turns went g tested known operator refl (record { is = subst (λ r. steps_over_as r operator (store db.pages) db.queues f went (store db.pages) db.queues g) (sym on_key) over })).0
 
   -- what is known of a call after some of them
   record Walked (f g : InFlight) : Type 0 where
@@ -137,7 +136,7 @@ module _ {P M : Type 0} (store : P → Store) (meant : M → Merge) (db : DbValu
     last_step =
         let operator = option_map meant (find nat_cmp tree.number db.operators) in
         let over = alone operator (store db.pages) (store q) r.last r.last db.queues sound.calm (untold r.last last_known.job last_known.known) (went_of made) r.ends in
-        flown_as store meant db db refl sound r.last q db.queues r.has_turns (went_of made) r.last last_known.tested last_known.known
+        flown_as store meant db db refl sound r.last q db.queues r.has_turns (went_of made) r.last last_known.tested last_known.known _ refl
         (subst (λ (j : Job). StepsOver (option_map meant (find nat_cmp j.tree.number db.operators)) (store db.pages) db.queues r.last (went_of made) (store q) db.queues r.last) (sym last_known.job)
         (record { is = subst (λ o. steps_over_as o operator (store db.pages) db.queues r.last (went_of made) (store q) db.queues r.last) (sym last_known.on_key) over }))
 
@@ -177,3 +176,7 @@ module _ {P M : Type 0} (store : P → Store) (meant : M → Merge) (inside : Db
       → Quickly store meant old tree call made (record inside { pages = q; queues = inside.queues })
   quickly_as old e q made tested r none =
       subst (λ (z : DbValue P M). must_refuse (db_state store meant z) (ToPoint tree call) ≡ None → Quickly store meant z tree call made (record inside { pages = q; queues = inside.queues })) e (λ tested. quickly q made tested r none) tested
+
+-- a step after which the call goes on
+pub that_moved : {P M : Type 0} (store : P → Store) (meant : M → Merge) (old : DbValue P M) (f : InFlight) (went : Went) (new : DbValue P M) (g : InFlight) → went ≡ Moved → DbStepContract store meant old f went new g → DbStepContract store meant old f Moved new g
+that_moved store meant old f went new g is step = subst (λ w. DbStepContract store meant old f w new g) is step

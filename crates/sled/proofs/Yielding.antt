@@ -416,10 +416,11 @@ module _ {P M : Type 0} (store : P → Store) (meant : M → Merge) (old : DbVal
 -- the same, where a method knows the database by its fields
 module _ {P M : Type 0} (store : P → Store) (meant : M → Merge) (inside old : DbValue P M) (e : inside ≡ old) (db : IsDb store inside) (f : InFlight) where
   pub flown_as : (q : P) (queues : QueuesValue) (fits : f.turns < turns_limit) (went : Went) (g : InFlight) → must_refuse (db_state store meant old) (ToStep (call_in_flight_of f)) ≡ None → IsKnown (snapshot_of_db store old) f
-      → StepsOver (option_map meant (find nat_cmp f.job.tree.number inside.operators)) (store inside.pages) inside.queues f went (store q) queues g → DbStepContract store meant old f went (record inside { pages = q; queues = queues }) g × IsDb store (record inside { pages = q; queues = queues })
-  flown_as q queues fits went g must known a =
+      → (by : Option Merge) → by ≡ option_map meant (find nat_cmp f.job.tree.number inside.operators) → StepsOver by (store inside.pages) inside.queues f went (store q) queues g
+      → DbStepContract store meant old f went (record inside { pages = q; queues = queues }) g × IsDb store (record inside { pages = q; queues = queues })
+  flown_as q queues fits went g must known by is a =
       subst (λ (z : DbValue P M). must_refuse (db_state store meant z) (ToStep (call_in_flight_of f)) ≡ None → IsKnown (snapshot_of_db store z) f → DbStepContract store meant z f went (record inside { pages = q; queues = queues }) g × IsDb store (record inside { pages = q; queues = queues }))
-      e (λ must known. flown_over store meant inside db q queues f must known fits went g a) must known
+      e (λ must known. flown_over store meant inside db q queues f must known fits went g (subst (λ o. StepsOver o (store inside.pages) inside.queues f went (store q) queues g) is a)) must known
 
 -- a call on a key is never at the pairs of a leaf
 pub on_its_way : (m : Snapshot) (w : Forest) (j : Course) (a : Stage) → Knows m w j a → IsOnKey j.call → IsOnItsWay a

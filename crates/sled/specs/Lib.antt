@@ -34,6 +34,7 @@ pub use Rattle.tree_reads.specs as tree_reads
 pub use Rattle.sled_tree.specs as sled_tree
 pub use Rattle.tree_scans.specs as tree_scans
 pub use Rattle.tree_groups.specs as tree_groups
+pub use Rattle.tree_lists.specs as tree_lists
 pub use Rattle.tree_pages.specs as tree_pages
 pub use Rattle.tree_quick.specs as tree_quick
 pub use Rattle.tree_steps.specs as tree_steps

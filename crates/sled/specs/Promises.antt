@@ -1,5 +1,6 @@
--- What a call on a key that is made at once promises, part by part. `Direct` has the same as one record.
-use Rattle.std.specs.Prelude.{◌≡◌, ◌≢◌, ℕ, ◌≤◌, ◌⊎◌, List, [], ◌∷◌, length, Option, Some, None, Result, Ok, Err}
+-- What a call that is made at once promises, part by part. `Direct` has all but what is said of maps as two records, of an answer and of a
+-- refusal.
+use Rattle.std.specs.Prelude.{◌≡◌, ◌≢◌, ℕ, ◌≤◌, ◌⊎◌, Bool, List, [], ◌∷◌, length, is_some, Option, Some, None, Result, Ok, Err}
 use Rattle.std.specs.FinMap.Entries.{find, put}
 use Rattle.std.specs.declared.ops.Bound.TheVariants.{Included}
 use Rattle.sled_nodes.specs.Order.{Key, key_cmp}
@@ -8,8 +9,9 @@ use Rattle.sled_store.specs.Store.{Store, now}
 use Rattle.sled_nodes.specs.declared.error.Error.{Error}
 use Rattle.sled_model.specs.Maps.{Map, Merge}
 use Rattle.sled_model.specs.State.{NamedTree, maps_of}
-use Rattle.sled_model.specs.Refusal.{TellsTurns, turns_limit}
+use Rattle.sled_model.specs.Refusal.{TellsTurns, turns_limit, MayRefuse, ToCall}
 use Rattle.sled_model.specs.declared.call.Call.{Call}
+use Rattle.sled_model.specs.declared.call.Whole.{Whole}
 use Rattle.sled_model.specs.declared.tree.Tree.{Tree}
 use Rattle.sled_model.specs.declared.reply.CompareAndSwapError.{CompareAndSwapError}
 use Rattle.tree_laws.specs.Paths.{IsClean}
@@ -35,6 +37,16 @@ abbrev pub Merges : Option NamedTree → Key → Key → Option Key → Map → 
 Merges None key bytes merged before after = ⊥
 Merges (Some tree) key bytes merged before after = (merge : Merge) × (tree.merge ≡ Some merge) × (merged ≡ merge key (find key_cmp key before) bytes) × (after ≡ with_value key merged before)
 
+-- the map without the pair that was found, if one was
+abbrev pub without_found : Option (Key × Key) → Map → Map
+without_found None map = map
+without_found (Some pair) map = without pair.0 map
+
+-- the map of a tree that is opened: what it had, or an empty one if it is new
+abbrev pub map_opened : Option Map → Map
+map_opened None = []
+map_opened (Some map) = map
+
 module _ {P M : Type 0} (store : P → Store) (meant : M → Merge) where
   -- Of the tree's map before and of the one after it this is so. The maps of all other trees are as they were
   pub record ChangesMap (old : DbValue P M) (tree : Tree) (claim : Map → Map → Type 0) (new : DbValue P M) : Type 0 where
@@ -53,3 +65,22 @@ module _ {P M : Type 0} (store : P → Store) (meant : M → Merge) where
   -- where a call stops that is refused: before its first step, or at one of them
   abbrev pub StopsCall : DbValue P M → Tree → Call → Error → DbValue P M → Type 0
   StopsCall old tree call e new = (StopsAtFirst store meant old tree call e × (new ≡ old)) ⊎ RunsAtOnce store meant old tree call (Err e) new
+
+  -- A whole call is refused, with its cause, and the state stays as it was
+  pub record RefusesCall (old : DbValue P M) (whole : Whole) (e : Error) (new : DbValue P M) : Type 0 where
+    pub may : MayRefuse (db_state store meant old) (store old.pages) (store new.pages) (ToCall whole) e
+    pub is : db_state store meant new ≡ db_state store meant old
+
+  -- the name has this map now, or no tree. The maps of all other names are as they were
+  pub record BecomesMap (old : DbValue P M) (name : Key) (map : Option Map) (new : DbValue P M) : Type 0 where
+    pub becomes : maps_of (db_state store meant new) name ≡ map
+    pub others : (other : Key) → other ≢ name → maps_of (db_state store meant new) other ≡ maps_of (db_state store meant old) other
+
+  -- the name has the map that it had, or an empty one if its tree is new
+  abbrev pub OpensMap : DbValue P M → Key → DbValue P M → Type 0
+  OpensMap old name new = BecomesMap old name (Some (map_opened (maps_of (db_state store meant old) name))) new
+
+  -- the name has no tree any more, and this is whether it had one
+  pub record DropsMap (old : DbValue P M) (name : Key) (dropped : Bool) (new : DbValue P M) : Type 0 where
+    pub was : dropped ≡ is_some (maps_of (db_state store meant old) name)
+    pub goes : BecomesMap old name None new

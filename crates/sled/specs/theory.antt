@@ -4,3 +4,4 @@ pub mod Imports
 pub mod Groups
 pub mod Transactions
 pub mod Walking
+pub mod Pops

@@ -10,6 +10,7 @@ ghost use Rattle.sled_queues.specs.Values.{queue_at};
 ghost use Rattle.sled_tree.specs.declared.flight.Went.TheVariants.{Moved};
 ghost use Rattle.sled.specs.Calls.{IsHandle, RefusesHandle, MustBeRefused};
 ghost use Rattle.sled.specs.theory.Direct.{TellsNobody};
+ghost use Rattle.tree_steps.specs.Outcomes.{outcome_of, kept_of};
 
 use crate::DEFAULT_TREE;
 use sled_model::{Call, MAX_LOOPS, MergeOperator, Reply, Tree};
@@ -20,9 +21,9 @@ use sled_store::Pages;
 use sled_tree::{InFlight, Went, walk_down};
 use std::alloc::Global;
 use std::marker::Model;
-use tree_pages::{number_of, operator_of};
+use tree_lists::{number_of, operator_of};
 use tree_quick::make_quick;
-use tree_steps::advance_over;
+use tree_steps::{Keep, step_over};
 
 // Whether the call goes on.
 fn goes_on(went: &Went) -> bool
@@ -305,23 +306,74 @@ impl<P: Pages, M: MergeOperator> Db<P, M> {
         ensures leaves { DbLeaksNoPage P.store self.old flight.old result self.new flight.new }
         ensures knows { DbKnows P.store self.old flight.old result self.new flight.new }
     {
+        let (went, ()) = self.advance_keeping(flight);
+        went
+    }
+
+    /// One step of a call in flight, as `advance` makes it; if it decides the call, with two copies of its reply. They are made before
+    /// the action that decides it: if there is no memory for them the step is refused with `NoMemory`.
+    ///
+    /// ```
+    /// let mut flight = InFlight::new(tree, Call::get(alloc, b"ulm")?);
+    /// let (went, copies) = db.advance_kept(&mut flight); // `None` as long as the call goes on.
+    /// ```
+    pub fn advance_kept(&mut self, flight: &mut InFlight) -> (Went, Option<(Reply, Reply)>)
+        requires { IsKnown (snapshot_of_db P.store self.old) flight.old }
+        ensures step { DbStep P.store M.meant self.old flight.old result.0 self.new flight.new }
+        ensures sound { DbSound P.store self.old self.new }
+        ensures does { DbActs P.store M.meant self.old flight.old result.0 self.new }
+        ensures follows { DbFollows P.store M.meant self.old flight.old result.0 self.new flight.new }
+        ensures passes { DbPasses P.store self.old flight.old result.0 self.new flight.new }
+        ensures loses { KeepsTreePages None (snapshot_of_db P.store self.old) (snapshot_of_db P.store self.new) }
+        ensures leaves { DbLeaksNoPage P.store self.old flight.old result.0 self.new flight.new }
+        ensures knows { DbKnows P.store self.old flight.old result.0 self.new flight.new }
+        ensures kept { result.1 ≡ kept_of (outcome_of result.0) }
+    {
+        self.advance_keeping(flight)
+    }
+
+    /// One step of a call in flight, as `advance` makes it, and what is kept of it: nothing (`()`), or two copies of the reply if it
+    /// decides the call, as `advance_kept` has them.
+    ///
+    /// ```
+    /// let mut flight = InFlight::new(tree, Call::get(alloc, b"ulm")?);
+    /// let (went, ()) = db.advance_keeping(&mut flight); // As `advance` does.
+    /// ```
+    #[inline(always)]
+    pub fn advance_keeping<K: Keep>(&mut self, flight: &mut InFlight) -> (Went, K)
+        requires { IsKnown (snapshot_of_db P.store self.old) flight.old }
+        ensures step { DbStep P.store M.meant self.old flight.old result.0 self.new flight.new }
+        ensures sound { DbSound P.store self.old self.new }
+        ensures does { DbActs P.store M.meant self.old flight.old result.0 self.new }
+        ensures follows { DbFollows P.store M.meant self.old flight.old result.0 self.new flight.new }
+        ensures passes { DbPasses P.store self.old flight.old result.0 self.new flight.new }
+        ensures loses { KeepsTreePages None (snapshot_of_db P.store self.old) (snapshot_of_db P.store self.new) }
+        ensures leaves { DbLeaksNoPage P.store self.old flight.old result.0 self.new flight.new }
+        ensures knows { DbKnows P.store self.old flight.old result.0 self.new flight.new }
+        ensures kept { result.1 ≡ K.kept (outcome_of result.0) }
+    {
         if let Err(e) = self.check_call(&flight.job.tree, &flight.job.call) {
-            return Went::Refused(e);
+            return (Went::Refused(e), K::nothing());
         }
         self.advance_tested(flight)
     }
 
     // The same of a call that passed the tests.
-    fn advance_tested(&mut self, flight: &mut InFlight) -> Went
+    #[inline(always)]
+    fn advance_tested<K: Keep>(&mut self, flight: &mut InFlight) -> (Went, K)
         requires known { IsKnown (snapshot_of_db P.store self.old) flight.old }
         requires tested { must_refuse (db_state P.store M.meant self.old) (ToStep (call_in_flight_of flight.old)) ≡ None }
-        ensures { DbStepContract P.store M.meant self.old flight.old result self.new flight.new }
+        ensures steps { DbStepContract P.store M.meant self.old flight.old result.0 self.new flight.new }
+        ensures kept { result.1 ≡ K.kept (outcome_of result.0) }
     {
         if flight.turns == MAX_LOOPS {
-            return Went::Refused(Error::ReportableBug(WALK_PASSED_TURNS));
+            return (
+                Went::Refused(Error::ReportableBug(WALK_PASSED_TURNS)),
+                K::nothing(),
+            );
         }
         let operator = operator_of(self.operators.as_slice(), flight.job.tree.number);
-        advance_over(
+        step_over(
             &mut self.pages,
             &mut self.queues,
             self.alloc,
@@ -384,7 +436,8 @@ impl<P: Pages, M: MergeOperator> Db<P, M> {
             if let Some(went) = self.walk_down(flight) {
                 return went;
             }
-            match self.advance_tested(flight) {
+            let (went, ()) = self.advance_tested(flight);
+            match went {
                 Went::Moved => self.audit(),
                 went => return went,
             }

@@ -10,10 +10,12 @@ use sled_model::MergeOperator;
 use sled_nodes::texts::CORE_STRUCTURES;
 use sled_nodes::{Error, Result};
 use sled_store::Pages;
-use tree_pages::{drop_root, number_of, take_name, take_operator};
+use tree_lists::{number_of, take_name, take_operator};
+use tree_pages::drop_root;
 
 impl<P: Pages, M: MergeOperator> Db<P, M> {
     ghost use Rattle.sled.specs.Drops.{DropsTree, RefusesDrop};
+    ghost use Rattle.sled.specs.Promises.{DropsMap};
 
     /// Drops the tree of a name, and answers whether there was one. The name can be opened anew, as an empty tree; every
     /// `Tree` of before is answered with `CollectionNotFound` from now on, and so is each call in flight on it at its next step.
@@ -28,6 +30,7 @@ impl<P: Pages, M: MergeOperator> Db<P, M> {
     pub fn drop_tree(&mut self, name: &[u8]) -> Result<bool>
         ensures ok { IfOk result (λ dropped. DropsTree P.store M.meant self.old name.now dropped self.new) }
         ensures err { IfErr result (λ e. RefusesDrop P.store M.meant self.old name.now e self.new) }
+        ensures changes { IfOk result (λ dropped. DropsMap P.store M.meant self.old name.now dropped self.new) }
     {
         if self.pages.in_group() {
             return Err(Error::Closed);

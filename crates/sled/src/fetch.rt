@@ -1,7 +1,8 @@
 //! Calls that make the new value at a key from the one that is there, by a closure that is called once.
 ghost use Rattle.std.specs.Prelude.{◌≡◌, IfOk, IfErr, OnOk, Ok, Option};
 ghost use Rattle.std.specs.Option.{option_map, option_copied};
-ghost use Rattle.sled_nodes.specs.Order.{Key};
+ghost use Rattle.std.specs.FinMap.Entries.{find};
+ghost use Rattle.sled_nodes.specs.Order.{Key, key_cmp};
 ghost use Rattle.sled_nodes.specs.declared.error.Error.TheVariants.{NoMemory};
 ghost use Rattle.sled_model.specs.declared.call.Call.TheVariants as call;
 ghost use Rattle.sled_model.specs.declared.reply.Reply.TheVariants as told;
@@ -68,6 +69,7 @@ fn swap_of(alloc: Global, key: &[u8], stood: &Option<IVec>, made: &Option<IVec>)
 impl<P: Pages, M: MergeOperator> Db<P, M> {
     ghost use Rattle.sled.specs.Direct.{PointDecided, PointRefused};
     ghost use Rattle.sled.specs.Fetch.{FetchDecided, FetchRefused};
+    ghost use Rattle.sled.specs.Promises.{ChangesMap, with_value};
 
     // Swaps the value that was read just now for another, which always succeeds.
     fn swap(
@@ -101,6 +103,7 @@ impl<P: Pages, M: MergeOperator> Db<P, M> {
         requires { (stood : Option Key) → Stands P.store M.meant self.old tree.now key.now stood → (shown : _) → option_copied shown ≡ stood → F.pre f shown }
         ensures ok { IfOk result (λ both. FetchDecided P.store M.meant F.FnMut f self.old tree.now key.now both.0 both.1 self.new) }
         ensures err { IfErr result (λ e. FetchRefused P.store M.meant F.FnMut f self.old tree.now key.now e self.new) }
+        ensures changes { IfOk result (λ both. ChangesMap P.store M.meant self.old tree.now (λ before after. (both.0 ≡ find key_cmp key.now before) × (after ≡ with_value key.now both.1 before)) self.new) }
     {
         let stood = match self.get(tree, key) {
             Ok(stood) => stood,
@@ -150,6 +153,7 @@ impl<P: Pages, M: MergeOperator> Db<P, M> {
         requires { (stood : Option Key) → Stands P.store M.meant self.old tree.now key.now stood → (shown : _) → option_copied shown ≡ stood → F.pre f shown }
         ensures ok { IfOk result (λ made. (stood : Option Key) × FetchDecided P.store M.meant F.FnMut f self.old tree.now key.now stood made self.new) }
         ensures err { IfErr result (λ e. FetchRefused P.store M.meant F.FnMut f self.old tree.now key.now e self.new) }
+        ensures changes { IfOk result (λ made. ChangesMap P.store M.meant self.old tree.now (λ before after. after ≡ with_value key.now made before) self.new) }
     {
         match self.fetch(tree, key, f) {
             Ok((stood, made)) => {
@@ -171,6 +175,7 @@ impl<P: Pages, M: MergeOperator> Db<P, M> {
         requires { (stood : Option Key) → Stands P.store M.meant self.old tree.now key.now stood → (shown : _) → option_copied shown ≡ stood → F.pre f shown }
         ensures ok { IfOk result (λ stood. (made : Option Key) × FetchDecided P.store M.meant F.FnMut f self.old tree.now key.now stood made self.new) }
         ensures err { IfErr result (λ e. FetchRefused P.store M.meant F.FnMut f self.old tree.now key.now e self.new) }
+        ensures changes { IfOk result (λ stood. ChangesMap P.store M.meant self.old tree.now (λ before after. (stood ≡ find key_cmp key.now before) × (made : Option Key) × (after ≡ with_value key.now made before)) self.new) }
     {
         match self.fetch(tree, key, f) {
             Ok((stood, made)) => {

@@ -33,7 +33,7 @@ use sled_queues::Queues;
 use sled_store::{Pages, View};
 use std::alloc::Global;
 use tree_groups::{KeyWrite, is_settled, write_group};
-use tree_pages::number_of;
+use tree_lists::number_of;
 use tree_reads::leaf_near;
 
 // The leaf with its version, if a write of it can be linked at once.
@@ -303,6 +303,7 @@ impl<P: Pages, M: MergeOperator> Db<P, M> {
         ensures ok { OnOk result (GroupDecided P.store M.meant self.old batches.now self.new) }
         ensures err { IfErr result (λ e. GroupRefused P.store M.meant self.old batches.now e self.new) }
         ensures quiet { IsQuietGroup P.store M.meant self.old batches.now self.new }
+        ensures changes { OnOk result (db_state P.store M.meant self.new ≡ after_writes (writes_of batches.now) (db_state P.store M.meant self.old)) }
     {
         if let Err(e) = self.check_batches(batches) {
             return Err(e);
@@ -333,6 +334,7 @@ impl<P: Pages, M: MergeOperator> Db<P, M> {
         ensures ok { OnOk result (GroupDecided P.store M.meant self.old ((tree.now, batch) ∷ []) self.new) }
         ensures err { IfErr result (λ e. GroupRefused P.store M.meant self.old ((tree.now, batch) ∷ []) e self.new) }
         ensures quiet { IsQuietGroup P.store M.meant self.old ((tree.now, batch) ∷ []) self.new }
+        ensures changes { OnOk result (db_state P.store M.meant self.new ≡ after_writes (writes_of ((tree.now, batch) ∷ [])) (db_state P.store M.meant self.old)) }
     {
         if let Err(e) = self.check(tree) {
             drop(batch);

@@ -24,7 +24,6 @@ mod operators;
 mod read;
 mod removals;
 mod stats;
-mod step_kept;
 mod transaction;
 mod watch;
 mod whole;

@@ -5,7 +5,7 @@ use crate::db::Db;
 use sled_model::MergeOperator;
 use sled_nodes::{Error, IVec, Result};
 use sled_store::Pages;
-use tree_pages::names_of;
+use tree_lists::names_of;
 
 impl<P: Pages, M: MergeOperator> Db<P, M> {
     ghost use Rattle.sled.specs.Calls.{RefusesHandle};

@@ -19,7 +19,7 @@ use sled_queues::Queues;
 use sled_store::{Pages, law_given};
 use std::alloc::Global;
 use tree_check::verify_integrity;
-use tree_pages::{number_of, put_tree, reserve_one};
+use tree_lists::{number_of, put_tree, reserve_one};
 
 // A leaf without pairs that covers every key.
 fn empty_leaf(alloc: Global) -> Result<Node>
@@ -202,6 +202,7 @@ impl<P: Pages> Db<P> {
 impl<P: Pages, M: MergeOperator> Db<P, M> {
     ghost use Rattle.sled.specs.Direct.{WholeDecided, WholeRefused};
     ghost use Rattle.sled.specs.Opens.{OpensBySteps, OpenRefusedBySteps};
+    ghost use Rattle.sled.specs.Promises.{OpensMap};
 
     // What names the tree of this name and number.
     pub(crate) fn handle_of(&self, name: &[u8], number: u64) -> Result<Tree>
@@ -236,6 +237,7 @@ impl<P: Pages, M: MergeOperator> Db<P, M> {
         ensures err { IfErr result (λ e. WholeRefused P.store M.meant self.old (OpenTree name.now) e self.new) }
         ensures steps { OnOk result (OpensBySteps P.store name.now self.old self.new) }
         ensures refused { IfErr result (λ e. OpenRefusedBySteps P.store name.now self.old e self.new) }
+        ensures changes { OnOk result (OpensMap P.store M.meant self.old name.now self.new) }
     {
         if self.pages.in_group() {
             return Err(Error::Closed);

@@ -5,7 +5,7 @@ use crate::db::Db;
 use sled_model::{MergeOperator, Tree};
 use sled_nodes::Result;
 use sled_store::Pages;
-use tree_pages::set_operator;
+use tree_lists::set_operator;
 
 impl<P: Pages, M: MergeOperator> Db<P, M> {
     ghost use Rattle.sled.specs.Operators.{OperatorSet, OperatorNotSet};

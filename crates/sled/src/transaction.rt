@@ -19,7 +19,7 @@ use sled_nodes::texts::TREES_OF_SEVERAL_DATABASES;
 use sled_nodes::{Error, Pid, Result};
 use sled_store::Pages;
 use std::alloc::Global;
-use tree_pages::number_of;
+use tree_lists::number_of;
 use tree_transactions::{
     Commit, Overlays, TransactionAnswer, TransactionError, TransactionResult, TransactionalTree,
     TransactionalTrees, transact, transact_all,

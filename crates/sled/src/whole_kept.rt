@@ -12,64 +12,29 @@ ghost use Rattle.tree_reads.specs.Walk.{once, for_each};
 ghost use Rattle.sled.specs.Opens.{OpensBySteps, OpenRefusedBySteps};
 
 use crate::db::Db;
+use crate::whole::Side;
 use sled_model::{MergeOperator, Reply, Tree};
 use sled_nodes::texts::NUMBERS_USED_UP;
-use sled_nodes::{Error, IVec, Result, clone_pair};
+use sled_nodes::{Error, IVec, Result};
 use sled_store::Pages;
-use tree_pages::number_of;
+use tree_lists::number_of;
 
-// A pop's reply with a copy of this pair. Refused with `NoMemory` alone.
-fn pair_told(pair: &(IVec, IVec)) -> Result<Reply>
-    ensures ok { IfOk result (λ told. told ≡ Pair (Some pair.now)) }
-    ensures err { IfErr result (λ e. e ≡ NoMemory) }
+// The reply of a pop, and two copies of it.
+fn told_thrice(found: Option<(IVec, IVec)>, kept: Option<(Reply, Reply)>) -> (Reply, Reply, Reply)
+    requires { kept ≡ Some (Pair found, Pair found) }
+    ensures told { result.0 ≡ Pair found }
+    ensures kept { (result.1 ≡ result.0) × (result.2 ≡ result.0) }
 {
-    Ok(Reply::Pair(Some(clone_pair(&pair.0, &pair.1)?)))
-}
-
-// The same twice.
-fn pair_told_twice(pair: &(IVec, IVec)) -> Result<(Reply, Reply)>
-    ensures one { IfOk result (λ both. both.0 ≡ Pair (Some pair.now)) }
-    ensures other { IfOk result (λ both. both.1 ≡ Pair (Some pair.now)) }
-    ensures err { IfErr result (λ e. e ≡ NoMemory) }
-{
-    let one = pair_told(pair)?;
-    match pair_told(pair) {
-        Ok(other) => Ok((one, other)),
-        Err(e) => {
-            drop(one);
-            Err(e)
-        }
+    match kept {
+        Some((one, other)) => (Reply::Pair(found), one, other),
+        None => unreachable!(),
     }
 }
 
 impl<P: Pages, M: MergeOperator> Db<P, M> {
     ghost use Rattle.sled.specs.Values.{db_state};
     ghost use Rattle.sled.specs.Direct.{WholeDecided, WholeRefused};
-    ghost use Rattle.sled.specs.Pops.{TakesOut, RefusesToTake, PopsBySteps, PopRefusedBySteps, GivesUpPop};
-
-    // Takes out a pair that was read just now. The copies of the reply are made before.
-    fn pop_pair_kept(&mut self, tree: &Tree, pair: (IVec, IVec)) -> Result<(Reply, Reply, Reply)>
-        ensures ok { OnOk result (TakesOut P.store M.meant self.old tree.now pair (Some pair) self.new) }
-        ensures told { IfOk result (λ told. told.0 ≡ Pair (Some pair)) }
-        ensures kept { IfOk result (λ told. (told.1 ≡ told.0) × (told.2 ≡ told.0)) }
-        ensures err { IfErr result (λ e. RefusesToTake P.store M.meant self.old tree.now pair e self.new) }
-    {
-        let (one, other) = match pair_told_twice(&pair) {
-            Ok(both) => both,
-            Err(e) => {
-                drop(pair);
-                return Err(e);
-            }
-        };
-        match self.pop_pair(tree, pair) {
-            Ok(found) => Ok((Reply::Pair(found), one, other)),
-            Err(e) => {
-                drop(one);
-                drop(other);
-                Err(e)
-            }
-        }
-    }
+    ghost use Rattle.sled.specs.Pops.{PopsBySteps, PopRefusedBySteps, GivesUpPop};
 
     /// Takes out the pair with the least key, as `pop_min` does, and answers the call's reply (`Reply::Pair`) and two copies of it. The
     /// copies are made once the pair is read and before it is removed. Refused as `pop_min` is, and with `NoMemory` if there is no memory
@@ -86,12 +51,8 @@ impl<P: Pages, M: MergeOperator> Db<P, M> {
         ensures steps { IfOk result (λ told. (found : Option (Key × Key)) × (told.0 ≡ Pair found) × PopsBySteps P.store M.meant self.old tree.now IsLeast found self.new) }
         ensures refused { IfErr result (λ e. PopRefusedBySteps P.store M.meant self.old tree.now IsLeast once e self.new) }
     {
-        match self.first(tree) {
-            Ok(Some(pair)) => self.pop_pair_kept(tree, pair),
-            Ok(None) => {
-                self.audit();
-                Ok((Reply::Pair(None), Reply::Pair(None), Reply::Pair(None)))
-            }
+        match self.pop(tree, Side::Least) {
+            Ok((found, kept)) => Ok(told_thrice(found, kept)),
             Err(e) => Err(e),
         }
     }
@@ -110,12 +71,8 @@ impl<P: Pages, M: MergeOperator> Db<P, M> {
         ensures steps { IfOk result (λ told. (found : Option (Key × Key)) × (told.0 ≡ Pair found) × PopsBySteps P.store M.meant self.old tree.now IsGreatest found self.new) }
         ensures refused { IfErr result (λ e. PopRefusedBySteps P.store M.meant self.old tree.now IsGreatest for_each e self.new) }
     {
-        match self.last(tree) {
-            Ok(Some(pair)) => self.pop_pair_kept(tree, pair),
-            Ok(None) => {
-                self.audit();
-                Ok((Reply::Pair(None), Reply::Pair(None), Reply::Pair(None)))
-            }
+        match self.pop(tree, Side::Greatest) {
+            Ok((found, kept)) => Ok(told_thrice(found, kept)),
             Err(e) => Err(e),
         }
     }

@@ -1,5 +1,5 @@
 -- What a crash leaves of a file that is emptied.
-use Rattle.std.proofs.Common.{◌≡◌, inl, inr, ℕ, ◌≤◌, List, [], ◌∷◌, length, sym, subst}
+use Rattle.std.proofs.Common.{◌≡◌, inl, inr, ℕ, List, [], ◌∷◌, sym, subst}
 use Rattle.std.specs.Prelude.{◌⊎◌}
 use Rattle.sled_disk.specs.Disk.{Only, NoMore, Elapses, LeavesOnly, Torn, Shortened, written}
 use Rattle.sled_log.specs.Log.{closed}

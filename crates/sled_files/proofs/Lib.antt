@@ -12,6 +12,7 @@ pub mod Beginning
 pub mod Emptying
 pub mod Counted
 pub mod Coding
+pub mod Ungiven
 pub mod Pairs
 pub mod Grows
 pub mod Over

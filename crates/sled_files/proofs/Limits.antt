@@ -1,12 +1,12 @@
 -- Limits that are raised above what comes next.
 use Rattle.std.proofs.Common.{◌≡◌, ◌+◌, ◌-◌, ◌^◌, ◌<◌, ◌≤◌, ℕ, Bool, true, false, nat_lt, nat_le, cond, refl, sym, ◌∙◌, ap, subst, arith, ◌⊎◌, inl, inr, List, [], length}
 use Rattle.std.proofs.lemmas.Bool.Decides.{nat_tests}
-use Rattle.std.specs.Prelude.{min, max, ◌&&◌, ◌==◌, Result, Ok, Err, OnOk, OnErr}
+use Rattle.std.specs.Prelude.{min, ◌&&◌, ◌==◌, Result, Ok, Err, OnOk, OnErr}
 use Rattle.sled_store.specs.Store.{Store}
 use Rattle.sled_pages.specs.Memory.{store_of}
 use Rattle.sled_files.specs.Files.{IsGrown}
 use Rattle.sled_files.specs.Lasting.{Limits}
-use Rattle.sled_files.specs.Raised.{ComeNext, raised_to, raised_above, are_far, RaisesNear, Raises, Reaches, ReachesOrFails, FlushesOn}
+use Rattle.sled_files.specs.Raised.{ComeNext, raised_to, raised_above, are_far, HasReached, RaisesNear, Raises, Reaches, ReachesOrFails, FlushesOn}
 use Rattle.sled_files.specs.Stored.{Stored, stored_as, missed_after, over}
 use Rattle.sled_files.proofs.Numbers.{le_lt}
 
@@ -78,9 +78,9 @@ module _ {D : Type 0} {seen : D → List ℕ} {old mid : Stored D} (new : Stored
   reaches_err (Ok x) reaches = tt
   reaches_err (Err e) reaches = inl (reaches_on reaches)
 
-pub fails_to_reach : {D : Type 0} {seen : D → List ℕ} {old new : Stored D} → new.limits ≡ old.limits → (new.files ≡ old.files) ⊎ (new.files.failed ≡ true) → ReachesOrFails seen old new
+pub fails_to_reach : {D : Type 0} {seen : D → List ℕ} {old new : Stored D} → new.limits ≡ old.limits → (new.files ≡ old.files) ⊎ (HasReached (stored_as old) old.limits × (new.files.failed ≡ true)) → ReachesOrFails seen old new
 fails_to_reach kept (inl same) = inl (inl (same, kept))
-fails_to_reach kept (inr failed) = inr (failed, kept)
+fails_to_reach kept (inr failed) = inr (failed.0, failed.1, kept)
 
 -- the limits that a flush sets, by what was pending
 pub record AreFlushed {D : Type 0} (raised : Limits) (pending : List ℕ) (f : Stored D) : Type 0 where
@@ -105,6 +105,19 @@ raises_files old new pid version next reached is grown = record {
     is = is;
   };
 }
+
+-- .. or a disk refused to raise them
+pub fails_reached : {D : Type 0} (old new : Stored D) (pid version : ℕ) → ComeNext (store_of old.pages) pid version → (nat_lt pid old.limits.pids && nat_lt version old.limits.versions) ≡ false → (new.files ≡ old.files) ⊎ (new.files.failed ≡ true) → (new.files ≡ old.files) ⊎ (HasReached (stored_as old) old.limits × (new.files.failed ≡ true))
+fails_reached old new pid version next reached (inl same) = inl same
+fails_reached old new pid version next reached (inr failed) = inr (
+  record {
+    pid = pid;
+    version = version;
+    next = next_over old.mark old.faults next;
+    is = one_reached pid version old.limits reached;
+  },
+  failed,
+)
 
 -- a flush that adds a block after a snapshot was missed
 pub flushes_missed : {D T E : Type 0} (seen : D → List ℕ) (due one : Type 0) (old mid new : Stored D) (r : Result T E) → mid ≡ record old { missed = missed_after old } → new.missed ≡ mid.missed → OnOk r (FlushesOn seen mid new) → OnOk r (due → one ⊎ (FlushesOn seen old new × (new.missed ≡ missed_after old)))

@@ -1,66 +1,30 @@
 -- What is replayed, change by change.
-use Rattle.std.proofs.Common.{◌≡◌, ℕ, Bor, map, drop, get_or, length, arith, ◌+◌, ◌<◌, List, [], ◌∷◌, ◌++◌, refl, sym, ◌∙◌, ap, subst, append_assoc}
+use Rattle.std.proofs.Common.{◌≡◌, ℕ, Bor, map, drop, get_or, length, arith, ◌+◌, ◌-◌, ◌<◌, ◌≤◌, List, [], ◌∷◌, ◌++◌, refl, sym, ◌∙◌, ap, subst, append_assoc}
 use Rattle.std.specs.Prelude.{Bool, Result, Ok, Err}
 use Rattle.std.specs.List.{All}
 use Rattle.std.proofs.lemmas.List.Elements.{All-nil, All-cons, All-head, All-tail, All-append}
-use Rattle.std.proofs.lemmas.List.{append-nil, drop_more, length-map, get_or-map}
+use Rattle.std.proofs.lemmas.List.{append-nil, drop_more, length-map, length-append, length-drop, get_or-map}
 use Rattle.sled_bytes.specs.declared.change.Change.{Change}
 use Rattle.sled_bytes.specs.declared.refusal.Flaw.{Flaw}
+use Rattle.sled_bytes.specs.declared.refusal.Refusal.TheVariants as refusals
 use Rattle.sled_pages.specs.Rebuild.{Rebuilt}
 use Rattle.sled_files.specs.declared.replay.Replay.{Replay}
 use Rattle.sled_files.specs.declared.replay.Halt.{Halt}
 use Rattle.sled_files.specs.declared.replay.Halt.TheVariants.{NoMemory, Flawed}
-use Rattle.sled_bytes.specs.Reading.{changes_of}
+use Rattle.sled_bytes.specs.Reading.{change_at, changes_from, changes_of}
+use Rattle.sled_bytes.proofs.Several.{behind_front, changes_begin, changes_go_on, changes_end, changes_done}
 use Rattle.sled_files.specs.Change.{Durable, nothing_yet, changed, changed_all}
 use Rattle.sled_files.specs.Standing.{joined, all_changes}
-use Rattle.sled_files.specs.theory.Replay.{Numbers, replayed_of, numbers_of, numbers_after, numbers_after_all, HasPlace, is_why_halted, Replays, ReplaysRead, IsReplay, halts}
+use Rattle.sled_files.specs.theory.Replay.{Numbers, replayed_of, numbers_of, numbers_after, numbers_after_all, HasPlace, is_why_halted, is_why_unread, Replays, ReplaysRead, IsReplay, halts}
 
 -- what was replayed, by what is put into the store in the making
 abbrev pub durable_with : Bool → ℕ → ℕ → ℕ → Rebuilt → Durable
 durable_with in_group mark pids versions r = record { state = record { pages = r.pages; roots = r.roots; in_group = in_group }; mark = mark; pids = pids; versions = versions }
 
+-- what is read of payloads, of which one is read after the other
+
 abbrev read_ok : List Change → Result (List Change) Flaw
 read_ok changes = Ok changes
-
--- while changes are replayed: those that are left make of what was replayed what all make of what was there before
-pub record Remains (all left : List Change) (old new : Replay) : Type 0 where
-  pub made : changed_all left (replayed_of new) ≡ changed_all all (replayed_of old)
-  pub numbers : numbers_after_all left (numbers_of new) ≡ numbers_after_all all (numbers_of old)
-  pub placed : All HasPlace left → All HasPlace all
-  pub needs : All HasPlace all → All HasPlace left
-
-pub remains_all : (all left : List Change) (r : Replay) → left ≡ all → Remains all left r r
-remains_all all left r is = record {
-  made = ap (λ (l : List Change). changed_all l (replayed_of r)) is;
-  numbers = ap (λ (l : List Change). numbers_after_all l (numbers_of r)) is;
-  placed = λ h. subst (λ (l : List Change). All HasPlace l) is h;
-  needs = λ h. subst (λ (l : List Change). All HasPlace l) (sym is) h;
-}
-
-module _ {all left : List Change} {old new : Replay} (m : Remains all left old new) where
-  pub remains_less : (c : Change) (rest : List Change) (newer : Replay) → left ≡ c ∷ rest → replayed_of newer ≡ changed c (replayed_of new) → numbers_of newer ≡ numbers_after c (numbers_of new) → HasPlace c → Remains all rest old newer
-  remains_less c rest newer is made numbers place = record {
-    made = ap (changed_all rest) made ∙ ap (λ (l : List Change). changed_all l (replayed_of new)) (sym is) ∙ m.made;
-    numbers = ap (numbers_after_all rest) numbers ∙ ap (λ (l : List Change). numbers_after_all l (numbers_of new)) (sym is) ∙ m.numbers;
-    placed = λ h. m.placed (subst (λ (l : List Change). All HasPlace l) (sym is) (All-cons HasPlace c rest place h));
-    needs = λ h. All-tail HasPlace c rest (subst (λ (l : List Change). All HasPlace l) is (m.needs h));
-  }
-
-  pub remains_none : left ≡ [] → Replays all old new
-  remains_none is = record {
-    made = ap (λ (l : List Change). changed_all l (replayed_of new)) (sym is) ∙ m.made;
-    numbers = ap (λ (l : List Change). numbers_after_all l (numbers_of new)) (sym is) ∙ m.numbers;
-    placed = m.placed (subst (λ (l : List Change). All HasPlace l) (sym is) (All-nil HasPlace));
-  }
-
-  pub remains_halted : (e : Halt) (c : Change) (rest : List Change) → left ≡ c ∷ rest → is_why_halted e c → halts e (Ok all)
-  remains_halted NoMemory c rest is why = tt
-  remains_halted Flawed c rest is why = λ changes same h. why (All-head HasPlace c rest (subst (λ (l : List Change). All HasPlace l) is (m.needs (subst (λ (l : List Change). All HasPlace l) (ok_is changes all same) h))))
-    where
-      ok_is : (a b : List Change) → read_ok b ≡ read_ok a → a ≡ b
-      ok_is a b same = cc
-
--- what is read of payloads, of which one is read after the other
 
 joined_twice : (front back : List Change) (z : Result (List Change) Flaw) → joined (Ok front) (joined (Ok back) z) ≡ joined (Ok (front ++ back)) z
 joined_twice front back (Ok rest) = ap (λ (l : List Change). Ok l) (sym (append_assoc front back rest))
@@ -104,6 +68,63 @@ changed_both (c ∷ front) more d = changed_both front more (changed c d)
 numbers_both : (front more : List Change) (n : Numbers) → numbers_after_all more (numbers_after_all front n) ≡ numbers_after_all (front ++ more) n
 numbers_both [] more n = refl
 numbers_both (c ∷ front) more n = numbers_both front more (numbers_after c n)
+
+-- while the changes of a payload are read: those before this place were replayed, and those that are left are read behind them
+pub record ReadsTo (bytes : List ℕ) (at : ℕ) (old new : Replay) : Type 0 where
+  pub done : List Change
+  pub few : length done ≤ at
+  pub read : behind_front done (changes_from (drop at bytes) (length bytes - length done)) ≡ changes_of bytes
+  pub replays : Replays done old new
+
+pub reads_none : (bytes : List ℕ) (r : Replay) → ReadsTo bytes 0 r r
+reads_none bytes r = record {
+  done = [];
+  few = omega arith;
+  read = changes_begin [] bytes refl;
+  replays = record { made = refl; numbers = refl; placed = All-nil HasPlace };
+}
+
+-- what halts the first changes halts all
+front_halts : (e : Halt) (front : List Change) (r all : Result (List Change) Flaw) → behind_front front r ≡ all → halts e (Ok front) → halts e all
+front_halts e front (Ok rest) all is why = subst (λ (x : Result (List Change) Flaw). halts e x) is (halts_both e (Ok front) (Ok rest) why)
+front_halts e front (Err flaw) all is why = subst (λ (x : Result (List Change) Flaw). halts e x) is (halts_both e (Ok front) (Err flaw) why)
+
+last_halts : (e : Halt) (front : List Change) (c : Change) → is_why_halted e c → halts e (Ok (front ++ c ∷ []))
+last_halts NoMemory front c why = tt
+last_halts Flawed front c why = λ changes is h. why (All-head HasPlace c [] (back_all HasPlace front (c ∷ []) (subst (λ (l : List Change). All HasPlace l) (sym (ok_is (front ++ c ∷ []) changes is)) h)))
+  where
+    ok_is : (a b : List Change) → read_ok a ≡ read_ok b → a ≡ b
+    ok_is a b same = cc
+
+module _ {bytes : List ℕ} {at : ℕ} {old new : Replay} (m : ReadsTo bytes at old new) where
+  -- what is read with the next change
+  next_read : (c : Change) (behind : ℕ) → at < length bytes → change_at (drop at bytes) ≡ Ok (c, drop behind bytes) → behind_front (m.done ++ c ∷ []) (changes_from (drop behind bytes) (length bytes - length (m.done ++ c ∷ []))) ≡ changes_of bytes
+  next_read c behind lt read = changes_go_on m.done (m.done ++ c ∷ []) (drop at bytes) (drop behind bytes) c (length bytes) (changes_of bytes) (omega (arith, lt, m.few)) read refl m.read
+
+  pub reads_one : (c : Change) (behind : ℕ) (newer : Replay) → at < length bytes → at < behind → change_at (drop at bytes) ≡ Ok (c, drop behind bytes) → replayed_of newer ≡ changed c (replayed_of new) → numbers_of newer ≡ numbers_after c (numbers_of new) → HasPlace c → ReadsTo bytes behind old newer
+  reads_one c behind newer lt less read made numbers place = record {
+    done = m.done ++ c ∷ [];
+    few = omega (arith, m.few, less, length-append m.done (c ∷ []));
+    read = next_read c behind lt read;
+    replays = record {
+      made = made ∙ ap (changed c) m.replays.made ∙ changed_both m.done (c ∷ []) (replayed_of old);
+      numbers = numbers ∙ ap (numbers_after c) m.replays.numbers ∙ numbers_both m.done (c ∷ []) (numbers_of old);
+      placed = All-append HasPlace m.done (c ∷ []) m.replays.placed (All-cons HasPlace c [] place (All-nil HasPlace));
+    };
+  }
+
+  pub reads_end : drop at bytes ≡ [] → ReplaysRead (changes_of bytes) old new
+  reads_end none = record { changes = m.done; is = changes_done m.done (drop at bytes) _ (changes_of bytes) none m.read; replays = m.replays }
+
+  pub unread_halts : (e : Halt) → at < length bytes → is_why_unread e (change_at (drop at bytes)) → halts e (changes_of bytes)
+  unread_halts NoMemory lt why = tt
+  unread_halts Flawed lt why = λ changes is. absurd (flawed changes (sym is ∙ changes_end m.done (refusals.Flawed why.0) (drop at bytes) (length bytes) (changes_of bytes) (omega (arith, lt, m.few)) (omega (arith, lt, length-drop at bytes)) why.1 m.read))
+    where
+      flawed : (changes : List Change) → read_ok changes ≡ Err why.0 → ⊥
+      flawed changes is = cc
+
+  pub unmade_halts : (e : Halt) (c : Change) (behind : ℕ) → at < length bytes → change_at (drop at bytes) ≡ Ok (c, drop behind bytes) → is_why_halted e c → halts e (changes_of bytes)
+  unmade_halts e c behind lt read why = front_halts e (m.done ++ c ∷ []) _ (changes_of bytes) (next_read c behind lt read) (last_halts e m.done c why)
 
 -- these changes were replayed of all payloads, and those that are left are still to come
 pub record Reads (all left : List (List ℕ)) (r : Replay) : Type 0 where

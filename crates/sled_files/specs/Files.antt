@@ -83,6 +83,7 @@ pub record IsRenewed {D : Type 0} (old new : Files D) : Type 0 where
 -- The log that counts has a block more, of a gate, two numbers of 8 bytes and so many bytes of changes, and the other file is emptied; or
 -- there was nothing to be added
 pub record IsGrown {D : Type 0} (seen : D → List ℕ) (added : ℕ) (old new : Files D) : Type 0 where
+  pub same : new.is_second ≡ old.is_second
   pub snapshot : new.snapshot ≡ old.snapshot
   pub generation : new.generation ≡ old.generation
   pub bytes : new.gate ≡ old.gate + (if added == 0 then 0 else 17 + added)

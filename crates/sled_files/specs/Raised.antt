@@ -30,6 +30,13 @@ pub record RaisesNear (s : Store) (limits raised : Limits) : Type 0 where
   pub next : ComeNext s pid version
   pub is : raised ≡ (if are_far pid version limits then limits else raised_above pid version limits)
 
+-- what comes next has reached one of the limits
+pub record HasReached (s : Store) (limits : Limits) : Type 0 where
+  pub pid : ℕ
+  pub version : ℕ
+  pub next : ComeNext s pid version
+  pub is : (limits.pids ≤ pid) ⊎ (limits.versions ≤ version)
+
 -- a call that gives a number raises them where what comes next has reached one
 pub record RaisesReached (s : Store) (limits raised : Limits) : Type 0 where
   pub pid : ℕ
@@ -48,7 +55,7 @@ pub record FlushesOn {D : Type 0} (seen : D → List ℕ) (old new : Stored D) :
   pub idle : old.pending ≡ [] → new.limits ≡ old.limits
   pub limits : 0 < length old.pending → RaisesNear (stored_as old) old.limits new.limits
 
--- a flush began the other file anew, with limits that are far
+-- a flush began the other file anew, with limits that are far, as far as 64 bits go
 pub record FlushesAnew {D : Type 0} (old new : Stored D) : Type 0 where
   pub files : IsRenewed old.files new.files
   pub limits : RaisesNear (stored_as old) old.limits new.limits
@@ -62,6 +69,6 @@ pub record Raises {D : Type 0} (seen : D → List ℕ) (old new : Stored D) : Ty
 abbrev pub Reaches : {D : Type 0} → (D → List ℕ) → Stored D → Stored D → Type 0
 Reaches seen old new = ((new.files ≡ old.files) × (new.limits ≡ old.limits)) ⊎ Raises seen old new
 
--- one that is refused did the same, or a disk refused to raise them
+-- one that is refused did the same, or a disk refused to raise them, where what comes next has reached one
 abbrev pub ReachesOrFails : {D : Type 0} → (D → List ℕ) → Stored D → Stored D → Type 0
-ReachesOrFails seen old new = Reaches seen old new ⊎ ((new.files.failed ≡ true) × (new.limits ≡ old.limits))
+ReachesOrFails seen old new = Reaches seen old new ⊎ (HasReached (stored_as old) old.limits × (new.files.failed ≡ true) × (new.limits ≡ old.limits))

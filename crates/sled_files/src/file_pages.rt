@@ -7,7 +7,7 @@ ghost use Rattle.sled_store.specs.Store.{now, after_action, after_flush, Allocat
 ghost use Rattle.sled_pages.specs.Memory.{store_of};
 ghost use Rattle.sled_files.specs.Lasting.{EachPair, IsLasting, AreNoLower};
 ghost use Rattle.sled_files.specs.Raised.{ComeNext, RaisesNear, raised_to, are_far};
-ghost use Rattle.sled_files.specs.Stored.{asked_of, stored_as, is_due, missed_after, AreWithin};
+ghost use Rattle.sled_files.specs.Stored.{asked_of, stored_as, is_due, missed_after, AreWithin, Stands};
 
 use crate::snapshot::snapshot;
 use crate::spelled::{
@@ -247,10 +247,12 @@ impl<D: Disk> FilePages<D> {
     ghost use Rattle.sled_files.specs.theory.Kept.{KeepsPages};
     ghost use Rattle.sled_files.specs.Files.{LeavesPairs, IsGrown};
     ghost use Rattle.sled_files.specs.Lasting.{IsLasting};
-    ghost use Rattle.sled_files.specs.Raised.{raised_above, Reaches};
+    ghost use Rattle.sled_files.specs.Raised.{raised_above, HasReached, Reaches};
+    ghost use Rattle.sled_files.specs.Codes.{FailsToReach};
 
     // Raises the limits above these numbers, in the files first.
     fn raise(&mut self, pid: Pid, version: Version) -> Result<()>
+        requires { ComeNext (store_of self.old.pages) pid version }
         ensures pid { OnOk result (pid < self.new.limits.pids) }
         ensures version { OnOk result (version < self.new.limits.versions) }
         ensures limits { OnOk result (self.new.limits ≡ raised_above pid version self.old.limits) }
@@ -259,6 +261,7 @@ impl<D: Disk> FilePages<D> {
         ensures fails { OnErr result ((self.new.files ≡ self.old.files) ⊎ (self.new.files.failed ≡ true)) }
         ensures same { OnOk result (stored_as self.new ≡ stored_as self.old) }
         ensures err { IfErr result (λ e. IsRefused e (stored_as self.old) (stored_as self.new)) }
+        ensures cause { IfErr result (FailsToReach D.faults self.old self.new) }
         ensures over { self.old.files.failed ≡ true → self.new.files ≡ self.old.files }
         ensures pages { KeepsPages self.old self.new }
         ensures any_moment { LeavesPairs D.moment D.left_since D.may_leave self.old.files self.new.files (IsLasting (asked_of self.old.asked) self.old.limits (stored_as self.old)) }
@@ -289,9 +292,10 @@ impl<D: Disk> FilePages<D> {
         ensures version { IfOk result (λ next. next.1 < self.new.limits.versions) }
         ensures limits { OnOk result (Reaches D.seen self.old self.new) }
         ensures kept { OnErr result (self.new.limits ≡ self.old.limits) }
-        ensures fails { OnErr result ((self.new.files ≡ self.old.files) ⊎ (self.new.files.failed ≡ true)) }
+        ensures fails { OnErr result ((self.new.files ≡ self.old.files) ⊎ (HasReached (stored_as self.old) self.old.limits × (self.new.files.failed ≡ true))) }
         ensures same { OnOk result (stored_as self.new ≡ stored_as self.old) }
         ensures err { IfErr result (λ e. IsRefused e (stored_as self.old) (stored_as self.new)) }
+        ensures cause { IfErr result (FailsToReach D.faults self.old self.new) }
         ensures over { self.old.files.failed ≡ true → self.new.files ≡ self.old.files }
         ensures pages { KeepsPages self.old self.new }
         ensures any_moment { LeavesPairs D.moment D.left_since D.may_leave self.old.files self.new.files (IsLasting (asked_of self.old.asked) self.old.limits (stored_as self.old)) }
@@ -313,9 +317,10 @@ impl<D: Disk> FilePages<D> {
         ensures version { IfOk result (λ next. next.1 < self.new.limits.versions) }
         ensures limits { OnOk result (Reaches D.seen self.old self.new) }
         ensures kept { OnErr result (self.new.limits ≡ self.old.limits) }
-        ensures fails { OnErr result ((self.new.files ≡ self.old.files) ⊎ (self.new.files.failed ≡ true)) }
+        ensures fails { OnErr result ((self.new.files ≡ self.old.files) ⊎ (HasReached (stored_as self.old) self.old.limits × (self.new.files.failed ≡ true))) }
         ensures same { OnOk result (stored_as self.new ≡ stored_as self.old) }
         ensures err { IfErr result (λ e. IsRefused e (stored_as self.old) (stored_as self.new)) }
+        ensures cause { IfErr result (FailsToReach D.faults self.old self.new) }
         ensures over { self.old.files.failed ≡ true → self.new.files ≡ self.old.files }
         ensures pages { KeepsPages self.old self.new }
         ensures any_moment { LeavesPairs D.moment D.left_since D.may_leave self.old.files self.new.files (IsLasting (asked_of self.old.asked) self.old.limits (stored_as self.old)) }
@@ -549,7 +554,7 @@ impl<D: Disk> FilePages<D> {
 
 impl<D: Disk + Send> Pages for FilePages<D> {
     ghost use Rattle.sled_files.specs.Stored.{stored_as, asked_of, flush_number_in, KeepsFiles, KeepsRule, AsksFor};
-    ghost use Rattle.sled_files.specs.Codes.{IsUnstored, LacksRoom, FailsAnew, FailsOn};
+    ghost use Rattle.sled_files.specs.Codes.{IsUnstored, LacksRoom, FailsAnew, FailsOn, is_why_ungiven};
     ghost use Rattle.sled_files.specs.Raised.{FlushesOn, FlushesAnew, Reaches, ReachesOrFails};
     ghost use Rattle.sled_files.specs.Files.{LeavesPairs, IsGrown};
     ghost use Rattle.sled_files.specs.Lasting.{IsLasting};
@@ -573,9 +578,10 @@ impl<D: Disk + Send> Pages for FilePages<D> {
     fn allocate(&mut self, node: Node) -> Result<(Pid, Version)>
         ensures ok { IfOk result (λ given. Allocates node given.0 given.1 (stored_as self.old) (stored_as self.new)) }
         ensures err { IfErr result (λ e. IsRefused e (stored_as self.old) (stored_as self.new)) }
-        // Only where what comes next has reached a limit, it raises both, each by a piece.
+        // It raises both limits, to a piece above what comes next, and only where that has reached one.
         ensures limits { OnOk result (Reaches D.seen self.old self.new) }
         ensures refused { OnErr result (ReachesOrFails D.seen self.old self.new) }
+        ensures cause { IfErr result (is_why_ungiven D.faults self.old self.new) }
         ensures asked { self.new.asked ≡ self.old.asked }
         ensures over { self.old.files.failed ≡ true → self.new.files ≡ self.old.files }
         ensures rule { KeepsRule self.old self.new }
@@ -600,9 +606,10 @@ impl<D: Disk + Send> Pages for FilePages<D> {
     ) -> Result<std::result::Result<Version, Option<Version>>>
         ensures ok { IfOk result (Changes (after_link new) pid version (stored_as self.old) (stored_as self.new)) }
         ensures err { IfErr result (λ e. IsRefused e (stored_as self.old) (stored_as self.new)) }
-        // Only where what comes next has reached a limit, it raises both, each by a piece.
+        // It raises both limits, to a piece above what comes next, and only where that has reached one.
         ensures limits { OnOk result (Reaches D.seen self.old self.new) }
         ensures refused { OnErr result (ReachesOrFails D.seen self.old self.new) }
+        ensures cause { IfErr result (is_why_ungiven D.faults self.old self.new) }
         ensures asked { self.new.asked ≡ self.old.asked }
         ensures over { self.old.files.failed ≡ true → self.new.files ≡ self.old.files }
         ensures rule { KeepsRule self.old self.new }
@@ -625,9 +632,10 @@ impl<D: Disk + Send> Pages for FilePages<D> {
     ) -> Result<std::result::Result<Version, Option<Version>>>
         ensures ok { IfOk result (Changes (λ _. node) pid version (stored_as self.old) (stored_as self.new)) }
         ensures err { IfErr result (λ e. IsRefused e (stored_as self.old) (stored_as self.new)) }
-        // Only where what comes next has reached a limit, it raises both, each by a piece.
+        // It raises both limits, to a piece above what comes next, and only where that has reached one.
         ensures limits { OnOk result (Reaches D.seen self.old self.new) }
         ensures refused { OnErr result (ReachesOrFails D.seen self.old self.new) }
+        ensures cause { IfErr result (is_why_ungiven D.faults self.old self.new) }
         ensures asked { self.new.asked ≡ self.old.asked }
         ensures over { self.old.files.failed ≡ true → self.new.files ≡ self.old.files }
         ensures rule { KeepsRule self.old self.new }
@@ -698,7 +706,7 @@ impl<D: Disk + Send> Pages for FilePages<D> {
         requires { (now (stored_as self.old)).in_group ≡ false }
         ensures ok { OnOk result (stored_as self.new ≡ after_flush (stored_as self.old)) }
         ensures number { IfOk result (λ n. n ≡ length (stored_as self.old).recent) }
-        // The log has a block more, or a snapshot that was due is counted as missed.
+        // The log has a block more. If a snapshot was due, a file was begun anew in place of that, or it is counted as missed.
         ensures grown { OnOk result (is_due self.old ≡ false → FlushesOn D.seen self.old self.new) }
         ensures renewed { OnOk result (is_due self.old ≡ true → (FlushesAnew self.old self.new × (self.new.missed ≡ self.old.missed)) ⊎ (FlushesOn D.seen self.old self.new × (self.new.missed ≡ missed_after self.old))) }
         ensures calm { is_due self.old ≡ false → self.new.missed ≡ self.old.missed }
@@ -775,7 +783,8 @@ impl<D: Disk + Send> Pages for FilePages<D> {
 }
 
 /// Does nothing. It says that whatever a crash leaves of the two files now is right for the store. They have a state that `Pages` allows,
-/// its mark or one that a disk refused, and limits below which are all page numbers and versions that were given.
+/// its mark or one that a disk refused, and limits below which are all page numbers and versions that were given. Unless a disk refused a
+/// call, the files have all but what is pending, and the snapshot is what the first payload of the one that counts has behind its header.
 ///
 /// ```
 /// law_lasts(&store); // From here on a proof knows what a crash may leave now.
@@ -783,6 +792,7 @@ impl<D: Disk + Send> Pages for FilePages<D> {
 pub fn law_lasts<D: Disk>(store: &FilePages<D>)
     ensures lasts { EachPair (D.may_leave store.now.files.first) (D.may_leave store.now.files.second) (IsLasting (asked_of store.now.asked) store.now.limits (stored_as store.now)) }
     ensures within { AreWithin store.now.limits (stored_as store.now) }
+    ensures stands { store.now.files.failed ≡ false → Stands D.seen D.may_leave store.now.limits (stored_as store.now) store.now.files store.now.pending }
 {
     let _ = &store.files;
 }

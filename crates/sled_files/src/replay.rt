@@ -1,14 +1,14 @@
 //! A store that is replayed from the changes of a file.
-ghost use Rattle.std.specs.Prelude.{◌≡◌, ◌∷◌, [], map, MatchOption, IfSome, Ok, OnOk, OnErr, IfOk, IfErr};
+ghost use Rattle.std.specs.Prelude.{◌≡◌, ◌<◌, ◌≤◌, ◌∷◌, [], map, length, drop, MatchOption, IfSome, Ok, OnOk, OnErr, IfOk, IfErr};
 ghost use Rattle.sled_bytes.specs.declared.change.Change.TheVariants.{Given, Linked, Rooted};
 ghost use Rattle.sled_files.specs.Change.{changed, nothing_yet};
-ghost use Rattle.sled_bytes.specs.Reading.{changes_of};
+ghost use Rattle.sled_bytes.specs.Reading.{change_at, changes_of};
 ghost use Rattle.sled_files.specs.Standing.{all_changes};
-ghost use Rattle.sled_files.specs.theory.Replay.{replayed_of, numbers_of, numbers_after, HasPlace, is_why_halted, halts, Replays, ReplaysRead, IsReplay, IsWhole};
+ghost use Rattle.sled_files.specs.theory.Replay.{replayed_of, numbers_of, numbers_after, HasPlace, is_why_halted, is_why_unread, halts, ReplaysRead, IsReplay, IsWhole};
 ghost use Rattle.sled_files.specs.Opening.{IsReopened};
 ghost use Rattle.sled_pages.specs.Memory.{store_of, calls_refused};
 
-use sled_bytes::{Change, Refusal, decode_changes};
+use sled_bytes::{Change, Refusal, decode_change};
 use sled_nodes::{IVec, Link, Node, Pid, Version};
 use sled_pages::{MemPages, Rebuild};
 use std::alloc::Global;
@@ -38,6 +38,20 @@ pub struct Replay {
     mark: u64,
     pids: u64,
     versions: u64,
+}
+
+// The change at a place of a payload, and the place behind it.
+fn next_change(alloc: Global, payload: &[u8], at: usize) -> Result<(Change, usize), Halt>
+    requires { at ≤ length payload.now }
+    ensures place { IfOk result (λ next. (at < next.1) × (next.1 ≤ length payload.now)) }
+    ensures ok { IfOk result (λ next. change_at (drop at payload.now) ≡ Ok (next.0, drop next.1 payload.now)) }
+    ensures cause { IfErr result (λ e. is_why_unread e (change_at (drop at payload.now))) }
+{
+    match decode_change(alloc, &payload[at..]) {
+        Ok((change, taken)) => Ok((change, at + taken)),
+        Err(Refusal::NoMemory) => Err(Halt::NoMemory),
+        Err(Refusal::Flawed(_)) => Err(Halt::Flawed),
+    }
 }
 
 impl Replay {
@@ -137,29 +151,23 @@ impl Replay {
         Ok(())
     }
 
-    // Replays changes, the first of them first.
-    fn apply_all(&mut self, changes: Vec<Change>) -> Result<(), Halt>
-        ensures ok { OnOk result (Replays changes.items self.old self.new) }
-        ensures cause { IfErr result (λ e. halts e (Ok changes.items)) }
-    {
-        for change in changes {
-            if let Err(e) = self.apply(change) {
-                return Err(e);
-            }
-        }
-        Ok(())
-    }
-
-    // Replays the changes of a payload.
+    // Replays the changes of a payload, each as soon as it is read.
     fn read(&mut self, alloc: Global, payload: &[u8]) -> Result<(), Halt>
         ensures ok { OnOk result (ReplaysRead (changes_of payload.now) self.old self.new) }
         ensures cause { IfErr result (λ e. halts e (changes_of payload.now)) }
     {
-        match decode_changes(alloc, payload) {
-            Ok(changes) => self.apply_all(changes),
-            Err(Refusal::NoMemory) => Err(Halt::NoMemory),
-            Err(Refusal::Flawed(_)) => Err(Halt::Flawed),
+        let mut at = 0;
+        'changes: while at < payload.len() {
+            let (change, behind) = match next_change(alloc, payload, at) {
+                Ok(next) => next,
+                Err(e) => return Err(e),
+            };
+            if let Err(e) = self.apply(change) {
+                return Err(e);
+            }
+            at = behind;
         }
+        Ok(())
     }
 
     /// The store of all that was replayed. None if a group is open in it, or if a page or a version has a number that is not below the

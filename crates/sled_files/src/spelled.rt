@@ -1,6 +1,6 @@
 //! The changing calls of the pages in memory. Beside each its change is spelled, before it is made, so that none is made that there is
 //! no memory to spell; one that was not made is taken out again.
-ghost use Rattle.std.specs.Prelude.{◌≡◌, ◌≤◌, ◌<◌, [], ◌∷◌, ◌++◌, ℕ, nat_lt, IfOk, IfErr, IfSome, OnOk, true, false};
+ghost use Rattle.std.specs.Prelude.{◌≡◌, ◌≤◌, ◌<◌, [], ◌∷◌, ◌++◌, ℕ, nat_lt, IfOk, IfErr, IfSome, IfNone, OnOk, true, false};
 ghost use Rattle.sled_nodes.specs.declared.error.Error.TheVariants.{NoMemory};
 ghost use Rattle.sled_nodes.specs.Node.{after_link};
 ghost use Rattle.sled_store.specs.State.{GroupBegins, GroupEnds};
@@ -11,6 +11,7 @@ ghost use Rattle.sled_files.specs.Lasting.{Limits};
 ghost use Rattle.sled_files.specs.Pending.{Spells};
 ghost use Rattle.sled_files.specs.Stored.{AreWithin};
 ghost use Rattle.sled_files.specs.Raised.{ComeNext};
+ghost use Rattle.sled_files.specs.Codes.{AreUsedUp};
 ghost use Rattle.sled_files.specs.theory.Spelled.{IsSpelled};
 ghost use Rattle.sled_files.specs.theory.Ahead.{IsAhead};
 
@@ -64,7 +65,8 @@ pub fn spell_limits(
 
 /// The page number and the version that come next, while there is such a number.
 pub fn next_of(pages: &MemPages) -> Option<(Pid, Version)>
-    ensures { IfSome result (λ next. ComeNext (store_of pages.now) next.0 next.1) }
+    ensures next { IfSome result (λ next. ComeNext (store_of pages.now) next.0 next.1) }
+    ensures none { IfNone result (AreUsedUp (store_of pages.now)) }
 {
     let (greatest, versions) = pages.numbers_given();
     let pid = greatest.0.checked_add(1)?;

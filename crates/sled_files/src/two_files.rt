@@ -279,8 +279,10 @@ impl<D: Disk> TwoFiles<D> {
         ensures ready { OnOk result ((d : Durable) (changes : List Change) → IsReady D.seen D.may_leave self.old d → Spells payload.now changes → AreAdded changes d → IsReady D.seen D.may_leave self.new (changed_all changes d)) }
         ensures any_moment { (d : Durable) (changes : List Change) → IsReady D.seen D.may_leave self.old d → Spells payload.now changes → AreAdded changes d → LeavesPairs D.moment D.left_since D.may_leave self.old self.new (AreForEither d (changed_all changes d)) }
         ensures emptied { OnOk result (length (D.seen (other_of self.new)) ≤ 1) }
-        // The log is longer by the block: a gate, two numbers of 8 bytes, and the changes. It has the same snapshot and generation.
+        // The log is longer by the block: a gate, two numbers of 8 bytes, and the changes. It is in the same file, and has the same snapshot and
+        // generation.
         ensures bytes { OnOk result (self.new.gate ≡ self.old.gate + 17 + length payload.now) }
+        ensures same { self.new.is_second ≡ self.old.is_second }
         ensures snapshot { self.new.snapshot ≡ self.old.snapshot }
         ensures generation { self.new.generation ≡ self.old.generation }
         ensures up { OnOk result ((self.old.failed ≡ false) × (self.new.failed ≡ false)) }

@@ -1,6 +1,6 @@
 -- What a file of the operating system shows.
-use Rattle.std.specs.Prelude.{ℕ, List}
-use Rattle.sled_host.specs.Event.{Event}
+use Rattle.std.specs.Prelude.{◌≡◌, ℕ, false, List, [], ◌∷◌}
+use Rattle.sled_host.specs.Event.{Event, opened}
 use Rattle.sled_host.specs.Outcomes.{seen_after_all, MayLeave, LeftSince}
 use Rattle.sled_host.specs.declared.host.HostFile.{HostFile}
 
@@ -19,6 +19,10 @@ outcomes_of file = MayLeave (calls_of file)
 -- what a crash at some moment from that one on might have left
 abbrev pub outcomes_since : HostFile → ℕ → List ℕ → Type 0
 outcomes_since file = LeftSince (calls_of file)
+
+-- the opening did not make the file, and no call came after it
+abbrev pub WasThere : HostFile → Type 0
+WasThere file = calls_of file ≡ opened false (bytes_of file) ∷ []
 
 -- how many calls were refused for a fault
 abbrev pub faults_of : HostFile → ℕ

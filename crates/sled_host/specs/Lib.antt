@@ -1,7 +1,9 @@
 pub mod Event
 pub mod Outcomes
 pub mod Laws
+pub mod Noted
 pub mod Stops
 pub mod Host
+pub mod Pair
 pub mod theory
 pub use Rattle.sled_disk.specs as sled_disk

@@ -5,7 +5,7 @@ use Rattle.sled_host.specs.Event.{Event, opened, wrote, cut, synced}
 
 -- what a file has after a call; one that was not done is taken to have changed nothing, and nothing is read from then on
 abbrev pub seen_after : Event → List ℕ → List ℕ
-seen_after (opened bytes) seen = bytes
+seen_after (opened is_new bytes) seen = bytes
 seen_after (wrote at bytes true) seen = written at bytes seen
 seen_after (wrote at bytes false) seen = seen
 seen_after (cut n true) seen = take n seen
@@ -19,7 +19,7 @@ seen_after_all (event ∷ earlier) = seen_after event (seen_after_all earlier)
 
 -- what a crash may make of a call, by what the file had before it: of what was left so far this may be left
 abbrev pub MayBecome : Event → List ℕ → List ℕ → List ℕ → Type 0
-MayBecome (opened bytes) seen old new = new ≡ bytes
+MayBecome (opened is_new bytes) seen old new = new ≡ bytes
 MayBecome (wrote at bytes done) seen old new = Torn at bytes old new
 MayBecome (cut n done) seen old new = Shortened n old new
 MayBecome (synced true) seen old new = new ≡ seen

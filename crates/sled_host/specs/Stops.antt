@@ -5,7 +5,7 @@ use Rattle.sled_host.specs.Event.{Event, opened, wrote, cut, synced}
 
 -- the system answered that the call was done
 abbrev pub is_done : Event → Bool
-is_done (opened bytes) = true
+is_done (opened is_new bytes) = true
 is_done (wrote at bytes done) = done
 is_done (cut n done) = done
 is_done (synced done) = done

@@ -1,5 +1,5 @@
 //! A file of the operating system as a store sees it.
-ghost use Rattle.std.specs.Prelude.{◌≡◌, ◌≤◌, ◌+◌, ℕ, [], ◌∷◌, List, length, true, false, OnOk, OnErr, is_ok};
+ghost use Rattle.std.specs.Prelude.{◌≡◌, ◌≤◌, ◌+◌, ℕ, [], ◌∷◌, List, length, true, false, IfOk, OnOk, OnErr, is_ok};
 ghost use Rattle.std.specs.Option.{ForSome};
 ghost use Rattle.std.proofs.Common.{inl, refl};
 ghost use Rattle.sled_disk.specs.Disk.{Only, is_caused, HasCause};
@@ -10,6 +10,7 @@ ghost use Rattle.sled_host.specs.Stops.{has_failed, has_stopped};
 use crate::system::SystemFile;
 use sled_disk::{Disk, DiskError, Result};
 use std::alloc::Global;
+use std::fs::File;
 use std::io::{self, ErrorKind};
 
 /// A file of the operating system. It can be read until its first change: what it had at its opening is kept in memory until then,
@@ -29,22 +30,22 @@ pub struct HostFile {
 }
 
 impl HostFile {
-    ghost use Rattle.sled_host.specs.Host.{bytes_of, outcomes_of, faults_of};
+    ghost use Rattle.sled_host.specs.Host.{calls_of, bytes_of, outcomes_of, faults_of};
 
-    /// A file of which this was read.
-    pub(crate) fn new(system: SystemFile, bytes: Vec<u8>) -> HostFile
-        requires { system.record.events ≡ opened bytes.items ∷ [] }
-        ensures bytes { bytes_of result ≡ bytes.items }
-        ensures durable { Only (bytes_of result) (outcomes_of result) }
-        ensures unfailing { faults_of result ≡ 0 }
+    /// An open file, brought to the disk and read. It is new if its opening made it.
+    pub(crate) fn settle(alloc: Global, file: File, is_new: bool) -> io::Result<HostFile>
+        ensures opened { IfOk result (λ f. calls_of f ≡ opened is_new (bytes_of f) ∷ []) }
+        ensures durable { IfOk result (λ f. Only (bytes_of f) (outcomes_of f)) }
+        ensures unfailing { IfOk result (λ f. faults_of f ≡ 0) }
     {
-        HostFile {
+        let (system, bytes) = SystemFile::settle(alloc, file, is_new)?;
+        Ok(HostFile {
             system,
             len: bytes.len(),
             kept: Some(bytes),
             is_failed: false,
             faults: 0,
-        }
+        })
     }
 }
 

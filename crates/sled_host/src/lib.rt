@@ -7,7 +7,7 @@
 //!
 //! 1. Each method of `SystemFile` (src/system.rt) makes the call that it notes. A body that notes a sync and makes none would be proved
 //!    too, so these few lines have to be read.
-//! 2. The opening reads what the disk has: a sync of the file goes before the read. If an earlier process had a failed sync, the
+//! 2. The opening says whether it made the file, and reads what the disk has: a sync of the file goes before the read. If an earlier process had a failed sync, the
 //!    system may still show bytes in its memory that the disk does not have; std has no call that drops them.
 //! 3. The disk is honest (`IsHonest` in specs/Host.antt): what the next opening reads is what the calls of this one may have left. So a
 //!    sync that was answered keeps all, and the disk does not decay. A write changes no byte outside of its range, a write of one byte
@@ -15,8 +15,9 @@
 //!    as one that failed.
 //! 4. No one else changes the files: the lock keeps out programs that ask for it, and no others.
 //!
-//! Nothing is proved of the opening but that a file has what was read: that the files are made, locked and regular, and that the folder
-//! is brought to the disk, is tested or read from the code alone.
+//! Of the opening little is proved. A file has what was read. None is made if that is not wanted, and if the file system has no locks
+//! it is refused only if they are needed. That the files are locked and regular, and that the folder is brought to the disk, is tested
+//! or read from the code alone.
 #![tactic(auto)]
 
 mod host;
@@ -28,3 +29,4 @@ mod system;
 pub use host::HostFile;
 pub use laws::law_honest;
 pub use pair::{HostError, Opening, Pair, open_pair};
+pub use record::{Call, Record};

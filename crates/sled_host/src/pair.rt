@@ -1,10 +1,11 @@
 //! The two files of a store, in a folder: made if they are not there, locked, and opened.
-ghost use Rattle.std.specs.Prelude.{◌≡◌, true, IfOk};
+ghost use Rattle.std.specs.Prelude.{◌≡◌, true, false, IfOk, IfErr, IfSome};
 ghost use Rattle.sled_disk.specs.Disk.{Only};
-ghost use Rattle.sled_host.specs.Host.{bytes_of, outcomes_of, faults_of};
+ghost use Rattle.sled_host.specs.Host.{bytes_of, outcomes_of, faults_of, WasThere};
+ghost use Rattle.sled_host.specs.declared.pair.Opening.{Opening};
+ghost use Rattle.sled_host.specs.Pair.{AreFound, is_no_lock, is_why_unpaired};
 
 use crate::host::HostFile;
-use crate::system::SystemFile;
 use std::fmt::{self, Display, Formatter, Write};
 use std::fs::{self, File, OpenOptions, TryLockError};
 use std::io::{self, ErrorKind};
@@ -56,6 +57,8 @@ pub enum HostError {
 }
 
 impl From<io::Error> for HostError {
+    ghost from_gives = { λ _ e. is_no_lock e };
+
     fn from(error: io::Error) -> HostError {
         if error.kind() == ErrorKind::OutOfMemory {
             HostError::NoMemory
@@ -66,6 +69,8 @@ impl From<io::Error> for HostError {
 }
 
 impl From<std::alloc::AllocError> for HostError {
+    ghost from_gives = { λ _ e. is_no_lock e };
+
     fn from(_: std::alloc::AllocError) -> HostError {
         HostError::NoMemory
     }
@@ -98,13 +103,28 @@ pub fn open_pair(rt: &HostRuntime, path: &str, opening: Opening) -> Result<Pair,
     ensures unfailing { IfOk result (λ pair. (faults_of pair.first ≡ 0) × (faults_of pair.second ≡ 0)) }
     // Files that cannot be locked are opened only if that is allowed.
     ensures locked { IfOk result (λ pair. opening.needs_lock ≡ true → pair.is_locked ≡ true) }
+    // If none is to be made, both were there.
+    ensures found { IfOk result (λ pair. AreFound opening pair.first pair.second) }
+    ensures err { IfErr result (is_why_unpaired opening) }
 {
     let is_new = opening.creates && make_folder(rt, path)?;
     let folder = folder_at(rt, path)?;
-    let (first, is_first_locked) = open_file(rt, &folder, FIRST, opening)?;
-    let (second, is_second_locked) = open_file(rt, &folder, SECOND, opening)?;
-    sync_folder(rt, folder.as_str())?;
-    sync_parent(rt, folder, is_new)?;
+    let pair = open_both(rt, &folder, opening)?;
+    sync_names(rt, folder, is_new)?;
+    Ok(pair)
+}
+
+// Both files of a folder, opened and locked.
+fn open_both(rt: &HostRuntime, folder: &PathBuf, opening: Opening) -> Result<Pair, HostError>
+    ensures first { IfOk result (λ pair. Only (bytes_of pair.first) (outcomes_of pair.first)) }
+    ensures second { IfOk result (λ pair. Only (bytes_of pair.second) (outcomes_of pair.second)) }
+    ensures unfailing { IfOk result (λ pair. (faults_of pair.first ≡ 0) × (faults_of pair.second ≡ 0)) }
+    ensures locked { IfOk result (λ pair. opening.needs_lock ≡ true → pair.is_locked ≡ true) }
+    ensures found { IfOk result (λ pair. AreFound opening pair.first pair.second) }
+    ensures err { IfErr result (is_why_unpaired opening) }
+{
+    let (first, is_first_locked) = open_file(rt, folder, FIRST, opening)?;
+    let (second, is_second_locked) = open_file(rt, folder, SECOND, opening)?;
     Ok(Pair {
         first,
         second,
@@ -122,7 +142,9 @@ fn make_folder(rt: &HostRuntime, path: &str) -> io::Result<bool> {
 }
 
 // The folder of a path, with no link in it.
-fn folder_at(rt: &HostRuntime, path: &str) -> Result<PathBuf, HostError> {
+fn folder_at(rt: &HostRuntime, path: &str) -> Result<PathBuf, HostError>
+    ensures { IfErr result is_no_lock }
+{
     if fs::metadata(rt, path)?.is_dir() {
         Ok(fs::canonicalize(rt, path)?)
     } else {
@@ -140,33 +162,42 @@ fn open_file(
     ensures durable { IfOk result (λ it. Only (bytes_of it.0) (outcomes_of it.0)) }
     ensures unfailing { IfOk result (λ it. faults_of it.0 ≡ 0) }
     ensures locked { IfOk result (λ it. opening.needs_lock ≡ true → it.1 ≡ true) }
+    ensures found { IfOk result (λ it. opening.creates ≡ false → WasThere it.0) }
+    ensures err { IfErr result (is_why_unpaired opening) }
 {
     let path = folder.join(rt.alloc(), name)?;
-    let file = open_or_make(rt, path.as_str(), opening.creates)?;
+    let (file, is_new) = open_or_make(rt, path.as_str(), opening.creates)?;
     let is_locked = lock(&file, opening.needs_lock)?;
     if !is_named(rt, &file, path.as_str())? {
         return Err(HostError::NotAFile);
     }
-    let (system, bytes) = SystemFile::settle(rt.alloc(), file)?;
-    Ok((HostFile::new(system, bytes), is_locked))
+    Ok((HostFile::settle(rt.alloc(), file, is_new)?, is_locked))
 }
 
-// A regular file, which is made if nothing is at the path.
-fn open_or_make(rt: &HostRuntime, path: &str, creates: bool) -> Result<File, HostError> {
-    let file = match open_new(rt, path, creates)? {
-        Some(file) => file,
-        None => open_old(rt, path)?,
-    };
-    // What is meant for a standard stream that was closed must not land in a store.
+// A regular file, which is made if nothing is at the path, and whether it was made.
+fn open_or_make(rt: &HostRuntime, path: &str, creates: bool) -> Result<(File, bool), HostError>
+    ensures found { IfOk result (λ it. creates ≡ false → it.1 ≡ false) }
+    ensures err { IfErr result is_no_lock }
+{
+    match open_new(rt, path, creates)? {
+        Some(file) => Ok((off_streams(file)?, true)),
+        None => Ok((off_streams(open_old(rt, path)?)?, false)),
+    }
+}
+
+// What is meant for a standard stream that was closed must not land in a store.
+fn off_streams(file: File) -> io::Result<File> {
     if file.as_raw_fd() <= 2 {
-        Ok(file.try_clone()?)
+        file.try_clone()
     } else {
         Ok(file)
     }
 }
 
 // A new file, unless something is at the path or none is to be made.
-fn open_new(rt: &HostRuntime, path: &str, creates: bool) -> io::Result<Option<File>> {
+fn open_new(rt: &HostRuntime, path: &str, creates: bool) -> io::Result<Option<File>>
+    ensures { IfOk result (λ made. IfSome made (λ _. creates ≡ true)) }
+{
     if !creates {
         return Ok(None);
     }
@@ -178,7 +209,9 @@ fn open_new(rt: &HostRuntime, path: &str, creates: bool) -> io::Result<Option<Fi
 }
 
 // The file that is at the path. A link, a pipe or a device is not opened.
-fn open_old(rt: &HostRuntime, path: &str) -> Result<File, HostError> {
+fn open_old(rt: &HostRuntime, path: &str) -> Result<File, HostError>
+    ensures { IfErr result is_no_lock }
+{
     if !fs::symlink_metadata(rt, path)?.is_file() {
         return Err(HostError::NotAFile);
     }
@@ -187,7 +220,8 @@ fn open_old(rt: &HostRuntime, path: &str) -> Result<File, HostError> {
 
 // Locks a file for as long as it is open, and says whether that could be done.
 fn lock(file: &File, needs_lock: bool) -> Result<bool, HostError>
-    ensures { IfOk result (λ is_locked. needs_lock ≡ true → is_locked ≡ true) }
+    ensures ok { IfOk result (λ is_locked. needs_lock ≡ true → is_locked ≡ true) }
+    ensures err { IfErr result (λ e. (opening : Opening) → opening.needs_lock ≡ needs_lock → is_why_unpaired opening e) }
 {
     match file.try_lock() {
         Ok(()) => Ok(true),
@@ -207,6 +241,12 @@ fn is_named(rt: &HostRuntime, file: &File, path: &str) -> io::Result<bool> {
     let opened = file.metadata()?;
     let named = fs::symlink_metadata(rt, path)?;
     Ok(named.is_file() && opened.dev() == named.dev() && opened.ino() == named.ino())
+}
+
+// Brings the names of the files to the disk, and that of the folder.
+fn sync_names(rt: &HostRuntime, folder: PathBuf, is_new: bool) -> io::Result<()> {
+    sync_folder(rt, folder.as_str())?;
+    sync_parent(rt, folder, is_new)
 }
 
 fn sync_folder(rt: &HostRuntime, path: &str) -> io::Result<()> {

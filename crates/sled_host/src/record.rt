@@ -2,7 +2,8 @@
 ghost use Rattle.std.specs.Prelude.{◌≡◌, List, [], ◌∷◌};
 ghost use Rattle.std.specs.Borrow.{ftrue};
 ghost use Rattle.sled_host.specs.Event.{Event};
-ghost use Rattle.sled_host.specs.theory.Record.{event_of, events_code};
+ghost use Rattle.sled_host.specs.Noted.{event_of};
+ghost use Rattle.sled_host.specs.theory.Record.{events_code};
 
 use std::marker::Model;
 
@@ -22,8 +23,8 @@ unsafe impl Send for Record {}
 /// A call, and what the system answered.
 #[derive(Clone, Copy, Drop)]
 pub enum Call<'a> {
-    /// The file was brought to the disk, and then these bytes were read, all that it has.
-    Opened(&'a [u8]),
+    /// The file was made, or was there; it was brought to the disk, and then these bytes were read, all that it has.
+    Opened(bool, &'a [u8]),
     /// These bytes were to be written at this place; whether all were.
     Wrote(usize, &'a [u8], bool),
     /// The file was to be cut to this length; whether it was.

@@ -1,7 +1,7 @@
 //! The calls of the system that are made of an open file: each method makes one, and then notes it with its answer.
 ghost use Rattle.std.specs.Prelude.{◌≡◌, [], ◌∷◌, is_ok, IfOk};
 ghost use Rattle.sled_host.specs.Event.{opened, wrote, cut, synced};
-ghost use Rattle.sled_host.specs.theory.Record.{event_of};
+ghost use Rattle.sled_host.specs.Noted.{event_of};
 
 use crate::record::{Call, Record};
 use std::alloc::Global;
@@ -17,13 +17,13 @@ pub struct SystemFile {
 }
 
 impl SystemFile {
-    /// Brings an open file to the disk, and reads all that it has.
-    pub fn settle(alloc: Global, file: File) -> io::Result<(SystemFile, Vec<u8>)>
-        ensures { IfOk result (λ it. it.0.record.events ≡ opened it.1.items ∷ []) }
+    /// Brings an open file to the disk, and reads all that it has. It is new if its opening made it.
+    pub fn settle(alloc: Global, file: File, is_new: bool) -> io::Result<(SystemFile, Vec<u8>)>
+        ensures { IfOk result (λ it. it.0.record.events ≡ opened is_new it.1.items ∷ []) }
     {
         file.sync_all()?;
         let bytes = whole(alloc, &file)?;
-        let record = Record::new().and(&Call::Opened(&bytes));
+        let record = Record::new().and(&Call::Opened(is_new, &bytes));
         Ok((SystemFile { file, record }, bytes))
     }
 

@@ -1,6 +1,7 @@
 -- A log that a crash may have torn: a block was written together with its open gate, and the crash left a part of it.
 --
--- The digest tells a torn block from a whole one. The log ends where no whole block is, and nothing from there on counts.
+-- A whole block is known by its digest; that no torn one has a digest that fits is a premise (`Tells`). The log ends where no whole block
+-- is, and nothing from there on counts.
 use Rattle.std.specs.Prelude.{◌≡◌, ◌⊎◌, ◌+◌, ◌<◌, ◌^◌, ℕ, zero, suc, List, [], ◌∷◌, ◌++◌, length, drop, Option, Some, None, Result, Ok, Err}
 use Rattle.std.specs.List.{AllByRecursion}
 use Rattle.sled_log.specs.Digest.{digest}

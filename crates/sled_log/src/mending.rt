@@ -55,7 +55,8 @@ fn close_at<D: Disk>(disk: &mut D, end: usize, len: usize) -> Result<()>
 }
 
 /// Makes a log whole that a crash may have torn: it ends with a closed gate, where it is read up to a tear, and nothing is behind that. The
-/// place of the gate is returned. A file that ends so is not written. Look at the payloads first: of a file that is no log nothing is left.
+/// place of the gate is returned. A file that ends so stays as it is. What a read returns has to be on the disk: after an opening, sync
+/// first. Look at the payloads first: of a file that is no log nothing is left.
 ///
 /// ```
 /// let gate = mend(&mut file, alloc)?;

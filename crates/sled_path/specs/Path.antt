@@ -1,5 +1,5 @@
 -- The outcome of opening a database in a folder.
-use Rattle.std.specs.Prelude.{◌≡◌, ◌⊎◌, ℕ, List}
+use Rattle.std.specs.Prelude.{◌≡◌, ◌⊎◌, true}
 use Rattle.sled_nodes.specs.Order.{Key}
 use Rattle.sled_nodes.specs.declared.error.Error.{Error}
 use Rattle.sled_nodes.specs.declared.error.Error.TheVariants as error
@@ -9,8 +9,10 @@ use Rattle.sled_files.specs.Stored.{Stored, stored_as}
 use Rattle.sled_files.specs.Opening.{OpensTo, is_why_unopened, is_fault}
 use Rattle.sled_files.specs.declared.found.OpenError as file
 use Rattle.sled_host.specs.Host.{bytes_of, outcomes_of}
+use Rattle.sled_host.specs.Pair.{AreFound, is_why_unpaired}
 use Rattle.sled_host.specs.declared.host.HostFile.{HostFile}
 use Rattle.sled_host.specs.declared.pair.HostError.{HostError}
+use Rattle.sled_host.specs.declared.pair.Opening.{Opening}
 use Rattle.sled_host.specs.declared.pair.HostError.TheVariants as host
 use Rattle.sled.specs.Values.{DbValue}
 use Rattle.sled.specs.Opens.{Opens}
@@ -18,41 +20,58 @@ use Rattle.sled.specs.Checked.{RefusesChecked, IsFit}
 use Rattle.sled_path.specs.declared.error.OpenError.{OpenError}
 use Rattle.sled_path.specs.declared.error.OpenError.TheVariants.{NotAStore, OtherFormat, Decayed, Locked, Io, Disk, Database}
 
--- A database of this name was opened over the store that the bytes of two files stand for, or over a new one if both are blank. Its pages
--- are those of a database
-pub record OpensIn {M : Type 0} (name : Key) (db : DbValue (Stored HostFile) M) : Type 0 where
-  pub first : List ℕ
-  pub second : List ℕ
+-- the store that two files of an opening stand for, or a new one if both are blank. If no file was to be made, both were there
+pub record StoreIn (opening : Opening) (files : Files HostFile) (store : Store) : Type 0 where
+  pub first : HostFile
+  pub second : HostFile
+  pub found : AreFound opening first second
+  pub opens : OpensTo bytes_of outcomes_of (bytes_of first) (bytes_of second) files store
+
+-- a database of this name was opened over it. Its pages are those of a database
+pub record OpensIn {M : Type 0} (opening : Opening) (name : Key) (db : DbValue (Stored HostFile) M) : Type 0 where
   pub files : Files HostFile
   pub store : Store
-  pub files_are : OpensTo bytes_of outcomes_of first second files store
+  pub is : StoreIn opening files store
   pub fit : IsFit (now store)
   pub opens : Opens stored_as store name db
 
--- two files that were read are refused for this
-pub record AreRefused (e : file.OpenError) : Type 0 where
-  pub first : List ℕ
-  pub second : List ℕ
-  pub why : is_why_unopened e first second
+-- two files of an opening are refused for this, the first thing that is wrong with what was read of them
+pub record AreRefused (opening : Opening) (e : file.OpenError) : Type 0 where
+  pub first : HostFile
+  pub second : HostFile
+  pub found : AreFound opening first second
+  pub why : is_why_unopened e (bytes_of first) (bytes_of second)
 
 -- the store that was opened is refused by a database for this
-pub record IsUnfit (e : Error) : Type 0 where
+pub record IsUnfit (opening : Opening) (e : Error) : Type 0 where
+  pub files : Files HostFile
   pub store : Store
   pub left : Store
+  pub is : StoreIn opening files store
   pub why : RefusesChecked store e left
 
--- what the operating system refused: want of memory, and a database that is open elsewhere, have names of their own
-abbrev pub is_of_system : HostError → Type 0
-is_of_system host.NoMemory = ⊥
-is_of_system host.Locked = ⊥
-is_of_system e = Unit {0}
+-- What the operating system refused: want of memory, and a database that is open elsewhere, have names of their own. That there are no
+-- locks is no cause unless they are needed
+abbrev pub is_of_system : Opening → HostError → Type 0
+is_of_system opening host.NoMemory = ⊥
+is_of_system opening host.Locked = ⊥
+is_of_system opening e = is_why_unpaired opening e
 
--- why no database was opened
-abbrev pub is_why_closed : OpenError → Type 0
-is_why_closed NotAStore = AreRefused file.TheVariants.NotAStore
-is_why_closed (OtherFormat other) = AreRefused (file.TheVariants.OtherFormat other)
-is_why_closed (Decayed place) = AreRefused (file.TheVariants.Decayed place)
-is_why_closed Locked = Unit {0}
-is_why_closed (Io e) = is_of_system e
-is_why_closed (Disk e) = is_fault e
-is_why_closed (Database e) = (e ≡ error.NoMemory) ⊎ IsUnfit e
+-- Why no database was opened:
+--
+-- `NotAStore`, `OtherFormat`, `Decayed`: what was read of the two files is none of a store, and this is wrong with it.
+-- `Locked`: the system answered that a file is locked. `Io`: it refused a call of the folder, or one that opens a file.
+-- `Disk`: both files were opened, and a later call of one was refused, but not for want of memory.
+-- `Database`: there was no memory, or the files have a store and its pages are none of a database.
+abbrev pub is_why_closed : Opening → OpenError → Type 0
+is_why_closed opening NotAStore = AreRefused opening file.TheVariants.NotAStore
+is_why_closed opening (OtherFormat other) = AreRefused opening (file.TheVariants.OtherFormat other)
+is_why_closed opening (Decayed place) = AreRefused opening (file.TheVariants.Decayed place)
+is_why_closed opening Locked = Unit {0}
+is_why_closed opening (Io e) = is_of_system opening e
+is_why_closed opening (Disk e) = is_fault e
+is_why_closed opening (Database e) = (e ≡ error.NoMemory) ⊎ IsUnfit opening e
+
+-- the options of an opening that makes what is missing, and needs locks
+abbrev pub usual : Opening
+usual = record { creates = true; needs_lock = true }

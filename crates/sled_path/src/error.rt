@@ -1,6 +1,9 @@
 //! Why a database is not opened in a folder.
-ghost use Rattle.std.specs.Prelude.{List, ℕ};
 ghost use Rattle.sled_files.specs.Opening.{is_why_closed as is_why_unfiled};
+ghost use Rattle.sled_host.specs.Host.{bytes_of};
+ghost use Rattle.sled_host.specs.Pair.{AreFound, is_why_unpaired};
+ghost use Rattle.sled_host.specs.declared.host.HostFile.{HostFile};
+ghost use Rattle.sled_host.specs.declared.pair.Opening.{Opening};
 ghost use Rattle.sled_path.specs.Path.{is_why_closed};
 
 use sled_disk::DiskError;
@@ -29,7 +32,7 @@ pub enum OpenError {
 
 // Why the files of a folder were not opened.
 pub(crate) fn of_host(e: HostError) -> OpenError
-    ensures { is_why_closed result }
+    ensures { (opening : Opening) → is_why_unpaired opening e → is_why_closed opening result }
 {
     match e {
         HostError::NoMemory => OpenError::Database(Error::NoMemory),
@@ -40,7 +43,7 @@ pub(crate) fn of_host(e: HostError) -> OpenError
 
 // Why no store was opened in them.
 pub(crate) fn of_files(e: sled_files::OpenError) -> OpenError
-    ensures { (first second : List ℕ) → is_why_unfiled e first second → is_why_closed result }
+    ensures { (opening : Opening) (first second : HostFile) → AreFound opening first second → is_why_unfiled e (bytes_of first) (bytes_of second) → is_why_closed opening result }
 {
     match e {
         sled_files::OpenError::NoMemory => OpenError::Database(Error::NoMemory),

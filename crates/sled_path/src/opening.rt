@@ -1,6 +1,6 @@
 //! A database is opened in a folder.
 ghost use Rattle.std.specs.Prelude.{◌≡◌, true, IfOk, IfErr};
-ghost use Rattle.sled_path.specs.Path.{OpensIn, is_why_closed};
+ghost use Rattle.sled_path.specs.Path.{OpensIn, is_why_closed, usual};
 
 use crate::error::{OpenError, of_files, of_host};
 use sled::Db;
@@ -23,8 +23,8 @@ pub fn open<M: MergeOperator>(
     path: &str,
     name: &[u8],
 ) -> Result<Db<FilePages<HostFile>, M>, OpenError>
-    ensures ok { IfOk result (OpensIn name.now) }
-    ensures err { IfErr result is_why_closed }
+    ensures ok { IfOk result (OpensIn usual name.now) }
+    ensures err { IfErr result (is_why_closed usual) }
 {
     let opening = Opening {
         creates: true,
@@ -50,9 +50,9 @@ pub fn open_with<M: MergeOperator>(
     name: &[u8],
     opening: Opening,
 ) -> Result<(Db<FilePages<HostFile>, M>, bool), OpenError>
-    ensures ok { IfOk result (λ opened. OpensIn name.now opened.0) }
+    ensures ok { IfOk result (λ opened. OpensIn opening name.now opened.0) }
     ensures locked { IfOk result (λ opened. opening.needs_lock ≡ true → opened.1 ≡ true) }
-    ensures err { IfErr result is_why_closed }
+    ensures err { IfErr result (is_why_closed opening) }
 {
     let Pair {
         first,

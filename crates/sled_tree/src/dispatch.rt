@@ -13,10 +13,8 @@ ghost use Rattle.sled_tree.specs.theory.Walking.{WalksDown};
 
 use crate::act::act;
 use crate::flight::{Aim, InFlight, Job, Sequel, Went};
-use crate::hoist::{hoist, swap_root};
-use crate::merge::{cap, confirm, intend, read_child, receive, seek};
-use crate::split::{free, halve, install_left, post};
-use crate::walk::{Descent, at_leaf, descend, is_on_walk, mend, settle};
+use crate::walk::Descent;
+use crate::{hoist, merge, split, walk};
 use sled_model::{MAX_LOOPS, MergeOperator};
 use sled_store::Pages;
 use std::alloc::Global;
@@ -35,18 +33,18 @@ fn step_elsewhere<P: Pages>(
     ensures follows { Follows (course job.now aim.now) (P.store pages.old) stage result (P.store pages.new) }
 {
     match stage {
-        Stage::Split(split) => halve(pages, alloc, job, aim, split),
-        Stage::InstallLeft(split) => install_left(pages, job, aim, split),
-        Stage::Post(pointer) => post(pages, alloc, job, aim, pointer),
-        Stage::Hoist(pair) => hoist(pages, alloc, job, aim, pair),
-        Stage::SwapRoot(root) => swap_root(pages, job, aim, root),
-        Stage::Free(own) => free(pages, job, aim, own),
-        Stage::Intend(merge) => intend(pages, alloc, job, aim, merge),
-        Stage::Child(merge) => read_child(pages, alloc, job, aim, merge),
-        Stage::Cap(child) => cap(pages, alloc, job, aim, child),
-        Stage::Seek(search) => seek(pages, alloc, job, aim, search),
-        Stage::Receive(child) => receive(pages, alloc, job, aim, child),
-        Stage::Confirm(child) => confirm(pages, job, aim, child),
+        Stage::Split(split) => split::halve(pages, alloc, job, aim, split),
+        Stage::InstallLeft(split) => split::install_left(pages, job, aim, split),
+        Stage::Post(pointer) => split::post(pages, alloc, job, aim, pointer),
+        Stage::Hoist(pair) => hoist::hoist(pages, alloc, job, aim, pair),
+        Stage::SwapRoot(root) => hoist::swap_root(pages, job, aim, root),
+        Stage::Free(own) => split::free(pages, job, aim, own),
+        Stage::Intend(merge) => merge::intend(pages, alloc, job, aim, merge),
+        Stage::Child(merge) => merge::read_child(pages, alloc, job, aim, merge),
+        Stage::Cap(child) => merge::cap(pages, alloc, job, aim, child),
+        Stage::Seek(search) => merge::seek(pages, alloc, job, aim, search),
+        Stage::Receive(child) => merge::receive(pages, alloc, job, aim, child),
+        Stage::Confirm(child) => merge::confirm(pages, job, aim, child),
         Stage::Root | Stage::Walk(_) | Stage::Act(_) | Stage::Give(_) => unreachable!(),
     }
 }
@@ -107,16 +105,16 @@ pub fn advance<P: Pages, M: MergeOperator>(
     ensures passes { StepsOnPath (now (P.store pages.old)) flight.old result (now (P.store pages.new)) flight.new }
     ensures follows { FollowsOn (P.store pages.old) flight.old result (P.store pages.new) flight.new }
 {
-    match descend(pages, alloc, &flight.job, &flight.aim, &mut flight.stage) {
+    match walk::descend(pages, alloc, &flight.job, &flight.aim, &mut flight.stage) {
         Descent::None => advance_stage(pages, alloc, operator, flight),
         Descent::Further => {
             flight.turns += 1;
             Went::Moved
         }
-        Descent::Leaf(view) => at_leaf(flight, view),
-        Descent::Unclean(view) => mend(flight, view),
-        Descent::Lost => settle(flight, Sequel::Go(Stage::Root)),
-        Descent::Refused(e) => settle(flight, Sequel::Refused(e)),
+        Descent::Leaf(view) => walk::at_leaf(flight, view),
+        Descent::Unclean(view) => walk::mend(flight, view),
+        Descent::Lost => walk::settle(flight, Sequel::Go(Stage::Root)),
+        Descent::Refused(e) => walk::settle(flight, Sequel::Refused(e)),
     }
 }
 
@@ -125,14 +123,14 @@ pub fn advance<P: Pages, M: MergeOperator>(
 pub fn walk_down<P: Pages>(pages: &P, alloc: Global, flight: &mut InFlight) -> Option<Went>
     ensures { WalksDown (P.store pages.now) flight.old result flight.new }
 {
-    'steps: while flight.turns < MAX_LOOPS && is_on_walk(&flight.stage) {
-        match descend(pages, alloc, &flight.job, &flight.aim, &mut flight.stage) {
+    'steps: while flight.turns < MAX_LOOPS && walk::is_on_walk(&flight.stage) {
+        match walk::descend(pages, alloc, &flight.job, &flight.aim, &mut flight.stage) {
             Descent::None => return None,
             Descent::Further => flight.turns += 1,
-            Descent::Leaf(view) => return Some(at_leaf(flight, view)),
-            Descent::Unclean(view) => return Some(mend(flight, view)),
-            Descent::Lost => return Some(settle(flight, Sequel::Go(Stage::Root))),
-            Descent::Refused(e) => return Some(settle(flight, Sequel::Refused(e))),
+            Descent::Leaf(view) => return Some(walk::at_leaf(flight, view)),
+            Descent::Unclean(view) => return Some(walk::mend(flight, view)),
+            Descent::Lost => return Some(walk::settle(flight, Sequel::Go(Stage::Root))),
+            Descent::Refused(e) => return Some(walk::settle(flight, Sequel::Refused(e))),
         }
     }
     None

@@ -17,8 +17,7 @@ ghost use Rattle.sled_tree.specs.theory.Passing.{AdvancesFromPage};
 ghost use Rattle.sled_tree.specs.declared.flight.Sequel.TheVariants.{Go};
 
 use crate::flight::{Aim, Job, Sequel};
-use crate::merge::{begin, help};
-use crate::walk::{lies_under, target};
+use crate::{merge, walk};
 use sled_nodes::{Node, is_up_to};
 use sled_store::View;
 use std::ops::Bound;
@@ -58,15 +57,15 @@ pub(crate) fn repair(job: &Job, aim: &Aim, view: View, reached: Reached) -> Sequ
     }
     if let Some(child) = node.merging_child {
         drop(reached);
-        return help(view, child);
+        return merge::help(view, child);
     }
     if node.should_split() {
         return split(job, aim, view, reached);
     }
-    if ends_within(node, target(job, aim)) {
+    if ends_within(node, walk::target(job, aim)) {
         return go_on(job, aim, view, reached);
     }
-    if !lies_under(node, target(job, aim)) {
+    if !walk::lies_under(node, walk::target(job, aim)) {
         drop(view);
         drop(reached);
         return Sequel::Go(Stage::Root);
@@ -175,5 +174,5 @@ fn merge(job: &Job, aim: &Aim, view: View, parent: View) -> Sequel
 {
     let pid = view.pid;
     drop(view);
-    begin(parent, pid)
+    merge::begin(parent, pid)
 }

@@ -65,12 +65,13 @@ impl Example {
         }
     }
 
-    // What is seen in this database after the changes and a crash that keeps so many actions.
-    fn seen_in(self, alloc: Global, db: Fresh, keep: usize) -> Seen {
+    // What is seen in this database after the changes and a crash that keeps so many actions. What had to begin may have failed if a call of
+    // the store was refused.
+    fn seen_in(self, alloc: Global, db: Fresh, refused: u64, keep: usize) -> Seen {
         let (seen, db) = run(db, self.change);
         if self.has_to_begin() && !seen.is_yes() {
             drop(db.into_pages());
-            return Seen::Yes;
+            return if refused == 0 { seen } else { Seen::Yes };
         }
         match self.left(alloc, db, keep) {
             Ok(left) => run_last(left, self.look),
@@ -86,7 +87,7 @@ impl Example {
             return Seen::refused(e);
         }
         match open_stock(alloc, pages, b"shop") {
-            Ok(db) => self.seen_in(alloc, db, keep),
+            Ok(db) => self.seen_in(alloc, db, refused, keep),
             Err(e) => Seen::refused(e),
         }
     }

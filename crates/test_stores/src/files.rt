@@ -6,7 +6,7 @@ use sled_store::Pages;
 use std::alloc::Global;
 use store_kit::Trial;
 
-/// Stores in two files, which are in memory. Each second flush or so begins a file anew.
+/// Stores in two files, which are in memory. A flush begins a file anew once the log is twice as long as its snapshot.
 pub struct Files;
 
 type Stored = FilePages<MemoryDisk>;

@@ -1,4 +1,3 @@
 pub mod Walks
-pub mod Operating
 pub mod Dropping
 pub mod Sizing

@@ -1,4 +1,3 @@
 pub mod Export
-pub mod Operators
 pub mod Drops
 pub mod Stats

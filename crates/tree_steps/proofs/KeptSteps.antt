@@ -43,8 +43,7 @@ use Rattle.sled_tree.specs.declared.flight.Went.{Went}
 use Rattle.sled_tree.specs.declared.flight.Went.TheVariants as went
 use Rattle.sled_tree.proofs.Facts.{unable, by_these}
 use Rattle.tree_scans.specs.Scans.{ScanStep, Gives, Ends, GoesOn, Walks, Lacks, behind}
-use Rattle.tree_steps.specs.Outcomes.{outcome_of}
-use Rattle.tree_steps.specs.theory.Outcomes.{ComesOut, IsUnkept}
+use Rattle.tree_steps.specs.theory.Outcomes.{ComesOut}
 use Rattle.tree_steps.specs.theory.Watched.{TellsPrepared, StepsOver, steps_over_as, links_watched_as}
 use Rattle.tree_steps.proofs.Watching.{short, alone, same_queues}
 
@@ -259,20 +258,6 @@ scan_kept operator a b f g scan queues w kept step out = record { is = over (ran
       ],
       same_queues queues queues refl,
     )
-
--- of a step that decides nothing no reply is kept, and of none if no copies are
-pub unkept : (copies : Bool) (w : Went) → ((reply : Reply) → w ≡ went.Decided reply → ⊥) → IsUnkept copies (outcome_of w)
-unkept false w off = tt
-unkept true went.Moved off = tt
-unkept true (went.Yielded key value) off = tt
-unkept true (went.Decided reply) off = absurd (off reply refl)
-unkept true (went.Refused e) off = tt
-
-pub unkept_moved : (copies : Bool) → IsUnkept copies (outcome_of went.Moved)
-unkept_moved copies = unkept copies went.Moved (λ reply e. cc)
-
-pub unkept_refused : (copies : Bool) (e : Error) → IsUnkept copies (outcome_of (went.Refused e))
-unkept_refused copies e = unkept copies (went.Refused e) (λ reply d. cc)
 
 -- ---- a change that was prepared
 

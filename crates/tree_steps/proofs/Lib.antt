@@ -1,2 +1,3 @@
 pub mod Watching
 pub mod KeptSteps
+pub mod Unkept

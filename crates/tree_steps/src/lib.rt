@@ -8,4 +8,4 @@ mod keep;
 mod step;
 
 pub use keep::Keep;
-pub use step::{Kept, advance_over, keep_over, step_over};
+pub use step::step_over;

@@ -11,21 +11,18 @@ ghost use Rattle.sled_tree.specs.theory.Change.{IsOfPair};
 ghost use Rattle.sled_tree.specs.theory.Linking.{IsAtLink};
 ghost use Rattle.sled_model.specs.State.{IsOnKey};
 ghost use Rattle.sled_tree.specs.Stages.{IsOnItsWay};
-ghost use Rattle.tree_steps.specs.Outcomes.{outcome_of, kept_of};
+ghost use Rattle.tree_steps.specs.Outcomes.{outcome_of};
 ghost use Rattle.tree_steps.specs.theory.Outcomes.{ComesOut};
 ghost use Rattle.tree_steps.specs.theory.Watched.{AdvancesOver, StepsOver, TellsPrepared, links_watched_as};
 
 use crate::keep::Keep;
-use sled_model::{MAX_LOOPS, MergeOperator, Reply};
+use sled_model::{MAX_LOOPS, MergeOperator};
 use sled_queues::Queues;
 use sled_store::Pages;
 use sled_tree::{
     Change, InFlight, Stage, Went, advance, begin_again, event_of, link_change, prepare_change,
 };
 use std::alloc::Global;
-
-/// How a step came out, and two copies of the reply if it decided its call.
-pub type Kept = (Went, Option<(Reply, Reply)>);
 
 // Whether the event of a call that is to link its change is sent. `None` where `advance` does the whole step: where nothing is to be
 // linked, or what is linked is neither told nor kept.
@@ -214,38 +211,4 @@ pub fn step_over<P: Pages, M: MergeOperator, K: Keep>(
         Some(watched) => link_over(pages, queues, alloc, operator, flight, watched),
         None => keep(advance(pages, alloc, operator, flight)),
     }
-}
-
-/// One step of a call in flight that has turns left. A scan touches no queue.
-pub fn advance_over<P: Pages, M: MergeOperator>(
-    pages: &mut P,
-    queues: &mut Queues,
-    alloc: Global,
-    operator: Option<&M>,
-    flight: &mut InFlight,
-) -> Went
-    requires room { flight.old.turns < MAX_LOOPS }
-    requires way { IsOnKey flight.old.job.call → IsOnItsWay flight.old.stage }
-    requires calm { IsCalm (queue_at queues.old) }
-    ensures { StepsOver (option_map (λ o. M.meant o.now) operator.entry) (P.store pages.old) queues.old flight.old result (P.store pages.new) queues.new flight.new }
-{
-    let (went, ()) = step_over(pages, queues, alloc, operator, flight);
-    went
-}
-
-/// One step of a call in flight that has turns left, as `advance_over` makes it, and copies of its reply if it decides the call.
-pub fn keep_over<P: Pages, M: MergeOperator>(
-    pages: &mut P,
-    queues: &mut Queues,
-    alloc: Global,
-    operator: Option<&M>,
-    flight: &mut InFlight,
-) -> Kept
-    requires room { flight.old.turns < MAX_LOOPS }
-    requires way { IsOnKey flight.old.job.call → IsOnItsWay flight.old.stage }
-    requires calm { IsCalm (queue_at queues.old) }
-    ensures steps { StepsOver (option_map (λ o. M.meant o.now) operator.entry) (P.store pages.old) queues.old flight.old result.0 (P.store pages.new) queues.new flight.new }
-    ensures kept { result.1 ≡ kept_of (outcome_of result.0) }
-{
-    step_over(pages, queues, alloc, operator, flight)
 }

@@ -1,11 +1,15 @@
 -- Of Notes, for proofs. A call with copies of it, until they are noted.
 use Rattle.std.specs.Prelude.{◌≡◌, ℕ, List, [], ◌++◌, Option, Some}
+use Rattle.sled_store.specs.Store.{Store}
+use Rattle.sled_model.specs.Maps.{Merge}
 use Rattle.sled_model.specs.declared.call.Call.{Call}
 use Rattle.sled_model.specs.declared.tree.Tree.{Tree}
 use Rattle.sled_model.specs.declared.outcome.Outcome.{Outcome}
 use Rattle.sled_tree.specs.declared.flight.Job.{Job}
 use Rattle.machine_shared.specs.Made.{MadeValue}
 use Rattle.machine_shared.specs.Notes.{IsEnd, noted_of}
+use Rattle.machine_shared.specs.UnderLock.{EndsUnderLock}
+use Rattle.machine_shared.specs.Values.{CallerValue}
 use Rattle.machine_shared.specs.declared.called.Stepped.{Stepped}
 use Rattle.machine_shared.specs.declared.called.Stepped.TheVariants.{Ended, On}
 
@@ -23,3 +27,8 @@ TakesOn o slot left (On s jobs) = (s ≡ slot) × (left ≡ Some jobs) × ((tree
 abbrev pub AddsStepped : Tree → Call → Stepped → List MadeValue → List MadeValue → Type 0
 AddsStepped tree call (Ended o) made more = IsEnd o × (more ≡ made ++ noted_of o tree call)
 AddsStepped tree call (On slot jobs) made more = AreCopies tree call jobs × (more ≡ made)
+
+-- .. and a step that ends it was made under the lock
+abbrev pub EndsStepped : {P M : Type 0} → (P → Store) → (P → ℕ) → (M → Merge) → Tree → Call → Stepped → CallerValue → CallerValue → Type 0
+EndsStepped store flush_number meant tree call (Ended o) me more = EndsUnderLock store flush_number meant tree call o me more
+EndsStepped store flush_number meant tree call (On slot jobs) me more = Unit {0}

@@ -1,9 +1,10 @@
 -- A store that is replayed from the changes of a file.
-use Rattle.std.specs.Prelude.{◌≡◌, ◌≤◌, ◌<◌, ◌+◌, false, ◌^◌, ℕ, max, List, [], ◌∷◌, Result, Ok}
+use Rattle.std.specs.Prelude.{◌≡◌, ◌≤◌, ◌<◌, ◌+◌, false, ◌^◌, ℕ, max, List, [], ◌∷◌, Result, Ok, Err}
 use Rattle.std.specs.List.{All}
 use Rattle.sled_bytes.specs.declared.change.Change.{Change}
 use Rattle.sled_bytes.specs.declared.change.Change.TheVariants.{Given, Linked}
 use Rattle.sled_bytes.specs.declared.refusal.Flaw.{Flaw}
+use Rattle.sled_bytes.specs.Reading.{Read}
 use Rattle.sled_pages.specs.Rebuild.{rebuilt_of}
 use Rattle.sled_files.specs.declared.replay.Replay.{Replay}
 use Rattle.sled_files.specs.declared.replay.Halt.{Halt}
@@ -45,6 +46,11 @@ HasPlace _ = Unit {0}
 abbrev pub is_why_halted : Halt → Change → Type 0
 is_why_halted NoMemory change = Unit {0}
 is_why_halted Flawed change = HasPlace change → ⊥
+
+-- why a change is not read
+abbrev pub is_why_unread : Halt → Read Change → Type 0
+is_why_unread NoMemory read = Unit {0}
+is_why_unread Flawed read = (flaw : Flaw) × (read ≡ Err flaw)
 
 -- changes were replayed, each of which a store can have made
 pub record Replays (changes : List Change) (old new : Replay) : Type 0 where

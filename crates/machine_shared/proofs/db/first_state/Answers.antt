@@ -10,5 +10,5 @@ pub invariant_of-result : goal.invariant_of-result
 invariant_of-result g c = (
   first_is g.P.Pages.store c.args.db c.new-machine.result (contents_of c.args.opening.value.items) (entry_values c.new.result.items) c.args.calls.total c.requires.sound c.requires.open c.requires.opening c.new-machine.ensures.db (ap entry_values c.new.ensures.items) c.requires.none,
   subst (λ l. AreInOrder 0 l (length c.new.result.items)) (sym c.requires.no_scans) (NoneMore (omega arith)),
-  first_scans g.P.Pages.store c.new-machine.result _ _ c.args.scans c.requires.no_scans,
+  first_scans g.P.Pages.store c.new-machine.result _ _ c.args.scans c.requires.no_scans c.new-machine.ensures.flights,
 )

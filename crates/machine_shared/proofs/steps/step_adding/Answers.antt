@@ -1,5 +1,6 @@
-use Rattle.std.proofs.Common.{inr, sym, subst}
+use Rattle.std.proofs.Common.{inr}
 use Rattle.machine_shared.proofs.Noted.{step_adds}
+use Rattle.machine_shared.proofs.UnderLocks.{caller_is}
 use Rattle.machine_shared.proofs.steps.step_adding.Goals as goal
 
 pub returns-in-Some-clause-made : goal.returns-in-Some-clause-made
@@ -9,10 +10,11 @@ pub returns-in-Some-clause-steps : goal.returns-in-Some-clause-steps
 returns-in-Some-clause-steps g c = inr (record {
   old = _;
   new = c.step-outcome.new.self;
-  step = c.step-outcome.ensures.step;
-  adds = c.step-outcome.ensures.history;
-  opening = c.step-outcome.ensures.opening;
-  scans = c.step-outcome.ensures.scans;
-  legal = c.audit.ensures.legal;
-  gave = c.audit.ensures.scans;
+  before = c.audit.ensures.held;
+  after = c.audit-in-Some.ensures.held;
+  is = record {
+    step = c.step-outcome.ensures.step;
+    adds = record { history = c.step-outcome.ensures.history; list = caller_is c.step-outcome.new.me _ _ c.step-outcome.ensures.number c.step-outcome.ensures.made; opening = c.step-outcome.ensures.opening };
+    scans = c.step-outcome.ensures.scans;
+  };
 })

@@ -1,16 +1,30 @@
+use Rattle.std.proofs.Common.{inr}
 use Rattle.sled_files.specs.Stored.{stored_as}
-use Rattle.sled_host.specs.Host.{bytes_of}
 use Rattle.sled_path.proofs.Named.{opens_alike}
 use Rattle.sled_path.proofs.opening.open_with.Goals as goal
 
 pub returns-in-Ok-open_checked-clause-ok : goal.returns-in-Ok-open_checked-clause-ok
 returns-in-Ok-open_checked-clause-ok g c = let pages = c.in-Ok-open.pages in
     rw c.with_operators.ensures (record {
-      first = bytes_of c.in-Ok.pair.first;
-      second = bytes_of c.in-Ok.pair.second;
       files = pages.files;
       store = stored_as pages;
-      files_are = c.in-Ok-open.ensures.opens;
+      is = record { first = c.in-Ok.pair.first; second = c.in-Ok.pair.second; found = c.in-Ok.ensures.found; opens = c.in-Ok-open.ensures.opens };
       fit = c.in-Ok-open_checked.ensures.fit;
       opens = opens_alike stored_as (stored_as pages) c.args.name.now c.in-Ok-open_checked.db c.in-Ok-open_checked.ensures.ok;
+    })
+
+pub returns-in-Err-clause-err : goal.returns-in-Err-clause-err
+returns-in-Err-clause-err g c = c.of_host.ensures c.args.opening c.in-Err.ensures.err
+
+pub returns-in-Err-open-clause-err : goal.returns-in-Err-open-clause-err
+returns-in-Err-open-clause-err g c = c.of_files-why.ensures c.args.opening c.in-Ok.pair.first c.in-Ok.pair.second c.in-Ok.ensures.found c.in-Err-open.ensures.err
+
+pub returns-in-Err-open_checked-clause-err : goal.returns-in-Err-open_checked-clause-err
+returns-in-Err-open_checked-clause-err g c = let pages = c.in-Ok-open.pages in
+    inr (record {
+      files = pages.files;
+      store = stored_as pages;
+      left = stored_as c.in-Err-open_checked.pages;
+      is = record { first = c.in-Ok.pair.first; second = c.in-Ok.pair.second; found = c.in-Ok.ensures.found; opens = c.in-Ok-open.ensures.opens };
+      why = c.in-Err-open_checked.ensures.err;
     })

@@ -1,4 +1,4 @@
-use Rattle.tree_steps.proofs.KeptSteps.{unkept}
+use Rattle.tree_steps.proofs.Unkept.{unkept}
 use Rattle.tree_steps.proofs.step.keep.Goals as goal
 
 pub returns-in_default-clause-kept : goal.returns-in_default-clause-kept

@@ -2,7 +2,8 @@ use Rattle.std.proofs.Common.{sym, refl, ap, ◌∙◌, subst}
 use Rattle.sled_model.specs.declared.outcome.Outcome.TheVariants.{Decided}
 use Rattle.sled_tree.specs.theory.Linking.{replies_with}
 use Rattle.tree_steps.specs.theory.Watched.{TellsPrepared}
-use Rattle.tree_steps.proofs.KeptSteps.{told_short, unkept, unkept_refused}
+use Rattle.tree_steps.proofs.KeptSteps.{told_short}
+use Rattle.tree_steps.proofs.Unkept.{unkept, unkept_refused}
 use Rattle.tree_steps.proofs.step.link_keeping.Goals as goal
 
 pub returns-in-Err-clause-links : goal.returns-in-Err-clause-links

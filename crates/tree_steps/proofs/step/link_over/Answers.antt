@@ -1,5 +1,5 @@
 use Rattle.std.specs.Option.{option_map}
-use Rattle.tree_steps.proofs.KeptSteps.{unkept_moved, unkept_refused}
+use Rattle.tree_steps.proofs.Unkept.{unkept_moved, unkept_refused}
 use Rattle.tree_steps.proofs.Watching.{of_pair}
 use Rattle.tree_steps.proofs.step.link_over.Goals as goal
 

@@ -1,12 +1,13 @@
 use Rattle.std.proofs.Common.{◌∙◌, ◌++◌, ap}
 use Rattle.std.proofs.lemmas.List.{length-map}
 use Rattle.sled_model.specs.Collections.{contents_of}
-use Rattle.machine_shared.specs.Made.{entry_value, entry_values}
+use Rattle.machine_shared.specs.Made.{entry_value, entry_values, made_values}
 use Rattle.machine_shared.specs.Notes.{entries_of}
 use Rattle.machine_shared.specs.theory.Noting.{first_noted}
 use Rattle.machine_shared.proofs.Fetching.{fetched_state}
 use Rattle.machine_shared.proofs.ScanStates.{after_fetch, no_shorter}
 use Rattle.machine_shared.proofs.Scanning.{longer_in_order}
+use Rattle.machine_shared.proofs.UnderLocks.{fetched}
 use Rattle.machine_shared.proofs.state.State.fetch.Goals as goal
 
 pub invariant_of-self : goal.invariant_of-self
@@ -23,3 +24,9 @@ invariant_of-self g c =
       after_fetch g.P.Pages.store g.P.Pages.flush_number g.M.MergeOperator.meant c.self.inside.machine c.fetch_noting-fetched.new.machine (contents_of c.self.inside.opening.value.items) (entry_values c.self.inside.history.items) (entry_values c.note_and_count.new.history.items) c.self.invariant.0.crashes after.0.crashes after.1 (no_shorter _ _ _ longer) c.self.inside.scans c.self.invariant.2 c.audit.ensures.ascend.is
           c.args.tree.now c.args.key.now c.fetch_noting-fetched.result.0 c.fetch_noting-fetched.ensures.ok c.fetch_noting-fetched.ensures.err c.fetch_noting-fetched.ensures.same c.audit-2.ensures.ascend.is,
     )
+
+pub returns-clause-once : goal.returns-clause-once
+returns-clause-once g c = fetched g.P.Pages.store g.M.MergeOperator.meant c.self.inside.machine c.fetch_noting-fetched.new.machine (contents_of c.self.inside.opening.value.items) c.self.inside.scans (entry_values c.self.inside.history.items) (entry_values c.note_and_count.new.history.items) c.me.inside.number (made_values c.me.inside.made.items) (made_values c.note_and_count.new.made.items)
+    c.args.tree.now c.args.key.now c.fetch_noting-fetched.result.0 (first_noted c.fetch_noting-fetched.result.1) _ c.self.view_is _ c.me.view_is c.fetch_noting-fetched.ensures.ok c.fetch_noting-fetched.ensures.err c.fetch_noting-fetched.ensures.noted c.fetch_noting-fetched.ensures.none c.fetch_noting-fetched.ensures.same
+    (c.note_and_count.ensures.history ∙ ap (λ es. entry_values es ++ entries_of c.me.inside.number (first_noted c.fetch_noting-fetched.result.1)) c.fetch_noting-fetched.ensures.history)
+    (c.note_and_count.ensures.made ∙ ap (λ ms. made_values ms ++ first_noted c.fetch_noting-fetched.result.1) c.fetch_noting-fetched.ensures.made)

@@ -1,4 +1,5 @@
 use Rattle.sled.proofs.Grouping.{group_untested, group_unread, group_ok, group_err, group_db, group_quiet}
+use Rattle.sled.proofs.Mapping.{group_changes}
 use Rattle.sled.proofs.db.Db.apply_group.Goals as goal
 
 pub returns-in-Err-clause-err : goal.returns-in-Err-clause-err
@@ -18,3 +19,6 @@ returns-clause-err g c = group_err g.P.Pages.store g.M.MergeOperator.meant _ c.a
 
 pub returns-clause-quiet : goal.returns-clause-quiet
 returns-clause-quiet g c = group_quiet g.P.Pages.store g.M.MergeOperator.meant _ c.args.self.now c.self.view_is c.self.invariant c.args.batches.now c.in_default.ensures.ok c.in-Ok.writes.items c.in-Ok.ensures.ok c.make_group-made.new.pages c.make_group-made.new.queues c.make_group-made.result (rw c.as_slice.ensures.value at c.make_group-made.ensures.ok) (rw c.as_slice.ensures.value at c.make_group-made.ensures.err)
+
+pub returns-clause-changes : goal.returns-clause-changes
+returns-clause-changes g c = group_changes g.P.Pages.store g.M.MergeOperator.meant _ _ _ _ (returns-clause-ok g c)

@@ -1,4 +1,5 @@
 use Rattle.sled.proofs.Popping.{clearing_first, clearing_ends, clearing_unread, clearing_untaken, clearing_more, clearing_smaller, clearing_unread_steps, clearing_untaken_steps, clearing_parts, clearing_parts_untaken}
+use Rattle.sled.proofs.Mapping.{clear_changes}
 use Rattle.sled.proofs.db.Db.clear_counted.Goals as goal
 
 pub parts-init : goal.parts-init
@@ -36,3 +37,6 @@ returns-in-Err-clause-parts g c = clearing_parts g.P.Pages.store g.M.MergeOperat
 
 pub returns-in-Err-point-clause-parts : goal.returns-in-Err-point-clause-parts
 returns-in-Err-point-clause-parts g c = clearing_parts_untaken g.P.Pages.store g.M.MergeOperator.meant c.args.self.now c.args.tree.now c.parts.self c.parts.invariant _ _ c.in-Ok-Some.field-0-is c.in-Ok-Some.ensures.ok _ _ c.in-Err-point.ensures.err
+
+pub returns-in-Ok-None-clause-changes : goal.returns-in-Ok-None-clause-changes
+returns-in-Ok-None-clause-changes g c = clear_changes g.P.Pages.store g.M.MergeOperator.meant _ _ _ (returns-in-Ok-None-clause-ok g c)

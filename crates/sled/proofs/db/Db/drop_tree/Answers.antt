@@ -1,5 +1,6 @@
 use Rattle.std.proofs.Common.{sym, refl, ◌∙◌}
 use Rattle.sled.proofs.Removing.{not_default, is_default, numbered_as, open_as, untouched_as, refused_drop_as, dropped_as, dropped_db_as}
+use Rattle.sled.proofs.Mapping.{drops_map}
 use Rattle.sled.proofs.db.Db.drop_tree.Goals as goal
 
 pub returns-then-in_group-clause-err : goal.returns-then-in_group-clause-err
@@ -22,3 +23,6 @@ pub returns-clause-ok : goal.returns-clause-ok
 returns-clause-ok g c = dropped_as g.P.Pages.store g.M.MergeOperator.meant _ _ c.self.view_is c.self.invariant _ _
     (numbered_as _ _ _ _ _ c.number_of.ensures c.as_slice.ensures.value c.in-Some.is) (sym c.in_group.ensures ∙ c.if-in_group.false) (not_default _ _ _ c.eq.ensures c.if-eq.false c.as_bytes.ensures.value) _ _ _
     c.take_name.ensures c.take_operator.ensures c.in_default-drop_root.ensures.ok
+
+pub returns-clause-changes : goal.returns-clause-changes
+returns-clause-changes g c = drops_map g.P.Pages.store g.M.MergeOperator.meant _ _ _ _ (returns-clause-ok g c)

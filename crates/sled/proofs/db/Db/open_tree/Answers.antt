@@ -3,6 +3,7 @@ use Rattle.sled_store.specs.Store.{now}
 use Rattle.sled.specs.Sound.{IsDb}
 use Rattle.sled.specs.Values.{numbers_of}
 use Rattle.sled.proofs.Planting.{opens_closed, all_known, all_short}
+use Rattle.sled.proofs.Mapping.{opens_all}
 use Rattle.sled.proofs.db.Db.open_tree.Goals as goal
 
 pub returns-then-in_group-clause-err : goal.returns-then-in_group-clause-err
@@ -18,3 +19,9 @@ pub returns-in-Some-clause-err : goal.returns-in-Some-clause-err
 returns-in-Some-clause-err g c =
     let no_group : (now (g.P.Pages.store c.args.self.now.pages)).in_group ≡ false = search rules in
     all_short g.P.Pages.store g.M.MergeOperator.meant c.args.self.now no_group c.args.name.now c.handle_of.result c.handle_of.ensures.err
+
+pub returns-in-Some-clause-changes : goal.returns-in-Some-clause-changes
+returns-in-Some-clause-changes g c = opens_all g.P.Pages.store g.M.MergeOperator.meant _ _ _ c.handle_of.result (returns-in-Some-clause-ok g c)
+
+pub returns-in-None-clause-changes : goal.returns-in-None-clause-changes
+returns-in-None-clause-changes g c = opens_all g.P.Pages.store g.M.MergeOperator.meant _ _ _ c.add_tree.result c.add_tree.ensures.ok

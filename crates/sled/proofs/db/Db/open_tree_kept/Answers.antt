@@ -1,6 +1,6 @@
 use Rattle.std.proofs.Common.{refl, inl}
 use Rattle.sled.proofs.Planting.{opens_short}
-use Rattle.sled.proofs.Keeping.{copy_opened}
+use Rattle.sled.proofs.Importing.{copy_opened}
 use Rattle.sled.proofs.db.Db.open_tree_kept.Goals as goal
 
 pub returns-in-Err-clause-refused : goal.returns-in-Err-clause-refused

@@ -1,4 +1,4 @@
-use Rattle.std.proofs.Common.{◌∷◌, [], inl, inr, ⊎_elim, refl, sym, ap, ◌∙◌, subst, List, ℕ}
+use Rattle.std.proofs.Common.{◌∷◌, [], inl, inr, ⊎_elim, refl, sym, ap, ◌∙◌, subst, arith, List, ℕ, ◌⊎◌, ◌≤◌}
 use Rattle.sled_files.specs.Raised.{raised_to}
 use Rattle.sled_pages.specs.Memory.{store_of}
 use Rattle.sled_bytes.specs.declared.change.Change.TheVariants.{Limited}
@@ -8,8 +8,13 @@ use Rattle.sled_files.proofs.Sound.{sound_faults}
 use Rattle.sled_files.proofs.Moments.{moments_none}
 use Rattle.sled_files.proofs.Added.{sound_refused, sound_raised, moments_raised}
 use Rattle.sled_files.proofs.Limits.{same_limits, grown_by}
+use Rattle.sled_files.proofs.Coding.{unstored_weaker}
+use Rattle.sled_files.proofs.Ungiven.{used_up_at}
 use Rattle.sled_files.proofs.Raising.{limited_length}
+use Rattle.sled_files.specs.Stored.{Stored, stored_as}
+use Rattle.sled_files.specs.Codes.{AreUsedUp}
 use Rattle.sled_files.proofs.file_pages.FilePages.raise.Goals as goal
+use Rattle.sled_files.proofs.file_pages.FilePages.raise.Goals.{then-pids-pid-via-then-pids-pid, then-pids-pid-via-else-pids-pid+then-versions-version}
 
 pub invariant_of-self : goal.invariant_of-self
 invariant_of-self g c = sound_faults g.D.Disk.seen g.D.Disk.may_leave _ c.fault.new.faults c.self.invariant
@@ -56,3 +61,20 @@ pub returns-clause-grown : goal.returns-clause-grown
 returns-clause-grown g c =
     let spells = subst (λ (l : List ℕ). Spells l (Limited c.raised-pids.result c.raised-versions.result ∷ [])) (sym c.deref.ensures.value) c.in-Ok.ensures.ok in
     rw (← c.self.view_is) (grown_by _ _ (limited_length spells) c.in_default.ensures.grown)
+
+pub returns-then-pids-pid-clause-cause : goal.returns-then-pids-pid-clause-cause
+returns-then-pids-pid-clause-cause g c =
+    let pids = c.raised-pids.ensures.is ∙ ap (raised_to c.self.inside.limit_pids) c.pid.view_is in
+    let versions = c.raised-versions.ensures.is ∙ ap (raised_to c.self.inside.limit_versions) c.version.view_is in
+    let low : (raised_to c.self.inside.limit_pids c.args.pid ≤ c.args.pid) ⊎ (raised_to c.self.inside.limit_versions c.args.version ≤ c.args.version) = elim c.then-pids-pid.branch [
+      | then-pids-pid-via-then-pids-pid w ↦ inl (omega (arith, w.if-pids-pid.true, pids, c.pid.view_is))
+      | then-pids-pid-via-else-pids-pid+then-versions-version w ↦ inr (omega (arith, w.if-versions-version.true, versions, c.version.view_is))
+    ] in
+    let given : AreUsedUp (stored_as c.args.self.now) = used_up_at c.self.inside.limit_pids c.self.inside.limit_versions c.requires low in
+    let same : AreUsedUp (store_of c.self.inside.pages) = subst (λ (v : Stored g.row.D.Denot). AreUsedUp (stored_as v)) (sym c.self.view_is) given in
+    rw (← c.self.view_is) (inl (record { given = same; files = refl; is = c.fault.ensures.is }))
+
+pub returns-in-Err-add-clause-cause : goal.returns-in-Err-add-clause-cause
+returns-in-Err-add-clause-cause g c =
+    let spells = subst (λ (l : List ℕ). Spells l (Limited c.raised-pids.result c.raised-versions.result ∷ [])) (sym c.deref.ensures.value) c.in-Ok.ensures.ok in
+    rw (← c.self.view_is) (inr (unstored_weaker (λ lacks. omega (arith, lacks, limited_length spells)) c.in-Err-add.ensures.cause))

@@ -1,4 +1,4 @@
-use Rattle.std.proofs.Common.{refl}
+use Rattle.std.proofs.Common.{refl, inl}
 use Rattle.sled_pages.specs.Memory.{store_of}
 use Rattle.sled_files.proofs.Over.{own_fault}
 use Rattle.sled_files.proofs.Sound.{sound_faults}
@@ -13,3 +13,6 @@ returns-in_default-clause-err g c = rw (← c.self.view_is) (own_fault (store_of
 
 pub returns-in_default-clause-any_moment : goal.returns-in_default-clause-any_moment
 returns-in_default-clause-any_moment g c = rw (← c.self.view_is) (moments_none c.law_time.ensures.first c.law_time.ensures.second refl c.self.invariant.lasts)
+
+pub returns-in_default-clause-cause : goal.returns-in_default-clause-cause
+returns-in_default-clause-cause g c = rw (← c.self.view_is) (inl (record { given = c.in_default.ensures.none; files = refl; is = c.fault.ensures.is }))

@@ -1,8 +1,10 @@
-use Rattle.std.proofs.Common.{◌≡◌, ◌<◌, ◌∙◌, sym, subst, ap, rules}
+use Rattle.std.proofs.Common.{◌≡◌, ◌<◌, ◌∙◌, refl, inl, sym, subst, ap, rules}
+use Rattle.sled_store.specs.Store.{Store}
 use Rattle.sled_pages.specs.Memory.{store_of}
 use Rattle.sled_files.specs.Stored.{Stored, stored_as, over}
 use Rattle.sled_files.proofs.Over.{if_ok, if_err, changes_over, refused_over}
 use Rattle.sled_files.proofs.Sound.{sound_spelled}
+use Rattle.sled_files.proofs.Ungiven.{ungiven_in_memory}
 use Rattle.sled_files.proofs.Limits.{reaches_ok, reaches_err, fails_to_reach}
 use Rattle.sled_files.proofs.file_pages.FilePagesPages.replace.Goals as goal
 
@@ -29,3 +31,11 @@ returns-in-Ok-clause-refused g c = reaches_err _ (ap (λ (v : Stored g.row.D.Den
 
 pub returns-in-Err-clause-refused : goal.returns-in-Err-clause-refused
 returns-in-Err-clause-refused g c = fails_to_reach c.in-Err.ensures.kept c.in-Err.ensures.fails
+
+pub returns-in-Ok-clause-cause : goal.returns-in-Ok-clause-cause
+returns-in-Ok-clause-cause g c =
+    let faults = ap (λ (s : Store). s.faults) (ap stored_as c.self.view_is ∙ c.in-Ok.ensures.same) in
+    ungiven_in_memory g.D.Disk.faults c.args.self.now _ c.self.inside.pages c.self.inside.faults c.replace.result (ap (λ (v : Stored g.row.D.Denot). v.pages) c.self.view_is ∙ c.in-Ok.ensures.pages.pages) faults refl c.replace.ensures.err
+
+pub returns-in-Err-clause-cause : goal.returns-in-Err-clause-cause
+returns-in-Err-clause-cause g c = inl c.in-Err.ensures.cause

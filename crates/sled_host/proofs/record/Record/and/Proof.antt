@@ -28,7 +28,7 @@ use denote.Triple.Walked.{says, Stays, stay_dropped, walk_of, ends_at, walk_Meet
 use Rattle.sled_host.proofs.Steps.{bare, bare_made}
 use Rattle.sled_host.specs.contracts.record.Record as Record
 use Rattle.sled_host.specs.contracts.record.Call as Call
-use Rattle.sled_host.specs.theory.Record.{event_of}
+use Rattle.sled_host.specs.Noted.{event_of}
 use Rattle.sled_host.specs.contracts.record.Record.and as it
 use Rattle.sled_host.specs.contracts.record.Record.and.Key.{name as #self}
 use Rattle.sled_host.proofs.record.Record.and.Statement as stated

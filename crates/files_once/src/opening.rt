@@ -1,0 +1,152 @@
+//! A store is opened in two files whose blocks are brought to the disk in one sync.
+ghost use Rattle.std.specs.Prelude.{◌≡◌, ℕ, false, List, IfOk, IfErr, OnOk};
+ghost use Rattle.sled_store.specs.Store.{Store};
+ghost use Rattle.sled_pages.specs.Memory.{empty_store};
+ghost use Rattle.sled_files.specs.Change.{Durable};
+ghost use Rattle.sled_files.specs.Standing.{AreBlank};
+ghost use Rattle.sled_files.specs.Lasting.{Limits};
+ghost use Rattle.sled_files.specs.Laws.{GoesOn};
+ghost use Rattle.sled_files.specs.Opening.{IsReopened, is_refusal, is_why_closed};
+ghost use Rattle.sled_files.specs.Stored.{stored_as};
+ghost use Rattle.sled_once.specs.Once.{bytes_of};
+ghost use Rattle.files_once.specs.Mended.{IsMended};
+ghost use Rattle.files_once.specs.Lasting.{AreReadFor, AreReadLasting, LastsAsRead, OpensMended, IsWhyUnmended};
+
+use crate::mending::mend_store;
+use sled_disk::{Disk, DiskError};
+use sled_files::{FilePages, NotOpened, OpenError, law_lasts, law_opened_goes_on};
+use sled_once::{OneSync, law_read_as_left};
+use std::alloc::Global;
+
+// A refusal of a disk.
+fn refusal_of(e: DiskError) -> OpenError
+    ensures refusal { is_refusal result }
+    ensures why { (one two : List ℕ) → is_why_closed result one two }
+{
+    match e {
+        DiskError::NoMemory => OpenError::NoMemory,
+        e => OpenError::Disk(e),
+    }
+}
+
+/// Mends both files of a store as `mend_store` does one, and says whether one was changed.
+///
+/// ```
+/// let were_torn = mend_both(alloc, &mut first, &mut second)?;
+/// ```
+pub fn mend_both<D: Disk>(alloc: Global, first: &mut D, second: &mut D) -> sled_disk::Result<bool>
+    ensures first { OnOk result (IsMended (D.seen first.old) (D.seen first.new)) }
+    ensures second { OnOk result (IsMended (D.seen second.old) (D.seen second.new)) }
+    ensures same { IfOk result (λ is. is ≡ false → (D.seen first.new ≡ D.seen first.old) × (D.seen second.new ≡ D.seen second.old)) }
+{
+    let is_first = mend_store(alloc, first)?;
+    let is_second = mend_store(alloc, second)?;
+    Ok(is_first || is_second)
+}
+
+// Puts a `OneSync` in front of each of two disks.
+fn both_once<D: Disk>(
+    alloc: Global,
+    first: D,
+    second: D,
+) -> Result<(OneSync<D>, OneSync<D>), NotOpened<D>>
+    ensures first { IfOk result (λ x. bytes_of x.0 ≡ D.seen first) }
+    ensures second { IfOk result (λ x. bytes_of x.1 ≡ D.seen second) }
+    ensures err { IfErr result (λ x. is_refusal x.error) }
+{
+    let first = match OneSync::new(alloc, first) {
+        Ok(first) => first,
+        Err((first, e)) => {
+            return Err(NotOpened {
+                error: refusal_of(e),
+                first,
+                second,
+            });
+        }
+    };
+    match OneSync::new(alloc, second) {
+        Ok(second) => Ok((first, second)),
+        Err((second, e)) => Err(NotOpened {
+            error: refusal_of(e),
+            first: first.into_disk(),
+            second,
+        }),
+    }
+}
+
+/// Opens a store in two files as `FilePages::open` does, and from then on each block is brought to the disk in one sync. What a crash tore is
+/// mended first: so a block that was under way, or one that has decayed, ends the log of its file. Files that were written in two syncs are
+/// opened too, and what is written in one sync is mended by this call alone: `FilePages::open` takes what is torn for decayed.
+///
+/// Refused as `FilePages::open` is, but that of a store's file only its first block and its header can be found to be decayed.
+///
+/// ```
+/// match open_once(alloc, first, second) {
+///     Ok(store) => drop(store),         // A flush syncs once.
+///     Err(refused) => drop(refused),    // `refused.first` and `refused.second` are the disks.
+/// }
+/// ```
+pub fn open_once<D: Disk>(
+    alloc: Global,
+    first: D,
+    second: D,
+) -> Result<FilePages<OneSync<D>>, NotOpened<D>>
+    // It is opened of the files once they were mended.
+    ensures opens { IfOk result (λ f. OpensMended (D.seen first) (D.seen second) f.files (stored_as f)) }
+    // Of files that are read as those of a store, it is this store.
+    ensures recovers { IfOk result (λ f. (d : Durable) → AreReadFor (D.seen first) (D.seen second) d → IsReopened d (stored_as f)) }
+    // So of files that a crash left in one sync it goes on from the store, as after two syncs.
+    ensures goes_on { IfOk result (λ f. (asked : List ℕ) (limits : Limits) (s : Store) → AreReadLasting asked limits s (D.seen first) (D.seen second) → GoesOn asked limits s (stored_as f)) }
+    ensures begins { IfOk result (λ f. AreBlank (D.seen first) (D.seen second) → stored_as f ≡ empty_store) }
+    ensures err { IfErr result (λ x. IsWhyUnmended (D.seen first) (D.seen second) x.error) }
+    // And it is refused for want of memory or by a disk alone.
+    ensures refused { IfErr result (λ x. (d : Durable) → AreReadFor (D.seen first) (D.seen second) d → is_refusal x.error) }
+{
+    law_opened_goes_on();
+    let mut first = first;
+    let mut second = second;
+    if let Err(e) = mend_both(alloc, &mut first, &mut second) {
+        return Err(NotOpened {
+            error: refusal_of(e),
+            first,
+            second,
+        });
+    }
+    let (first, second) = match both_once(alloc, first, second) {
+        Ok(both) => both,
+        Err(refused) => return Err(refused),
+    };
+    match FilePages::open(alloc, first, second) {
+        Ok(store) => Ok(store),
+        Err(refused) => {
+            let NotOpened {
+                error,
+                first,
+                second,
+            } = refused;
+            Err(NotOpened {
+                error,
+                first: first.into_disk(),
+                second: second.into_disk(),
+            })
+        }
+    }
+}
+
+/// Does nothing. It says that, if the digest tells what a crash left of the blocks under way, all that it may leave of the two disks now is read as
+/// what is right for the store, as two syncs leave it. `open_once` opens that.
+///
+/// ```
+/// if let Ok(store) = open_once(alloc, first, second) {
+///     law_lasts_as_read(&store); // From here on a proof knows what `open_once` finds after a crash.
+///     drop(store);
+/// }
+/// ```
+pub fn law_lasts_as_read<D: Disk>(store: &FilePages<OneSync<D>>)
+    ensures { LastsAsRead D.may_leave store.now }
+{
+    law_lasts(store);
+    let (first, second) = store.disks();
+    law_read_as_left(first);
+    law_read_as_left(second);
+}

@@ -1,0 +1,137 @@
+-- What is done under the lock, told by its parts.
+use Rattle.std.proofs.Common.{◌≡◌, ◌∙◌, inl, inr, ℕ, Bool, true, false, List, [], ◌∷◌, ◌++◌, append-nil, length, Option, Result, Ok, Err, IfOk, IfErr, OnErr, refl, sym, ap, subst}
+use Rattle.sled_nodes.specs.declared.error.Error.{Error}
+use Rattle.sled_nodes.specs.declared.error.Error.TheVariants.{NoMemory}
+use Rattle.sled_model.specs.Collections.{Content}
+use Rattle.sled_nodes.specs.Order.{Key}
+use Rattle.sled_store.specs.Store.{Store}
+use Rattle.sled_model.specs.Maps.{Merge}
+use Rattle.sled_model.specs.declared.call.Call.{Call}
+use Rattle.sled_model.specs.declared.outcome.Outcome.TheVariants as outcome
+use Rattle.sled_model.specs.declared.outcome.Step.TheVariants as step
+use Rattle.sled_model.specs.declared.tree.Tree.{Tree}
+use Rattle.sled.specs.Sound.{IsDb}
+use Rattle.sled.specs.Values.{snapshot_of_db}
+use Rattle.machine_alone.specs.Sound.{IsMachine}
+use Rattle.machine_alone.specs.Step.{MachineStepContract}
+use Rattle.machine_alone.specs.Values.{MachineValue}
+use Rattle.sled_model.specs.declared.outcome.Outcome.{Outcome}
+use Rattle.sled_tree.specs.declared.flight.Job.{Job}
+use Rattle.machine_shared.specs.Made.{MadeValue, ReadMade, EntryValue}
+use Rattle.machine_shared.specs.Notes.{entries_of}
+use Rattle.machine_shared.specs.Fetches.{FetchesOnce, StaysStill, SwapsNow, swap_made}
+use Rattle.machine_shared.specs.declared.called.Stepped.{Stepped}
+use Rattle.machine_shared.specs.declared.called.Stepped.TheVariants.{Ended, On}
+use Rattle.machine_shared.specs.declared.read.Read.{Read}
+use Rattle.machine_shared.specs.theory.Copied.{EndsStepped, TakesOn}
+use Rattle.machine_shared.specs.Scans.{ScansValue, NotesScan, AreNoted, AreNotKept, AreInOrder, begun_of, noted_at}
+use Rattle.machine_shared.specs.Sound.{IsState}
+use Rattle.machine_shared.specs.UnderLock.{IsHeld, AbandonsSlot, BeginsUnderLock, EndsUnderLock, Looks, ReadsUnderLock, read_made}
+use Rattle.machine_shared.specs.UnderWay.{MachineScans}
+use Rattle.machine_shared.specs.Values.{CallerValue, StateValue}
+use Rattle.machine_shared.proofs.ScanStates.{has_scans}
+
+ok_err : {A X : Type 0} (a : A) (e : Error) (r : Result A Error) → r ≡ Ok a → r ≡ Err e → X
+ok_err a e r f g = cc
+
+err_is : {A : Type 0} (a b : Error) (r : Result A Error) → r ≡ Err a → r ≡ Err b → a ≡ b
+err_is a b r f g = cc
+
+-- what the type of the lock says of a state, and that of its machine
+pub held_of : {P M : Type 0} (store : P → Store) (s : StateValue P M) (total : ℕ) (is : IsState store s.machine s.opening s.history total) → AreInOrder 0 s.scans.notes (length s.history)
+    → MachineScans store s.machine is.crashes.moments (length s.history) s.scans → IsDb store s.machine.db → IsMachine (snapshot_of_db store s.machine.db) s.machine.flights s.machine.slots_given → IsHeld store s
+held_of store s total is order scans pages calls = record {
+  pages = pages;
+  calls = calls;
+  legal = is.legal;
+  leads = is.leads;
+  crashes = is.crashes;
+  gave = has_scans store s is.crashes (length s.history) scans;
+  order = order;
+  ids = is.ids;
+}
+
+-- where nothing is noted of scans
+pub quiet_scans : (old new : ScansValue) → new ≡ old → NotesScan old [] new
+quiet_scans old new same = go old.keeps refl
+  where
+    go : (k : Bool) → old.keeps ≡ k → NotesScan old [] new
+    go true k = AreNoted k (same ∙ ap (λ b. record { keeps = b; notes = old.notes }) k ∙ ap (λ ns. record { keeps = true; notes = ns }) (sym (append-nil old.notes)))
+    go false k = AreNotKept k same
+
+-- a state whose machine alone is another
+machine_alone : {P M : Type 0} (old new : StateValue P M) → new.history ≡ old.history → new.opening ≡ old.opening → new.scans ≡ old.scans → new ≡ record old { machine = new.machine }
+machine_alone old new history opening scans =
+    ap (λ h. record { machine = new.machine; opening = new.opening; history = h; scans = new.scans }) history ∙ ap (λ o. record { machine = new.machine; opening = o; history = old.history; scans = new.scans }) opening
+    ∙ ap (λ s. record { machine = new.machine; opening = old.opening; history = old.history; scans = s }) scans
+
+-- an abandonment, by its parts
+pub abandons : {P M : Type 0} (store : P → Store) (number : P → ℕ) (meant : M → Merge) (old new : StateValue P M) (slot : ℕ) (o : Outcome) → MachineStepContract store number meant old.machine (step.Abandon slot) o new.machine
+    → new.history ≡ old.history → new.opening ≡ old.opening → new.scans ≡ old.scans → AbandonsSlot store number meant slot o old new
+abandons store number meant old new slot o s history opening scans = record { step = s; same = machine_alone old new history opening scans }
+
+-- a caller of which number and list are known
+pub caller_is : (more : CallerValue) (number : ℕ) (made : List MadeValue) → more.number ≡ number → more.made ≡ made → more ≡ record { number = number; made = made }
+caller_is more number made n m = ap (λ k. record { number = k; made = more.made }) n ∙ ap (λ l. record { number = number; made = l }) m
+
+-- a begin, by how it came out
+pub begins : {P M : Type 0} (store : P → Store) (number : P → ℕ) (meant : M → Merge) (old new : StateValue P M) (tree : Tree) (call : Call) (r : Result ℕ Error) → IsHeld store old → IsHeld store new
+    → IfOk r (λ slot. MachineStepContract store number meant old.machine (step.Begin tree call) (outcome.Begun slot) new.machine) → IfErr r (λ e. MachineStepContract store number meant old.machine (step.Begin tree call) (outcome.Refused e) new.machine)
+    → new.history ≡ old.history → new.opening ≡ old.opening → IfOk r (λ slot. NotesScan old.scans (noted_at slot (length old.history) (begun_of tree call)) new.scans) → OnErr r (new.scans ≡ old.scans)
+    → BeginsUnderLock store number meant tree call r
+begins store number meant old new tree call (Ok slot) before after ok err history opening scans same = inr (record { old = old; new = new; before = before; after = after; is = record { step = ok; history = history; opening = opening; scans = scans } })
+begins store number meant old new tree call (Err e) before after ok err history opening scans same = inr (record { old = old; new = new; before = before; after = after; is = record { step = err; history = history; opening = opening; scans = quiet_scans old.scans new.scans same } })
+
+-- where a call has ended it was stepped under the lock
+pub ends_stepped : {P M : Type 0} (store : P → Store) (number : P → ℕ) (meant : M → Merge) (tree : Tree) (call : Call) (me more : CallerValue) (o : Outcome) (slot : ℕ) (left : Option (Job × Job)) (r : Stepped) → TakesOn o slot left r
+    → EndsUnderLock store number meant tree call o me more → EndsStepped store number meant tree call r me more
+ends_stepped store number meant tree call me more o slot left (Ended e) takes ends = subst (λ x. EndsUnderLock store number meant tree call x me more) (sym takes.0) ends
+ends_stepped store number meant tree call me more o slot left (On s jobs) takes ends = tt
+
+-- what is noted of a read, by how it came out
+pub read_noted : {A : Type 0} (read_of : A → Read) (r : Result A Error) (noted : List MadeValue) → IfOk r (λ a. noted ≡ ReadMade (read_of a) ∷ []) → OnErr r (noted ≡ []) → noted ≡ read_made read_of r
+read_noted read_of (Ok a) noted ok err = ok
+read_noted read_of (Err e) noted ok err = err
+
+-- a read that was noted, with nothing else that changed
+pub looked : {P M : Type 0} (machine : MachineValue P M) (opening : List Content) (scans : ScansValue) (history longer : List EntryValue) (number : ℕ) (list more : List MadeValue) (noted : List MadeValue)
+    (s : StateValue P M) → record { machine = machine; opening = opening; history = history; scans = scans } ≡ s → (m : CallerValue) → record { number = number; made = list } ≡ m
+    → longer ≡ history ++ entries_of number noted → more ≡ list ++ noted → Looks noted m (record { number = number; made = more }) s (record { machine = machine; opening = opening; history = longer; scans = scans })
+looked machine opening scans history longer number list more noted s at_s m at_m grows grows_there =
+    subst (λ x. Looks noted m (record { number = number; made = more }) x (record { machine = machine; opening = opening; history = longer; scans = scans })) at_s
+    (subst (λ x. Looks noted x (record { number = number; made = more }) (record { machine = machine; opening = opening; history = history; scans = scans }) (record { machine = machine; opening = opening; history = longer; scans = scans })) at_m
+    (record { machine = refl; adds = record { history = grows; list = ap (λ l. record { number = number; made = l }) grows_there; opening = refl }; scans = refl }))
+
+-- a read whose answer is told as a value of its kind
+pub told_as : {P M A B : Type 0} (store : P → Store) (meant : M → Merge) (read_of : A → Read) (tell : B → A) (a : A) (b : B) (me more : CallerValue) → a ≡ tell b → ReadsUnderLock store meant read_of (Ok a) me more → ReadsUnderLock store meant (λ x. read_of (tell x)) (Ok b) me more
+told_as store meant read_of tell a b me more is reads = elim reads [
+  | inl x ↦ ok_err a x.cause (Ok a) refl x.refused
+  | inr u ↦ inr (record { old = u.old; new = u.new; before = u.before; after = u.after; is = subst (λ n. Looks n me more u.old u.new) (ap (λ x. ReadMade (read_of x) ∷ []) is) u.is })
+]
+
+-- .. and a refusal of the one is one of the other
+pub refused_as : {P M A B : Type 0} (store : P → Store) (meant : M → Merge) (read_of : A → Read) (other : B → Read) (e : Error) (me more : CallerValue) → ReadsUnderLock store meant read_of (Err e) me more → ReadsUnderLock store meant other (Err e) me more
+refused_as store meant read_of other e me more reads = elim reads [
+  | inl x ↦ inl (record { cause = x.cause; unmade = x.unmade; refused = ap (λ c. Err c) (err_is e x.cause (Err e) refl x.refused); same = x.same })
+  | inr u ↦ inr (record { old = u.old; new = u.new; before = u.before; after = u.after; is = u.is })
+]
+
+-- a read that there was no memory for
+pub unread : {P M A : Type 0} (store : P → Store) (meant : M → Merge) (read_of : A → Read) (e : Error) (me : CallerValue) → e ≡ NoMemory → ReadsUnderLock store meant read_of (Err e) me me
+unread store meant read_of e me is = inl (record { cause = NoMemory; unmade = tt; refused = ap (λ c. Err c) is; same = refl })
+
+-- a fetch, by how it came out
+pub fetched : {P M : Type 0} (store : P → Store) (meant : M → Merge) (machine after : MachineValue P M) (opening : List Content) (scans : ScansValue) (history longer : List EntryValue) (number : ℕ) (list more : List MadeValue)
+    (tree : Tree) (key : Key) (r : Result (Option Key × Option Key) Error) (noted : List MadeValue) (s : StateValue P M) → record { machine = machine; opening = opening; history = history; scans = scans } ≡ s → (m : CallerValue) → record { number = number; made = list } ≡ m
+    → IfOk r (λ both. SwapsNow store meant machine tree key both.0 both.1 after) → OnErr r (StaysStill store meant machine after) → IfOk r (λ both. noted ≡ swap_made tree key both.0 both.1 ∷ []) → OnErr r (noted ≡ [])
+    → after ≡ record machine { db = after.db } → longer ≡ history ++ entries_of number noted → more ≡ list ++ noted
+    → FetchesOnce store meant tree key r m (record { number = number; made = more }) s (record { machine = after; opening = opening; history = longer; scans = scans })
+fetched {P} {M} store meant machine after opening scans history longer number list more tree key r noted s at_s m at_m swaps stays ok err same grows grows_there =
+    subst (λ x. FetchesOnce store meant tree key r m (record { number = number; made = more }) x (record { machine = after; opening = opening; history = longer; scans = scans })) at_s
+    (subst (λ x. FetchesOnce store meant tree key r x (record { number = number; made = more }) (record { machine = machine; opening = opening; history = history; scans = scans }) (record { machine = after; opening = opening; history = longer; scans = scans })) at_m
+    (go r swaps stays ok err))
+  where
+    go : (r : Result (Option Key × Option Key) Error) → IfOk r (λ both. SwapsNow store meant machine tree key both.0 both.1 after) → OnErr r (StaysStill store meant machine after) → IfOk r (λ both. noted ≡ swap_made tree key both.0 both.1 ∷ []) → OnErr r (noted ≡ [])
+        → FetchesOnce store meant tree key r (record { number = number; made = list }) (record { number = number; made = more }) (record { machine = machine; opening = opening; history = history; scans = scans }) (record { machine = after; opening = opening; history = longer; scans = scans })
+    go (Ok both) swaps stays ok err = record { changes = swaps; same = same; adds = record { history = grows ∙ ap (λ n. history ++ entries_of number n) ok; list = ap (λ l. record { number = number; made = l }) (grows_there ∙ ap (λ n. list ++ n) ok); opening = refl }; scans = refl }
+    go (Err e) swaps stays ok err = record { changes = stays; same = same; adds = record { history = grows ∙ ap (λ n. history ++ entries_of number n) err; list = ap (λ l. record { number = number; made = l }) (grows_there ∙ ap (λ n. list ++ n) err); opening = refl }; scans = refl }

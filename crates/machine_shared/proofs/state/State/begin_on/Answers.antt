@@ -1,0 +1,14 @@
+use Rattle.std.proofs.Common.{refl, subst}
+use Rattle.sled_tree.specs.declared.flight.Job.{Job}
+use Rattle.machine_shared.specs.UnderLock.{BeginsUnderLock, IsNotBegun}
+use Rattle.machine_shared.specs.theory.Copied.{EndsStepped}
+use Rattle.machine_shared.proofs.UnderLocks.{begins}
+use Rattle.machine_shared.proofs.state.State.begin_on.Goals as goal
+
+pub returns-in-Ok-clause-ends : goal.returns-in-Ok-clause-ends
+returns-in-Ok-clause-ends g c = subst (λ (j : Job). EndsStepped g.P.Pages.store g.P.Pages.flush_number g.M.MergeOperator.meant j.tree j.call c.step_on.result c.args.me.now c.step_on.new.me) c.requires.copies.first c.step_on.ensures.ends
+
+pub returns-in-Err-clause-ends : goal.returns-in-Err-clause-ends
+returns-in-Err-clause-ends g c = IsNotBegun (subst (λ r. BeginsUnderLock g.P.Pages.store g.P.Pages.flush_number g.M.MergeOperator.meant c.args.tree.now c.args.call r) c.in-Err.is
+    (begins g.P.Pages.store g.P.Pages.flush_number g.M.MergeOperator.meant _ c.begin-begun.new.self _ _ c.begin-begun.result c.audit.ensures.held c.audit-2.ensures.held
+    c.begin-begun.ensures.ok c.begin-begun.ensures.err c.begin-begun.ensures.history c.begin-begun.ensures.opening c.begin-begun.ensures.scans c.begin-begun.ensures.same_scans)) refl refl

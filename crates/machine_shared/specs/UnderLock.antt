@@ -1,0 +1,146 @@
+-- What callers do under the lock.
+use Rattle.std.specs.Prelude.{◌≡◌, ◌⊎◌, ℕ, List, [], ◌∷◌, ◌++◌, length, Some, Result, Ok, Err}
+use Rattle.std.specs.Option.{option_map}
+use Rattle.sled_store.specs.Store.{Store}
+use Rattle.sled_nodes.specs.declared.error.Error.{Error}
+use Rattle.sled_nodes.specs.declared.error.Error.TheVariants.{Closed, NoMemory}
+use Rattle.sled_model.specs.Maps.{Merge}
+use Rattle.sled_model.specs.declared.call.Call.{Call}
+use Rattle.sled_model.specs.declared.call.Whole.{Whole}
+use Rattle.sled_model.specs.declared.outcome.Outcome.{Outcome}
+use Rattle.sled_model.specs.declared.outcome.Outcome.TheVariants.{Begun, Refused, NoSuchSlot}
+use Rattle.sled_model.specs.declared.outcome.Step.TheVariants as step
+use Rattle.sled_model.specs.declared.tree.Tree.{Tree}
+use Rattle.sled.specs.Sound.{IsDb}
+use Rattle.sled.specs.Values.{snapshot_of_db}
+use Rattle.machine_alone.specs.Sound.{IsMachine}
+use Rattle.machine_alone.specs.Step.{MachineStepContract}
+use Rattle.machine_alone.specs.Values.{job_of_call, slots_of}
+use Rattle.machine_shared.specs.Made.{MadeValue, ReadMade}
+use Rattle.machine_shared.specs.Notes.{entries_of, noted_in, noted_of}
+use Rattle.machine_shared.specs.Scans.{AreInOrder, NotesScan, begun_of, noted_at, scanned_of}
+use Rattle.machine_shared.specs.Sound.{HasCrashMaps, HasHistory, HasLegalHistory, HasRisingIds, HasScans}
+use Rattle.machine_shared.specs.Steps.{SlotStep}
+use Rattle.machine_shared.specs.Values.{CallerValue, StateValue}
+use Rattle.machine_shared.specs.WholeNotes.{NotesWhole}
+use Rattle.machine_shared.specs.declared.read.Read.{Read}
+use Rattle.machine_shared.specs.declared.scans.ScanNote.{ScanNote}
+
+-- What is so of each state under the lock: its pages are well formed, and what its calls in flight know of them is true. Its history is
+-- legal, and its ids rise; what a crash may leave, and what scans gave, goes along with it
+pub record IsHeld {P M : Type 0} (store : P → Store) (s : StateValue P M) : Type 0 where
+  pub pages : IsDb store s.machine.db
+  pub calls : IsMachine (snapshot_of_db store s.machine.db) s.machine.flights s.machine.slots_given
+  pub legal : HasLegalHistory store s
+  pub leads : HasHistory s
+  pub crashes : HasCrashMaps store s
+  pub gave : HasScans store s
+  pub order : AreInOrder 0 s.scans.notes (length s.history)
+  pub ids : HasRisingIds s
+
+-- this was done under the lock, from one state there to the next
+pub record UnderLock {P M : Type 0} (store : P → Store) (does : StateValue P M → StateValue P M → Type 0) : Type 0 where
+  pub old : StateValue P M
+  pub new : StateValue P M
+  pub before : IsHeld store old
+  pub after : IsHeld store new
+  pub is : does old new
+
+-- what a caller made comes behind all others in the history, and in its own list
+pub record AddsMade {P M : Type 0} (old : StateValue P M) (me : CallerValue) (noted : List MadeValue) (new : StateValue P M) (more : CallerValue) : Type 0 where
+  pub history : new.history ≡ old.history ++ entries_of me.number noted
+  pub list : more ≡ record { number = me.number; made = me.made ++ noted }
+  pub opening : new.opening ≡ old.opening
+
+-- a call that begins, or does not
+abbrev pub begun_as : Result ℕ Error → Outcome
+begun_as (Ok slot) = Begun slot
+begun_as (Err e) = Refused e
+
+-- .. and what is noted of it if it scans
+abbrev pub scan_begun_as : ℕ → Tree → Call → Result ℕ Error → List ScanNote
+scan_begun_as length tree call (Ok slot) = noted_at slot length (begun_of tree call)
+scan_begun_as length tree call (Err e) = []
+
+module _ {P M : Type 0} (store : P → Store) (flush_number : P → ℕ) (meant : M → Merge) where
+  -- A step of a slot is noted as this caller's if it decides a call on a key. What it was of a scan is noted if such notes are kept
+  pub record StepsSlot (slot : ℕ) (o : Outcome) (me more : CallerValue) (old new : StateValue P M) : Type 0 where
+    pub step : SlotStep store flush_number meant old.machine slot o new.machine
+    pub adds : AddsMade old me (noted_in o (slots_of old.machine.flights slot)) new more
+    pub scans : NotesScan old.scans (noted_at slot (length old.history) (scanned_of o)) new.scans
+
+  -- a call begins, or is refused; of a scan that is noted
+  pub record BeginsCall (tree : Tree) (call : Call) (begun : Result ℕ Error) (old new : StateValue P M) : Type 0 where
+    pub step : MachineStepContract store flush_number meant old.machine (step.Begin tree call) (begun_as begun) new.machine
+    pub history : new.history ≡ old.history
+    pub opening : new.opening ≡ old.opening
+    pub scans : NotesScan old.scans (scan_begun_as (length old.history) tree call begun) new.scans
+
+  -- the call in a slot is abandoned, and nothing is noted
+  pub record AbandonsSlot (slot : ℕ) (o : Outcome) (old new : StateValue P M) : Type 0 where
+    pub step : MachineStepContract store flush_number meant old.machine (step.Abandon slot) o new.machine
+    pub same : new ≡ record old { machine = new.machine }
+
+  -- a whole call is noted as this caller's, with its reply or the parts that it did
+  pub record MakesWhole (whole : Whole) (o : Outcome) (me more : CallerValue) (old new : StateValue P M) : Type 0 where
+    pub notes : NotesWhole store flush_number meant old.machine old.history me.number me.made whole o new.machine new.history more.made
+    pub number : more.number ≡ me.number
+    pub opening : new.opening ≡ old.opening
+    pub scans : new.scans ≡ old.scans
+
+  -- the step of a slot that ends this call on a key, which is noted as this caller's if it is decided
+  pub record EndsCall (tree : Tree) (call : Call) (slot : ℕ) (o : Outcome) (me more : CallerValue) (old new : StateValue P M) : Type 0 where
+    pub its : option_map job_of_call (slots_of old.machine.flights slot) ≡ Some (tree, call)
+    pub step : SlotStep store flush_number meant old.machine slot o new.machine
+    pub adds : AddsMade old me (noted_of o tree call) new more
+    pub scans : new.scans ≡ old.scans
+
+  -- Each of these was done under the lock; or the database was taken out of it, and nothing was done
+  abbrev pub StepsUnderLock : ℕ → Outcome → CallerValue → CallerValue → Type 0
+  StepsUnderLock slot o me more = ((o ≡ Refused Closed) × (more ≡ me)) ⊎ UnderLock store (StepsSlot slot o me more)
+
+  abbrev pub BeginsUnderLock : Tree → Call → Result ℕ Error → Type 0
+  BeginsUnderLock tree call begun = (begun ≡ Err Closed) ⊎ UnderLock store (BeginsCall tree call begun)
+
+  abbrev pub AbandonsUnderLock : ℕ → Outcome → Type 0
+  AbandonsUnderLock slot o = (o ≡ Refused Closed) ⊎ UnderLock store (AbandonsSlot slot o)
+
+  abbrev pub WholesUnderLock : Whole → Outcome → CallerValue → CallerValue → Type 0
+  WholesUnderLock whole o me more = ((o ≡ Refused Closed) × (more ≡ me)) ⊎ UnderLock store (MakesWhole whole o me more)
+
+-- How a call on a key ends that is made step by step. A step of its slot ends it, under the lock; or it does not begin. Or there was no
+-- memory for it, another caller ended its slot, or the database was taken out of its lock: then nothing is noted
+pub data EndsUnderLock {P M : Type 0} (store : P → Store) (flush_number : P → ℕ) (meant : M → Merge) (tree : Tree) (call : Call) (o : Outcome) (me more : CallerValue) : Type 0 where
+  EndsBySteps : {slot : ℕ} → UnderLock store (EndsCall store flush_number meant tree call slot o me more) → EndsUnderLock store flush_number meant tree call o me more
+  IsNotBegun : {e : Error} → BeginsUnderLock store flush_number meant tree call (Err e) → o ≡ Refused e → more ≡ me → EndsUnderLock store flush_number meant tree call o me more
+  LacksMemory : o ≡ Refused NoMemory → more ≡ me → EndsUnderLock store flush_number meant tree call o me more
+  LostSlot : o ≡ NoSuchSlot → more ≡ me → EndsUnderLock store flush_number meant tree call o me more
+  TakenOut : o ≡ Refused Closed → more ≡ me → EndsUnderLock store flush_number meant tree call o me more
+
+-- what is noted of a read, if it is not refused
+abbrev pub read_made : {A : Type 0} → (A → Read) → Result A Error → List MadeValue
+read_made read_of (Ok answer) = ReadMade (read_of answer) ∷ []
+read_made read_of (Err e) = []
+
+-- a read is noted as this caller's, and nothing else changes
+pub record Looks {P M : Type 0} (noted : List MadeValue) (me more : CallerValue) (old new : StateValue P M) : Type 0 where
+  pub machine : new.machine ≡ old.machine
+  pub adds : AddsMade old me noted new more
+  pub scans : new.scans ≡ old.scans
+
+-- for want of memory, or since the database was taken out of its lock
+abbrev pub is_unmade : Error → Type 0
+is_unmade NoMemory = Unit {0}
+is_unmade Closed = Unit {0}
+is_unmade e = ⊥
+
+-- a read was not made, and nothing was done
+pub record IsUnread {A : Type 0} (result : Result A Error) (me more : CallerValue) : Type 0 where
+  pub cause : Error
+  pub unmade : is_unmade cause
+  pub refused : result ≡ Err cause
+  pub same : more ≡ me
+
+-- .. or it was made under the lock
+abbrev pub ReadsUnderLock : {P M A : Type 0} → (P → Store) → (M → Merge) → (A → Read) → Result A Error → CallerValue → CallerValue → Type 0
+ReadsUnderLock {P} {M} store meant read_of result me more = IsUnread result me more ⊎ UnderLock {P = P} {M = M} store (Looks (read_made read_of result) me more)

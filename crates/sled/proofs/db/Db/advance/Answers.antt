@@ -1,8 +1,0 @@
-use Rattle.sled.proofs.Flying.{flies_untested}
-use Rattle.sled.proofs.db.Db.advance.Goals as goal
-
-pub returns-in-Err : goal.returns-in-Err
-returns-in-Err g c = let f = flies_untested g.P.Pages.store g.M.MergeOperator.meant _ _ _ _ c.in-Err.ensures.err in record { step = f.step; sound = f.sound; does = f.does; follows = f.follows; passes = f.passes; loses = f.loses; leaves = f.leaves; knows = f.knows }
-
-pub returns : goal.returns
-returns g c = let f = c.advance_tested.ensures in record { step = f.step; sound = f.sound; does = f.does; follows = f.follows; passes = f.passes; loses = f.loses; leaves = f.leaves; knows = f.knows }

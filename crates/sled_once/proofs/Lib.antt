@@ -1,0 +1,4 @@
+pub mod Ending
+pub mod Reading
+pub mod Going
+pub mod Handing

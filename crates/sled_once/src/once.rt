@@ -1,0 +1,214 @@
+//! A disk that brings a block and its gate to another one in one sync.
+ghost use Rattle.std.specs.Prelude.{◌≡◌, ◌≤◌, ◌+◌, ℕ, List, length, IfOk, IfErr, [], ◌∷◌};
+ghost use Rattle.std.proofs.Common.{inl, refl};
+ghost use Rattle.sled_disk.specs.Disk.{Only, HasCause, is_caused};
+ghost use Rattle.sled_host.specs.Event.{opened};
+ghost use Rattle.sled_host.specs.Outcomes.{seen_after_all, MayLeave, LeftSince};
+ghost use Rattle.sled_once.specs.Once.{Once, LeavesAsRead};
+ghost use Rattle.sled_once.specs.Stages.{Stands};
+
+use crate::holding::end_found;
+use crate::stage::{End, Stage};
+use crate::steps::{bring, put, settle, shorten};
+use sled_disk::{Disk, DiskError, Result};
+use sled_host::{Call, Record};
+use sled_log::read_all;
+use std::alloc::Global;
+use std::marker::Model;
+
+/// A disk in front of another one, which brings a block and its open gate to it in one sync, where two are asked for.
+///
+/// A block that is written behind the closed gate at the end of a log is held back, if all else is on the disk, and the sync that
+/// follows is answered at once. The write that opens the gate hands both on, and the next sync brings them to the disk. Every other call
+/// is handed on; if a block is held back, that is first brought to the disk behind its closed gate. The first block of a log is not held
+/// back. Once the other disk refused a call that changes it, each later call is refused with `Failed`, and none of it is made.
+///
+/// What it says a crash leaves is what is left after two syncs. What the other disk is left with is read as that, up to a tear, if the
+/// digest tells what is left of a block (`law_read_as_left`). So after a crash a log is mended before it is opened.
+#[derive(Drop)]
+pub struct OneSync<D: Disk> {
+    alloc: Global,
+    disk: D,
+    noted: Record,
+    stage: Stage,
+    refused: u64,
+}
+
+impl<D: Disk> Model for OneSync<D> {
+    ghost use Rattle.sled_once.specs.Once.{Once};
+    ghost use Rattle.sled_once.specs.Stages.{Stands};
+
+    ghost Value = { Once D };
+
+    ghost view = { λ f. record { disk = f.disk; calls = f.noted.events; stage = f.stage; refused = f.refused } };
+
+    ghost invariant = { λ f. Stands D.seen D.may_leave f.stage f.disk f.noted.events };
+}
+
+impl<D: Disk> OneSync<D> {
+    ghost use Rattle.sled_once.specs.Once.{bytes_of, outcomes_of};
+
+    /// A disk in front of this one, all of which is brought to the disk first. Refused by the disk, which is handed back.
+    ///
+    /// ```
+    /// match OneSync::new(alloc, disk) {
+    ///     Ok(once) => drop(once),       // Blocks that are appended to it are brought to the disk in one sync.
+    ///     Err((disk, _)) => drop(disk), // The disk refused a call.
+    /// }
+    /// ```
+    pub fn new(alloc: Global, disk: D) -> std::result::Result<OneSync<D>, (D, DiskError)>
+        ensures bytes { IfOk result (λ f. bytes_of f ≡ D.seen disk) }
+        ensures seen { IfOk result (λ f. D.seen f.disk ≡ D.seen disk) }
+        ensures durable { IfOk result (λ f. Only (bytes_of f) (outcomes_of f)) }
+        ensures calm { IfOk result (λ f. D.faults f.disk + f.refused ≡ D.faults disk) }
+        ensures stays { IfErr result (λ x. D.seen x.0 ≡ D.seen disk) }
+        ensures cause { IfErr result (λ x. is_caused (D.faults disk) (D.faults x.0) x.1) }
+    {
+        let mut disk = disk;
+        if let Err(e) = disk.sync() {
+            return Err((disk, e));
+        }
+        let bytes = match read_all(&mut disk, alloc) {
+            Ok(bytes) => bytes,
+            Err(e) => return Err((disk, e)),
+        };
+        let end = end_found(alloc, &bytes);
+        let noted = Record::new().and(&Call::Opened(false, &bytes));
+        drop(bytes);
+        Ok(OneSync {
+            alloc,
+            disk,
+            noted,
+            stage: Stage::Through(end, true),
+            refused: 0,
+        })
+    }
+
+    /// The disk behind it, as it is. A block that is held back is not on it.
+    ///
+    /// ```
+    /// if let Ok(once) = OneSync::new(alloc, disk) {
+    ///     drop(once.into_disk());
+    /// }
+    /// ```
+    pub fn into_disk(self) -> D
+        ensures { result ≡ self.disk }
+    {
+        let OneSync {
+            alloc: _,
+            disk,
+            noted,
+            stage,
+            refused: _,
+        } = self;
+        drop(noted);
+        drop(stage);
+        disk
+    }
+
+    /// The disk behind it, to be looked at.
+    ///
+    /// ```
+    /// if let Ok(once) = OneSync::new(alloc, disk) {
+    ///     let left = once.disk().crash(&mut choices)?; // Where it is in memory: what a crash would leave now.
+    /// }
+    /// ```
+    pub fn disk(&self) -> &D
+        ensures { result.now ≡ self.now.disk }
+    {
+        &self.disk
+    }
+}
+
+impl<D: Disk> Disk for OneSync<D> {
+    ghost use Rattle.sled_host.specs.Laws.{counts_now as counts, only_now as only};
+
+    ghost seen = { λ f. seen_after_all f.calls };
+
+    ghost may_leave = { λ f. MayLeave f.calls };
+
+    ghost moment = { λ f. length f.calls };
+
+    ghost left_since = { λ f. LeftSince f.calls };
+
+    ghost faults = { λ f. D.faults f.disk + f.refused };
+
+    ghost counts_now = { λ f t c le left. counts f.calls t c le left };
+
+    ghost only_now = { λ f c left. only f.calls c left };
+
+    ghost may_stay = { λ f. inl refl };
+
+    fn len(&mut self) -> Result<usize> {
+        let stage = std::mem::replace(&mut self.stage, Stage::Stopped);
+        match settle(&mut self.disk, stage, &mut self.refused) {
+            Ok((end, is_synced)) => {
+                self.stage = Stage::Through(end, is_synced);
+                self.disk.len()
+            }
+            Err((over, e)) => {
+                self.stage = over;
+                Err(e)
+            }
+        }
+    }
+
+    fn read(&mut self, alloc: Global, at: usize, count: usize) -> Result<Vec<u8>> {
+        let stage = std::mem::replace(&mut self.stage, Stage::Stopped);
+        match settle(&mut self.disk, stage, &mut self.refused) {
+            Ok((end, is_synced)) => {
+                self.stage = Stage::Through(end, is_synced);
+                self.disk.read(alloc, at, count)
+            }
+            Err((over, e)) => {
+                self.stage = over;
+                Err(e)
+            }
+        }
+    }
+
+    fn write_at(&mut self, at: usize, bytes: &[u8]) -> Result<()> {
+        let stage = std::mem::replace(&mut self.stage, Stage::Stopped);
+        let (next, answer) = put(
+            self.alloc,
+            &mut self.disk,
+            stage,
+            &mut self.refused,
+            at,
+            bytes,
+        );
+        self.stage = next;
+        self.noted = self.noted.and(&Call::Wrote(at, bytes, answer.is_ok()));
+        answer
+    }
+
+    fn cut(&mut self, len: usize) -> Result<()> {
+        let stage = std::mem::replace(&mut self.stage, Stage::Stopped);
+        let (next, answer) = shorten(&mut self.disk, stage, &mut self.refused, len);
+        self.stage = next;
+        self.noted = self.noted.and(&Call::Cut(len, answer.is_ok()));
+        answer
+    }
+
+    fn sync(&mut self) -> Result<()> {
+        let stage = std::mem::replace(&mut self.stage, Stage::Stopped);
+        let (next, answer) = bring(&mut self.disk, stage, &mut self.refused);
+        self.stage = next;
+        self.noted = self.noted.and(&Call::Synced(answer.is_ok()));
+        answer
+    }
+}
+
+/// Does nothing. It says what the disk behind a `OneSync` is left with. If the digest tells what a crash left of the block under way, all
+/// that it may leave of that disk is read, up to a tear, as what may be left of the `OneSync`.
+///
+/// ```
+/// if let Ok(once) = OneSync::new(alloc, disk) {
+///     law_read_as_left(&once); // From here on a proof knows what `mend` makes of what a crash leaves.
+/// }
+/// ```
+pub fn law_read_as_left<D: Disk>(file: &OneSync<D>)
+    ensures { LeavesAsRead D.may_leave file.now }
+{
+    let _ = &file.stage;
+}

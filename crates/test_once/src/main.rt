@@ -1,0 +1,81 @@
+//! What crashes and refused calls leave of a database in two files whose blocks are brought to the disk in one sync. Each call of each disk is
+//! refused in turn, and then the disks crash. What is found must be pairs that were inserted one after the other, from the first on, and all
+//! that were flushed. It prints how many cases there were and how many passed, and of each that failed the numbers that make it again.
+#![tactic(auto)]
+
+mod pairs;
+mod runs;
+mod seeds;
+mod trouble;
+
+use runs::{Case, FILES, run_case};
+use std::process::ExitCode;
+use test_report::Report;
+
+// How many seeds each crash is chosen by.
+const SEEDS: u64 = 6;
+
+// A run has fewer calls of a disk than that.
+const CALLS: u64 = 400;
+
+// Counts of what was run.
+#[derive(Drop)]
+struct Counts {
+    cases: u64,
+    passed: u64,
+}
+
+// Runs a case by each seed. Whether a call was refused.
+fn run_seeds(report: &Report, counts: &mut Counts, case: Case) -> bool {
+    let mut is_refused = false;
+    for seed in 0..SEEDS {
+        counts.cases = counts.cases.saturating_add(1);
+        match run_case(report.alloc(), case, seed) {
+            Ok(refused) => {
+                counts.passed = counts.passed.saturating_add(1);
+                is_refused = refused;
+            }
+            Err(e) => report.tell_failed(format_args!(
+                "snapshots {}, disk {}, call {}, seed {seed}: {e}",
+                case.has_snapshots, case.disk, case.call
+            )),
+        }
+    }
+    is_refused
+}
+
+// Refuses each call of a disk in turn.
+fn run_calls(report: &Report, has_snapshots: bool, disk: u64) {
+    let mut counts = Counts {
+        cases: 0,
+        passed: 0,
+    };
+    for call in 1..CALLS {
+        let case = Case {
+            has_snapshots,
+            disk,
+            call,
+        };
+        if !run_seeds(report, &mut counts, case) {
+            break;
+        }
+    }
+    let words = if has_snapshots {
+        "with snapshots"
+    } else {
+        "without snapshots"
+    };
+    report.tell(format_args!(
+        "{words}, disk {disk}: {} cases, {} passed",
+        counts.cases, counts.passed
+    ));
+}
+
+fn main(rt: HostRuntime) -> ExitCode {
+    let report = Report::new(rt);
+    for disk in FILES {
+        run_calls(&report, false, disk);
+        run_calls(&report, true, disk);
+    }
+    report.status()
+}
