@@ -6,15 +6,17 @@ use Rattle.sled_nodes.specs.declared.error.Error.TheVariants as error
 use Rattle.sled_store.specs.Store.{Store, now}
 use Rattle.sled_disk.specs.Disk.{Only}
 use Rattle.sled_files.specs.Files.{Files}
-use Rattle.sled_files.specs.Stored.{Stored, stored_as}
+use Rattle.sled_files.specs.Stored.{Stored, stored_as, asked_of}
+use Rattle.sled_files.specs.Laws.{GoesOn}
 use Rattle.sled_files.specs.Opening.{OpensTo, is_why_unopened, is_fault}
 use Rattle.sled_files.specs.declared.found.OpenError as file
-use Rattle.sled_host.specs.Host.{bytes_of, outcomes_of, WasThere}
+use Rattle.sled_host.specs.Host.{bytes_of, outcomes_of, WasThere, IsHonest}
 use Rattle.sled_host.specs.Pair.{AreFound}
 use Rattle.sled_host.specs.declared.host.HostFile.{HostFile}
 use Rattle.sled_host.specs.declared.pair.Opening.{Opening}
 use Rattle.sled_once.specs.Once.{Once}
 use Rattle.sled_once.specs.Once as once
+use Rattle.sled_once.specs.Stages.{IsTold}
 use Rattle.files_once.specs.Mended.{IsMended}
 use Rattle.sled.specs.Values.{DbValue}
 use Rattle.sled.specs.Opens.{Opens}
@@ -79,3 +81,17 @@ is_why_closed_once opening Locked = Unit {0}
 is_why_closed_once opening (Io e) = is_of_system opening e
 is_why_closed_once opening (Disk e) = is_fault e
 is_why_closed_once opening (Database e) = (e ≡ error.NoMemory) ⊎ IsUnfitOnce opening e
+
+-- The disks were honest from a store's last call to the opening of these files and to their last one, and the digest told what was left of the
+-- blocks under way
+pub record WereHonest {opening : Opening} {first second : HostFile} (old : Stored (Once HostFile)) (whole : AreWhole opening first second) : Type 0 where
+  pub first_found : IsHonest old.files.first.disk (bytes_of whole.mended.first_found)
+  pub second_found : IsHonest old.files.second.disk (bytes_of whole.mended.second_found)
+  pub first_told : IsTold old.files.first.stage (bytes_of whole.mended.first_found)
+  pub second_told : IsTold old.files.second.stage (bytes_of whole.mended.second_found)
+  pub first_again : IsHonest whole.first_left (bytes_of first)
+  pub second_again : IsHonest whole.second_left (bytes_of second)
+
+-- then the store that is opened in one sync goes on from it
+abbrev pub GoesOnOnce : Stored (Once HostFile) → Type 0
+GoesOnOnce old = (opening : Opening) (files : Files (Once HostFile)) (found : Store) (is : StoreOnceIn opening files found) → WereHonest old is.whole → GoesOn (asked_of old.asked) old.limits (stored_as old) found

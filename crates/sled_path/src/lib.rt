@@ -7,6 +7,6 @@ mod opening;
 
 pub use error::OpenError;
 pub use files_once::OneSync;
-pub use once::open_once;
+pub use once::{law_once_goes_on, open_once};
 pub use opening::{open, open_with};
 pub use sled_host::Opening;

@@ -1,10 +1,10 @@
 //! A database is opened in a folder, whose blocks are brought to the disk in one sync.
 ghost use Rattle.std.specs.Prelude.{◌≡◌, true, IfOk, IfErr};
 ghost use Rattle.sled_host.specs.Host.{WasThere};
-ghost use Rattle.sled_path.specs.Once.{AreWhole, OpensOnceIn, is_why_closed_once};
+ghost use Rattle.sled_path.specs.Once.{AreWhole, OpensOnceIn, GoesOnOnce, is_why_closed_once};
 
 use crate::error::{OpenError, of_disk, of_files, of_host};
-use files_once::{OneSync, mend_both, open_mended};
+use files_once::{OneSync, law_lasts_as_read, mend_both, open_mended};
 use sled::Db;
 use sled_files::FilePages;
 use sled_host::{HostFile, Opening, Pair, open_pair};
@@ -95,4 +95,16 @@ pub fn open_once<M: MergeOperator>(
             Err(OpenError::Database(e))
         }
     }
+}
+
+/// Does nothing. It says what `open_once` finds after a crash or a drop: if the disks were honest, and the digest told what was left of the blocks under way,
+/// the store that is opened goes on from this one.
+///
+/// ```
+/// law_once_goes_on(db.pages()); // From here on a proof knows what is found when it is opened again.
+/// ```
+pub fn law_once_goes_on(pages: &FilePages<OneSync<HostFile>>)
+    ensures { GoesOnOnce pages.now }
+{
+    law_lasts_as_read(pages);
 }
