@@ -1,5 +1,5 @@
 -- Why no store was opened of files that were mended.
-use Rattle.std.proofs.Common.{◌≡◌, ◌∙◌, inl, inr, ℕ, List}
+use Rattle.std.proofs.Common.{inl, inr, ℕ, List}
 use Rattle.sled_files.specs.Opening.{is_why_closed}
 use Rattle.sled_files.specs.declared.found.OpenError.{OpenError}
 use Rattle.sled_files.specs.declared.found.OpenError.TheVariants.{NoMemory, Disk, NotAStore, OtherFormat, Decayed}

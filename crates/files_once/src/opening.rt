@@ -158,7 +158,10 @@ pub fn open_once<D: Disk>(
             second,
         });
     }
-    open_mended(alloc, first, second)
+    match open_mended(alloc, first, second) {
+        Ok(store) => Ok(store),
+        Err(refused) => Err(refused),
+    }
 }
 
 /// Does nothing. It says that, if the digest tells what a crash left of the blocks under way, all that it may leave of the two disks now is read as

@@ -1,4 +1,4 @@
-use Rattle.std.proofs.Common.{◌≡◌, ◌∙◌, sym, ap, List, ℕ}
+use Rattle.std.proofs.Common.{◌∙◌, sym, ap, List, ℕ}
 use Rattle.std.specs.Prelude.{Ok}
 use Rattle.sled_log.proofs.ReadingLemmas.{digest_small}
 use Rattle.sled_log.proofs.Tearing.{log_reads}

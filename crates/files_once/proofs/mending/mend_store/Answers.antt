@@ -1,4 +1,4 @@
-use Rattle.std.proofs.Common.{◌≡◌, ◌∙◌, inr, sym, ap, List, ℕ}
+use Rattle.std.proofs.Common.{◌∙◌, inr, ap, List, ℕ}
 use Rattle.std.specs.Prelude.{Ok}
 use Rattle.sled_log.specs.Digest.{digest}
 use Rattle.sled_log.specs.Tear.{log_to_tear}
