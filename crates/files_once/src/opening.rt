@@ -189,5 +189,4 @@ pub fn law_lasts_as_read<D: Disk>(store: &FilePages<OneSync<D>>)
 /// ```
 pub fn law_mended_lasts()
     ensures { MendedLasts }
-{
-}
+{}

@@ -1,9 +1,6 @@
 -- What is opened in one sync after a crash, and why not.
 use Rattle.std.proofs.Common.{◌≡◌, ◌∙◌, ℕ, List, sym, subst}
-use Rattle.sled_store.specs.Store.{Store}
-use Rattle.sled_files.specs.Files.{Files}
-use Rattle.sled_files.specs.Lasting.{Limits, IsLasting}
-use Rattle.sled_files.specs.Laws.{GoesOn}
+use Rattle.sled_files.specs.Lasting.{IsLasting}
 use Rattle.sled_files.specs.Stored.{Stored, stored_as, asked_of}
 use Rattle.sled_files.proofs.Reopening.{recovers_each, opened_goes_on}
 use Rattle.sled_host.specs.Host.{bytes_of, outcomes_of}
@@ -16,7 +13,7 @@ use Rattle.sled_once.specs.Once.{Once}
 use Rattle.sled_once.specs.Once as once
 use Rattle.files_once.specs.Lasting.{AreReadLasting, LastsAsRead}
 use Rattle.files_once.proofs.Alike.{read_lasting}
-use Rattle.sled_path.specs.Once.{StoreOnceIn, WereHonest, GoesOnOnce}
+use Rattle.sled_path.specs.Once.{GoesOnOnce}
 
 -- that two openings need locks alike, so they are refused alike
 pub unpaired_alike : (one two : Opening) → one.needs_lock ≡ two.needs_lock → (e : HostError) → is_why_unpaired one e → is_why_unpaired two e
@@ -35,7 +32,7 @@ module _ (old : Stored (Once HostFile)) (lasts : LastsAsRead outcomes_of old) wh
       let asked : List ℕ = asked_of old.asked in
       let read : AreReadLasting asked old.limits (stored_as old) (bytes_of m.first_found) (bytes_of m.second_found) = lasts (bytes_of m.first_found) (bytes_of m.second_found) h.first_found h.second_found h.first_told h.second_told in
       let left : IsLasting asked old.limits (stored_as old) (bytes_of w.first_left) (bytes_of w.second_left) =
-          read_lasting (bytes_of m.first_found) (bytes_of m.second_found) (bytes_of w.first_left) (bytes_of w.second_left) m.first_mended m.second_mended asked old.limits (stored_as old) read in
+      read_lasting (bytes_of m.first_found) (bytes_of m.second_found) (bytes_of w.first_left) (bytes_of w.second_left) m.first_mended m.second_mended asked old.limits (stored_as old) read in
       let one : IsLasting asked old.limits (stored_as old) (bytes_of is.first) (bytes_of w.second_left) = subst (λ (l : List ℕ). IsLasting asked old.limits (stored_as old) l (bytes_of w.second_left)) (sym (m.first_only (bytes_of is.first) h.first_again)) left in
       let both : IsLasting asked old.limits (stored_as old) (bytes_of is.first) (bytes_of is.second) = subst (λ (l : List ℕ). IsLasting asked old.limits (stored_as old) (bytes_of is.first) l) (sym (m.second_only (bytes_of is.second) h.second_again)) one in
       opened_goes_on asked old.limits (stored_as old) found (bytes_of is.first) (bytes_of is.second) both

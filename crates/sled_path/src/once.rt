@@ -40,7 +40,10 @@ fn open_whole(rt: &HostRuntime, path: &str, opening: Opening) -> Result<Pair, Op
         Ok(false) => Ok(pair),
         Ok(true) => {
             drop(pair);
-            open_again(rt, path, opening)
+            match open_again(rt, path, opening) {
+                Ok(pair) => Ok(pair),
+                Err(e) => Err(e),
+            }
         }
         Err(e) => {
             drop(pair);

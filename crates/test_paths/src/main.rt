@@ -33,7 +33,11 @@ fn tell_pairs<P: Pages>(rt: &HostRuntime, db: &Db<P, Adds>) -> Result<()> {
     let tree = db.default_tree()?;
     for pair in db.iter(&tree)? {
         let (key, value) = pair?;
-        let _ = print!(rt; " {} {}", key.as_ref().escape_ascii(), value.as_ref().escape_ascii());
+        let _ = print!(rt;
+            " {} {}",
+            key.as_ref().escape_ascii(),
+            value.as_ref().escape_ascii()
+        );
         drop(key);
         drop(value);
     }

@@ -31,5 +31,7 @@ returns-in-Err-open_mended-clause-err g c =
 pub returns-in-Err-open_mended-clause-refused : goal.returns-in-Err-open_mended-clause-refused
 returns-in-Err-open_mended-clause-refused g c d read =
     let seen = g.D.Disk.seen in
-    c.in-Err-open_mended.ensures.refused (inr (d,
-      read_for (seen c.args.first) (seen c.args.second) (seen c.mend_both.new.first) (seen c.mend_both.new.second) c.in_default.ensures.first c.in_default.ensures.second d read))
+    c.in-Err-open_mended.ensures.refused (inr (
+      d,
+      read_for (seen c.args.first) (seen c.args.second) (seen c.mend_both.new.first) (seen c.mend_both.new.second) c.in_default.ensures.first c.in_default.ensures.second d read,
+    ))

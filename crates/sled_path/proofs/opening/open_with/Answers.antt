@@ -14,10 +14,10 @@ returns-in-Ok-open_checked-clause-ok g c = let pages = c.in-Ok-open.pages in
     })
 
 pub returns-in-Err-clause-err : goal.returns-in-Err-clause-err
-returns-in-Err-clause-err g c = c.of_host.ensures c.args.opening c.in-Err.ensures.err
+returns-in-Err-clause-err g c = c.of_host.ensures.why c.args.opening c.in-Err.ensures.err
 
 pub returns-in-Err-open-clause-err : goal.returns-in-Err-open-clause-err
-returns-in-Err-open-clause-err g c = c.of_files-why.ensures c.args.opening c.in-Ok.pair.first c.in-Ok.pair.second c.in-Ok.ensures.found c.in-Err-open.ensures.err
+returns-in-Err-open-clause-err g c = c.of_files-why.ensures.why c.args.opening c.in-Ok.pair.first c.in-Ok.pair.second c.in-Ok.ensures.found c.in-Err-open.ensures.err
 
 pub returns-in-Err-open_checked-clause-err : goal.returns-in-Err-open_checked-clause-err
 returns-in-Err-open_checked-clause-err g c = let pages = c.in-Ok-open.pages in
