@@ -1,6 +1,5 @@
 -- Which logs are whole.
-use Rattle.std.proofs.Common.{◌≡◌, ◌∙◌, ℕ, List, [], ◌∷◌, ◌++◌, drop, sym, ap, refl, drop_at}
-use Rattle.std.specs.Prelude.{Bool, true, false, not}
+use Rattle.std.proofs.Common.{◌≡◌, ◌∙◌, ℕ, List, [], ◌∷◌, ◌++◌, drop, sym, ap, drop_at}
 use Rattle.sled_log.specs.Digest.{digest}
 use Rattle.sled_log.specs.Log.{closed, blocks, IsLog}
 use Rattle.sled_log.specs.Tear.{EndsAt}
@@ -10,7 +9,3 @@ pub gate_ends : {file : List ℕ} {payloads : List (List ℕ)} {place : ℕ} →
 gate_ends {file} {payloads} {place} e is =
     let rest : e.rest ≡ closed ∷ [] = sym (ap (λ (l : List ℕ). drop place l) e.file_is ∙ drop_at (blocks digest payloads) e.rest place e.place_is) ∙ is in
     record { fit = e.fit; rest = []; file_is = e.file_is ∙ ap (λ (l : List ℕ). blocks digest payloads ++ l) rest; gate_is = e.place_is }
-
-pub told_true : (b : Bool) → not b ≡ false → b ≡ true
-told_true true is = refl
-told_true false is = absurd (cc)
