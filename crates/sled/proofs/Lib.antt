@@ -16,6 +16,7 @@ pub mod Counting
 pub mod Popping
 pub mod Promising
 pub mod Mapping
+pub mod Keeping
 pub mod Fetching
 pub mod Naming
 pub mod Numbering
