@@ -10,13 +10,13 @@ pub returns-in-Err-clone-clause-err : goal.returns-in-Err-clone-clause-err
 returns-in-Err-clone-clause-err g c = group_short g.P.Pages.store g.M.MergeOperator.meant c.args.self.now ((c.args.tree.now, c.args.batch) ∷ []) c.in_default.ensures.ok c.in-Err-clone.e c.in-Err-clone.ensures.err
 
 pub returns-in-Err-clause-refuses : goal.returns-in-Err-clause-refuses
-returns-in-Err-clause-refuses g c = group_refuses g.P.Pages.store g.M.MergeOperator.meant _ _ _ (Err _) (returns-in-Err-clause-err g c)
+returns-in-Err-clause-refuses g c = group_refuses g.P.Pages.store g.M.MergeOperator.meant _ _ _ {A = Unit {0}} (Err _) (returns-in-Err-clause-err g c)
 
 pub returns-in-Err-clause-leaves : goal.returns-in-Err-clause-leaves
-returns-in-Err-clause-leaves g c = group_leaves g.P.Pages.store g.M.MergeOperator.meant _ _ ((c.args.tree.now, c.args.batch) ∷ []) (Err _) tt (returns-in-Err-clause-err g c)
+returns-in-Err-clause-leaves g c = group_leaves g.P.Pages.store g.M.MergeOperator.meant _ _ ((c.args.tree.now, c.args.batch) ∷ []) {A = Unit {0}} (Err _) tt (returns-in-Err-clause-err g c)
 
 pub returns-in-Err-clone-clause-refuses : goal.returns-in-Err-clone-clause-refuses
-returns-in-Err-clone-clause-refuses g c = group_refuses g.P.Pages.store g.M.MergeOperator.meant _ _ _ (Err _) (returns-in-Err-clone-clause-err g c)
+returns-in-Err-clone-clause-refuses g c = group_refuses g.P.Pages.store g.M.MergeOperator.meant _ _ _ {A = Unit {0}} (Err _) (returns-in-Err-clone-clause-err g c)
 
 pub returns-in-Err-clone-clause-leaves : goal.returns-in-Err-clone-clause-leaves
-returns-in-Err-clone-clause-leaves g c = group_leaves g.P.Pages.store g.M.MergeOperator.meant _ _ ((c.args.tree.now, c.args.batch) ∷ []) (Err _) tt (returns-in-Err-clone-clause-err g c)
+returns-in-Err-clone-clause-leaves g c = group_leaves g.P.Pages.store g.M.MergeOperator.meant _ _ ((c.args.tree.now, c.args.batch) ∷ []) {A = Unit {0}} (Err _) tt (returns-in-Err-clone-clause-err g c)

@@ -26,16 +26,16 @@ pub returns-clause-changes : goal.returns-clause-changes
 returns-clause-changes g c = group_changes g.P.Pages.store g.M.MergeOperator.meant _ _ _ _ (returns-clause-ok g c)
 
 pub returns-in-Err-clause-refuses : goal.returns-in-Err-clause-refuses
-returns-in-Err-clause-refuses g c = group_refuses g.P.Pages.store g.M.MergeOperator.meant _ _ _ (Err _) (returns-in-Err-clause-err g c)
+returns-in-Err-clause-refuses g c = group_refuses g.P.Pages.store g.M.MergeOperator.meant _ _ _ {A = Unit {0}} (Err _) (returns-in-Err-clause-err g c)
 
 pub returns-in-Err-clause-leaves : goal.returns-in-Err-clause-leaves
-returns-in-Err-clause-leaves g c = group_leaves g.P.Pages.store g.M.MergeOperator.meant _ _ c.args.batches.now (Err _) tt (returns-in-Err-clause-err g c)
+returns-in-Err-clause-leaves g c = group_leaves g.P.Pages.store g.M.MergeOperator.meant _ _ c.args.batches.now {A = Unit {0}} (Err _) tt (returns-in-Err-clause-err g c)
 
 pub returns-in-Err-changes-clause-refuses : goal.returns-in-Err-changes-clause-refuses
-returns-in-Err-changes-clause-refuses g c = group_refuses g.P.Pages.store g.M.MergeOperator.meant _ _ _ (Err _) (returns-in-Err-changes-clause-err g c)
+returns-in-Err-changes-clause-refuses g c = group_refuses g.P.Pages.store g.M.MergeOperator.meant _ _ _ {A = Unit {0}} (Err _) (returns-in-Err-changes-clause-err g c)
 
 pub returns-in-Err-changes-clause-leaves : goal.returns-in-Err-changes-clause-leaves
-returns-in-Err-changes-clause-leaves g c = group_leaves g.P.Pages.store g.M.MergeOperator.meant _ _ c.args.batches.now (Err _) tt (returns-in-Err-changes-clause-err g c)
+returns-in-Err-changes-clause-leaves g c = group_leaves g.P.Pages.store g.M.MergeOperator.meant _ _ c.args.batches.now {A = Unit {0}} (Err _) tt (returns-in-Err-changes-clause-err g c)
 
 pub returns-clause-refuses : goal.returns-clause-refuses
 returns-clause-refuses g c = group_refuses g.P.Pages.store g.M.MergeOperator.meant _ _ _ c.make_group-made.result (returns-clause-err g c)

@@ -1,4 +1,5 @@
-use Rattle.std.proofs.Common.{sym, refl, ◌∙◌}
+use Rattle.std.proofs.Common.{[], sym, refl, ◌∙◌}
+use Rattle.sled.proofs.Conducting.{leaves_none}
 use Rattle.sled.proofs.Removing.{not_default, is_default, numbered_as, open_as, untouched_as, refused_drop_as, dropped_as, dropped_db_as}
 use Rattle.sled.proofs.Mapping.{drops_map}
 use Rattle.sled.proofs.Keeping.{dropped_refuses, dropped_leaves}
@@ -48,3 +49,6 @@ returns-in-Err-clause-stays g c = (returns-in-Err-clause-err g c).leaves
 
 pub returns-clause-leaves : goal.returns-clause-leaves
 returns-clause-leaves g c = dropped_leaves g.P.Pages.store g.M.MergeOperator.meant _ _ _ _ (returns-clause-ok g c)
+
+pub returns-in_default-clause-leaves : goal.returns-in_default-clause-leaves
+returns-in_default-clause-leaves g c = record { maps = []; each = λ m i. absurd i; leaves = leaves_none g.P.Pages.store g.M.MergeOperator.meant _ }
