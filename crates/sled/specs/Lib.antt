@@ -10,6 +10,7 @@ pub mod Flights
 pub mod Direct
 pub mod Promises
 pub mod Wholes
+pub mod ManyKeys
 pub mod Pops
 pub mod Fetch
 pub mod Flush
