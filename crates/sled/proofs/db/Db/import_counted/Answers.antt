@@ -1,8 +1,8 @@
-use Rattle.std.proofs.Common.{rules, ◌≡◌, true, false, refl}
+use Rattle.std.proofs.Common.{rules, ◌≡◌, true, false, refl, ap}
 use Rattle.sled_store.specs.Store.{now}
 use Rattle.sled_model.specs.Collections.{contents_of, are_trees}
-use Rattle.sled.proofs.Importing.{import_closed, import_unknown, imported_first, imported_more, imported_stopped, import_stopped, contents_left, done_here, stopped_here}
-use Rattle.sled.proofs.Parting.{import_refuses, import_refused_leaves}
+use Rattle.sled.proofs.Importing.{import_closed, import_unknown, imported_first, imported_more, imported_stopped, import_stopped, contents_left, none_left, imported_all, done_here, stopped_here}
+use Rattle.sled.proofs.Parting.{import_refuses, import_refused_leaves, done_changes, done_leaves}
 use Rattle.sled.proofs.db.Db.import_counted.Goals as goal
 
 pub returns-then-in_group-clause-err : goal.returns-then-in_group-clause-err
@@ -44,3 +44,11 @@ returns-in-Err-clause-refuses g c = import_refuses g.P.Pages.store g.M.MergeOper
 
 pub returns-in-Err-clause-leaves : goal.returns-in-Err-clause-leaves
 returns-in-Err-clause-leaves g c = import_refused_leaves g.P.Pages.store g.M.MergeOperator.meant c.args.self.now (contents_of c.args.collections.now) _ _ (returns-in-Err-clause-err g c).is
+
+pub returns-clause-changes : goal.returns-clause-changes
+returns-clause-changes g c = done_changes g.P.Pages.store g.M.MergeOperator.meant c.args.self.now (contents_of c.args.collections.now) c.loop-collection.self
+    (imported_all g.P.Pages.store g.M.MergeOperator.meant c.args.self.now (contents_of c.args.collections.now) _ c.loop-collection.self c.loop-collection.invariant (ap contents_of (none_left c.args.collections.now c.loop-collection.collection-index c.loop-collection-test.false)))
+
+pub returns-clause-leaves : goal.returns-clause-leaves
+returns-clause-leaves g c = done_leaves g.P.Pages.store g.M.MergeOperator.meant c.args.self.now (contents_of c.args.collections.now) c.loop-collection.self
+    (imported_all g.P.Pages.store g.M.MergeOperator.meant c.args.self.now (contents_of c.args.collections.now) _ c.loop-collection.self c.loop-collection.invariant (ap contents_of (none_left c.args.collections.now c.loop-collection.collection-index c.loop-collection-test.false)))
