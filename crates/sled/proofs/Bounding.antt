@@ -28,7 +28,7 @@ use Rattle.sled.proofs.Trees.{maps_ascend, current}
 -- ---- maps
 
 -- the map without the keys of these pairs, one after the other
-without_all : Map → Map → Map
+abbrev without_all : Map → Map → Map
 without_all [] m = m
 without_all (p ∷ ps) m = without_all ps (without p.0 m)
 
