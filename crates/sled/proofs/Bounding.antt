@@ -66,10 +66,10 @@ find_all (p ∷ ps) m q =
 without_these : (within : Key → Bool) (m : Map) → T (is_sorted key_cmp m) → without_all (where_key key_cmp within m) m ≡ where_key key_cmp (λ k. not (within k)) m
 without_these within m sorted =
     same_entries key_cmp key_total key_same (without_all (where_key key_cmp within m) m) (where_key key_cmp (λ k. not (within k)) m) (sorted_all (where_key key_cmp within m) m sorted) (is_sorted-where_key key_cmp (λ k. not (within k)) m sorted) (λ q.
-      find_all (where_key key_cmp within m) m q
-      ∙ ap (λ o. unless o (find key_cmp q m)) (find_where within q m)
-      ∙ go (within q) (find key_cmp q m)
-      ∙ sym (find_where (λ k. not (within k)) q m)
+    find_all (where_key key_cmp within m) m q
+    ∙ ap (λ o. unless o (find key_cmp q m)) (find_where within q m)
+    ∙ go (within q) (find key_cmp q m)
+    ∙ sym (find_where (λ k. not (within k)) q m)
     )
   where
     go : (b : Bool) (value : Option Key) → unless (cond b value None) value ≡ cond (not b) value None

@@ -1,9 +1,9 @@
 -- What calls on many keys make of the maps, and what a crash may leave of them.
-use Rattle.std.proofs.Common.{◌≡◌, ◌≢◌, ◌⊎◌, ℕ, zero, suc, ◌+◌, Bool, true, false, not, ◌&&◌, cond, T, List, [], ◌∷◌, ◌++◌, map, length, Option, Some, None, option_map, Result, Ok, Err, IfErr, OnOk, Less, Equal, Greater, is_lt, is_eq, sym, refl, ap, ◌∙◌, subst, inl, inr}
+use Rattle.std.proofs.Common.{◌≡◌, ◌≢◌, ◌⊎◌, ℕ, zero, suc, ◌+◌, false, not, cond, T, List, [], ◌∷◌, ◌++◌, map, length, Option, Some, None, option_map, Result, Ok, Err, IfErr, OnOk, Less, Equal, Greater, is_lt, is_eq, sym, refl, ap, ◌∙◌, subst, inl, inr}
 use Rattle.std.proofs.lemmas.Cmp.{tied_itself}
 use Rattle.std.specs.FinMap.Entries.{is_sorted, below_all}
 use Rattle.std.specs.declared.cmp.Ordering.{Ordering}
-use Rattle.sled_nodes.proofs.Basics.{some_is, of_true, key_total}
+use Rattle.sled_nodes.proofs.Basics.{some_is, of_true, left_of, right_of, key_total}
 use Rattle.sled_nodes.specs.Order.{Key, key_cmp}
 use Rattle.sled_nodes.specs.Node.{without}
 use Rattle.sled_store.specs.In.{In}
@@ -33,19 +33,11 @@ map_in o = option_map (λ (t : NamedTree). t.map) o
 
 -- ---- a map without its first pair
 
-first_true : (a b : Bool) → T (a && b) → T a
-first_true true b t = tt
-first_true false b t = absurd t
-
-second_true : (a b : Bool) → T (a && b) → T b
-second_true true b t = t
-second_true false b t = absurd t
-
 without_below : (k : Key) (es : Map) → T (below_all key_cmp k es) → without k es ≡ es
 without_below k [] below = refl
 without_below k (e ∷ es) below =
-    ap (λ b. cond (not b) (e ∷ without k es) (without k es)) (apart (key_cmp k e.0) (first_true (is_lt (key_cmp k e.0)) (below_all key_cmp k es) below))
-    ∙ ap (λ l. e ∷ l) (without_below k es (second_true (is_lt (key_cmp k e.0)) (below_all key_cmp k es) below))
+    ap (λ b. cond (not b) (e ∷ without k es) (without k es)) (apart (key_cmp k e.0) (left_of (is_lt (key_cmp k e.0)) (below_all key_cmp k es) below))
+    ∙ ap (λ l. e ∷ l) (without_below k es (right_of (is_lt (key_cmp k e.0)) (below_all key_cmp k es) below))
   where
     apart : (o : Ordering) → T (is_lt o) → is_eq o ≡ false
     apart Less t = refl
@@ -55,13 +47,13 @@ without_below k (e ∷ es) below =
 without_first : (pair : Key × Key) (rest : Map) → T (is_sorted key_cmp (pair ∷ rest)) → without pair.0 (pair ∷ rest) ≡ rest
 without_first pair rest sorted =
     ap (λ b. cond (not b) (pair ∷ without pair.0 rest) (without pair.0 rest)) (ap is_eq (tied_itself key_total pair.0))
-    ∙ without_below pair.0 rest (first_true (below_all key_cmp pair.0 rest) (is_sorted key_cmp rest) sorted)
+    ∙ without_below pair.0 rest (left_of (below_all key_cmp pair.0 rest) (is_sorted key_cmp rest) sorted)
 
 -- its removal
 first_out : (t : NamedTree) (pair : Key × Key) (rest : Map) → t.map ≡ pair ∷ rest → T (is_sorted key_cmp t.map) → ((answer_of t.merge (Remove pair.0) t.map).map ≡ rest) × T (is_sorted key_cmp rest)
 first_out t pair rest is sorted =
     let here : T (is_sorted key_cmp (pair ∷ rest)) = subst (λ (m : Map). T (is_sorted key_cmp m)) is sorted in
-    (remove_takes t.merge pair.0 t.map sorted ∙ ap (without pair.0) is ∙ without_first pair rest here, second_true (below_all key_cmp pair.0 rest) (is_sorted key_cmp rest) here)
+    (remove_takes t.merge pair.0 t.map sorted ∙ ap (without pair.0) is ∙ without_first pair rest here, right_of (below_all key_cmp pair.0 rest) (is_sorted key_cmp rest) here)
 
 -- ---- clears
 

@@ -15,6 +15,7 @@ use Rattle.sled_model.specs.Refusal.{must_refuse_of}
 use Rattle.sled_model.specs.State.{State, NamedTree, maps_of}
 use Rattle.sled_model.specs.Whole.{new_tree, state_opened, maps_opened}
 use Rattle.sled_model.specs.declared.call.Call.TheVariants.{Insert}
+use Rattle.tree_laws.proofs.Runs.{In_cases}
 use Rattle.sled.specs.Values.{DbValue, db_state}
 use Rattle.sled.specs.Imports.{ImportStops, ImportRefused}
 use Rattle.sled.specs.Parts.{told_parts, ImportRefusedAfter, parts_before}
@@ -75,14 +76,6 @@ parts_map NoPart name = refl
 parts_map {a = a} {b = b} (OnePart {m = mid} {part = part} {parts = parts} {added = added} {maps = maps} one more) name =
     parts_map more name ∙ ap (map_after_parts parts name) (part_map a mid part added one name)
 
-in_either : {X : Type 0} (x : X) (xs ys : List X) → In x (xs ++ ys) → In x xs ⊎ In x ys
-in_either x [] ys i = inr i
-in_either x (y ∷ xs) ys (inl e) = inl (inl e)
-in_either x (y ∷ xs) ys (inr i) = elim (in_either x xs ys i) [
-  | inl k ↦ inl (inr k)
-  | inr k ↦ inr k
-]
-
 -- some first parts are done in these maps
 pub record SomeDone (a : State) (parts : List Part) (m : Maps) : Type 0 where
   pub done : List Part
@@ -92,7 +85,7 @@ pub record SomeDone (a : State) (parts : List Part) (m : Maps) : Type 0 where
 
 some_done : {a b : State} {parts : List Part} {maps : List Maps} → DoesParts a parts b maps → (m : Maps) → In m maps → SomeDone a parts m
 some_done NoPart m i = absurd i
-some_done {a = a} {b = b} (OnePart {m = mid} {part = part} {parts = parts} {added = added} {maps = maps} one more) m i = elim (in_either m added maps i) [
+some_done {a = a} {b = b} (OnePart {m = mid} {part = part} {parts = parts} {added = added} {maps = maps} one more) m i = elim (In_cases added maps m i) [
   | inl k ↦ record { done = part ∷ []; later = parts; first = refl; is = λ name. ap (λ (f : Maps). f name) (part_added a mid part added one m k) ∙ part_map a mid part added one name }
   | inr k ↦
       let s = some_done more m k in record {

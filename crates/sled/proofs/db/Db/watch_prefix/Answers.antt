@@ -1,5 +1,5 @@
 use Rattle.sled.proofs.Subscribing.{watched_told, watched_db}
-use Rattle.sled.proofs.Keeping.{watch_keeps, watch_queue, watch_others}
+use Rattle.sled.proofs.Keeping.{watch_queue, watch_others}
 use Rattle.sled.proofs.db.Db.watch_prefix.Goals as goal
 
 pub returns-clause-ok : goal.returns-clause-ok
