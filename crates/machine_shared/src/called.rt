@@ -9,7 +9,7 @@ ghost use Rattle.machine_shared.specs.Steps.{SlotStep};
 ghost use Rattle.machine_shared.specs.theory.Noting.{job_pair};
 
 use crate::caller::Caller;
-use crate::noting::{Jobs, note_and_count, step_noting_jobs};
+use crate::noting::{Jobs, step_noting_jobs};
 use crate::state::State;
 use crate::steps::has_job;
 use sled_model::{Call, MergeOperator, Outcome, Slot, Tree};
@@ -28,14 +28,16 @@ fn taken_on(outcome: Outcome, slot: Slot, left: Option<Jobs>) -> Stepped
     requires { IfNone left (IsEnd outcome) }
     ensures { TakesOn outcome slot left result }
 {
-    match (outcome, left) {
-        (end, None) => Stepped::Ended(end),
-        (end @ (Outcome::Decided(_) | Outcome::Refused(_) | Outcome::NoSuchSlot), Some(jobs)) => {
+    let Some(jobs) = left else {
+        return Stepped::Ended(outcome);
+    };
+    match outcome {
+        end @ (Outcome::Decided(_) | Outcome::Refused(_) | Outcome::NoSuchSlot) => {
             drop(jobs);
             Stepped::Ended(end)
         }
         // a call on a key that is not decided or refused returns `Moved`
-        (other, Some(jobs)) => {
+        other => {
             drop(other);
             Stepped::On(slot, jobs)
         }
@@ -64,22 +66,16 @@ impl<P: Pages, L: Ledger, M: MergeOperator> State<P, L, M> {
             made,
             share,
         } = me;
-        let (outcome, noted, left) = step_noting_jobs(
+        step_noting_jobs(
             &mut self.machine,
-            &mut self.history,
-            made,
-            slot,
-            jobs,
-        );
-        note_and_count(
             &mut self.history,
             &mut self.calls,
             *number,
             made,
             share,
-            noted,
-        );
-        (outcome, left)
+            slot,
+            jobs,
+        )
     }
 
     // The same, and whether the call goes on.
@@ -158,7 +154,7 @@ pub(crate) fn step_on<P: Pages, L: Ledger, M: MergeOperator>(
     ensures ends { EndsStepped P.store P.flush_number M.meant jobs.0.tree jobs.0.call result me.old me.new }
 {
     match held {
-        Some(state) if has_job(&state.machine, slot, &jobs.0) => state.step_on(me, slot, jobs),
+        Some(state) if has_job(&state.machine, slot, jobs.first()) => state.step_on(me, slot, jobs),
         Some(_) => {
             drop(jobs);
             Stepped::Ended(Outcome::NoSuchSlot)

@@ -304,7 +304,7 @@ impl<P: Pages, L: Ledger, M: MergeOperator> Handle<P, L, M> {
         ensures ends { IsEnd result }
         ensures under_lock { EndsUnderLock P.store P.flush_number M.meant tree.now call result self.old self.new }
     {
-        let jobs = match copies_of(tree, &call) {
+        let jobs = match copies_of(*self.me.made.allocator(), tree, &call) {
             Ok(jobs) => jobs,
             Err(e) => {
                 drop(e);
