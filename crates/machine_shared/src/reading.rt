@@ -1,10 +1,9 @@
 //! Reads that are noted, over the parts of a state.
-ghost use Rattle.std.specs.Prelude.{◌≡◌, ◌<◌, ◌+◌, ◌++◌, ◌∷◌, [], IfOk, OnErr, IfSome, length, vec_len, vec_capacity};
-ghost use Rattle.machine_shared.specs.Made.{ReadMade, entry_values, made_value, made_values};
+ghost use Rattle.std.specs.Prelude.{◌≡◌, ◌<◌, ◌+◌, ◌++◌, ◌∷◌, [], IfOk, OnErr, length, vec_len, vec_capacity};
+ghost use Rattle.machine_shared.specs.Made.{ReadMade, entry_values, made_values};
 ghost use Rattle.machine_shared.specs.Notes.{entries_of};
 ghost use Rattle.machine_shared.specs.Reads.{IsAnswerTo};
 ghost use Rattle.machine_shared.specs.declared.read.Read.TheVariants as read;
-ghost use Rattle.machine_shared.specs.theory.Noting.{first_noted, second_noted};
 ghost use Rattle.machine_shared.specs.theory.Reading.{NotesRead, ReadsNow};
 ghost use Rattle.machine_shared.specs.UnderLock.{read_made};
 
@@ -18,40 +17,6 @@ use sled_model::{MergeOperator, Tree};
 use sled_nodes::{Error, Result};
 use sled_store::Pages;
 use std::sync::ledger::{Book, Ledger, Share};
-
-// What was read, as it is noted, twice.
-fn twice(read: Read) -> Result<(Made, Made)>
-    ensures first { IfOk result (λ both. made_value both.0 ≡ ReadMade read) }
-    ensures second { IfOk result (λ both. made_value both.1 ≡ ReadMade read) }
-{
-    match read.clone() {
-        Ok(again) => Ok((Made::Read(read), Made::Read(again))),
-        Err(e) => {
-            drop(read);
-            Err(e)
-        }
-    }
-}
-
-// The same, with room for it in both lists.
-fn room_and_reads(
-    history: &mut Vec<Entry>,
-    made: &mut Vec<Made>,
-    read: Read,
-) -> Option<(Made, Made)>
-    ensures first { IfSome result (λ both. made_value both.0 ≡ ReadMade read) }
-    ensures second { IfSome result (λ both. made_value both.1 ≡ ReadMade read) }
-    ensures history { history.new.items ≡ history.old.items }
-    ensures made { made.new.items ≡ made.old.items }
-    ensures room { IfSome result (λ both. vec_len history.new < vec_capacity history.new) }
-    ensures room_there { IfSome result (λ both. vec_len made.new < vec_capacity made.new) }
-{
-    if !make_room(history, made) {
-        drop(read);
-        return None;
-    }
-    twice(read).ok()
-}
 
 // A question about a tree, with its answer.
 fn read_of(tree: &Tree, question: Question, answer: &Answer) -> Result<Read>
@@ -202,37 +167,43 @@ fn read_of_names(names: &Names) -> Result<Read>
     Ok(Read::Names(names.clone()?))
 }
 
-// The names of all trees, and what is to be noted of it, as of a question.
-pub(crate) fn names_noting<P: Pages, M: MergeOperator>(
+// The names of all trees. They are added at the ends of both lists, as an answer is.
+pub(crate) fn names_noting<P: Pages, L: Ledger, M: MergeOperator>(
     machine: &Machine<P, M>,
     history: &mut Vec<Entry>,
+    calls: &mut Book<L>,
+    number: u64,
     made: &mut Vec<Made>,
-) -> (Result<Names>, Option<(Made, Made)>)
-    ensures ok { IfOk result.0 (λ names. first_noted result.1 ≡ ReadMade (read.Names names) ∷ []) }
-    ensures err { OnErr result.0 (first_noted result.1 ≡ []) }
-    ensures notes { NotesRead P.store machine.now (first_noted result.1) }
-    ensures again { second_noted result.1 ≡ first_noted result.1 }
-    ensures history { history.new.items ≡ history.old.items }
-    ensures made { made.new.items ≡ made.old.items }
-    ensures room { IfSome result.1 (λ both. vec_len history.new < vec_capacity history.new) }
-    ensures room_there { IfSome result.1 (λ both. vec_len made.new < vec_capacity made.new) }
+    share: &mut Share<L>,
+) -> Result<Names>
+    requires part { share.old.parts ≡ 1 }
+    requires counted { length history.old.items ≡ calls.old.total }
+    requires shared { share.old.amount ≡ length made.old.items }
+    ensures ok { IfOk result (λ names. made_values made.new.items ≡ made_values made.old.items ++ ReadMade (read.Names names) ∷ []) }
+    ensures err { OnErr result (made_values made.new.items ≡ made_values made.old.items) }
+    ensures notes { NotesRead P.store machine.now (read_made read.Names result) }
+    ensures history { entry_values history.new.items ≡ entry_values history.old.items ++ entries_of number (read_made read.Names result) }
+    ensures made { made_values made.new.items ≡ made_values made.old.items ++ read_made read.Names result }
+    ensures part { share.new.parts ≡ 1 }
+    ensures counted { length history.new.items ≡ calls.new.total }
+    ensures shared { share.new.amount ≡ length made.new.items }
 {
     let names = match names_now(machine) {
         Ok(names) => names,
-        Err(e) => return (Err(e), None),
+        Err(e) => return Err(e),
     };
     let read = match read_of_names(&names) {
         Ok(read) => read,
         Err(e) => {
             drop(names);
-            return (Err(e), None);
+            return Err(e);
         }
     };
-    match room_and_reads(history, made, read) {
-        Some(both) => (Ok(names), Some(both)),
-        None => {
+    match note_read(history, calls, number, made, share, read) {
+        Ok(()) => Ok(names),
+        Err(e) => {
             drop(names);
-            (Err(Error::NoMemory), None)
+            Err(e)
         }
     }
 }
@@ -253,37 +224,43 @@ fn read_of_export(all: &Collections) -> Result<Read>
     Ok(Read::Export(all.clone()?))
 }
 
-// The collection of every tree, and what is to be noted of it, as of a question. The collections are shared, and not copied.
-pub(crate) fn export_noting<P: Pages, M: MergeOperator>(
+// The collection of every tree, added so too. The collections are shared, and not copied.
+pub(crate) fn export_noting<P: Pages, L: Ledger, M: MergeOperator>(
     machine: &Machine<P, M>,
     history: &mut Vec<Entry>,
+    calls: &mut Book<L>,
+    number: u64,
     made: &mut Vec<Made>,
-) -> (Result<Collections>, Option<(Made, Made)>)
-    ensures ok { IfOk result.0 (λ all. first_noted result.1 ≡ ReadMade (read.Export all) ∷ []) }
-    ensures err { OnErr result.0 (first_noted result.1 ≡ []) }
-    ensures notes { NotesRead P.store machine.now (first_noted result.1) }
-    ensures again { second_noted result.1 ≡ first_noted result.1 }
-    ensures history { history.new.items ≡ history.old.items }
-    ensures made { made.new.items ≡ made.old.items }
-    ensures room { IfSome result.1 (λ both. vec_len history.new < vec_capacity history.new) }
-    ensures room_there { IfSome result.1 (λ both. vec_len made.new < vec_capacity made.new) }
+    share: &mut Share<L>,
+) -> Result<Collections>
+    requires part { share.old.parts ≡ 1 }
+    requires counted { length history.old.items ≡ calls.old.total }
+    requires shared { share.old.amount ≡ length made.old.items }
+    ensures ok { IfOk result (λ all. made_values made.new.items ≡ made_values made.old.items ++ ReadMade (read.Export all) ∷ []) }
+    ensures err { OnErr result (made_values made.new.items ≡ made_values made.old.items) }
+    ensures notes { NotesRead P.store machine.now (read_made read.Export result) }
+    ensures history { entry_values history.new.items ≡ entry_values history.old.items ++ entries_of number (read_made read.Export result) }
+    ensures made { made_values made.new.items ≡ made_values made.old.items ++ read_made read.Export result }
+    ensures part { share.new.parts ≡ 1 }
+    ensures counted { length history.new.items ≡ calls.new.total }
+    ensures shared { share.new.amount ≡ length made.new.items }
 {
     let all = match export_now(machine) {
         Ok(all) => all,
-        Err(e) => return (Err(e), None),
+        Err(e) => return Err(e),
     };
     let read = match read_of_export(&all) {
         Ok(read) => read,
         Err(e) => {
             drop(all);
-            return (Err(e), None);
+            return Err(e);
         }
     };
-    match room_and_reads(history, made, read) {
-        Some(both) => (Ok(all), Some(both)),
-        None => {
+    match note_read(history, calls, number, made, share, read) {
+        Ok(()) => Ok(all),
+        Err(e) => {
             drop(all);
-            (Err(Error::NoMemory), None)
+            Err(e)
         }
     }
 }

@@ -6,7 +6,6 @@ ghost use Rattle.machine_shared.specs.declared.read.Read.TheVariants as read;
 ghost use Rattle.machine_shared.specs.UnderLock.{Looks, ReadsUnderLock, read_made};
 
 use crate::caller::Caller;
-use crate::noting::note_and_count;
 use crate::read::{Answer, Question};
 use crate::reading::{answer_noting, export_noting, names_noting};
 use crate::state::State;
@@ -60,16 +59,14 @@ impl<P: Pages, L: Ledger, M: MergeOperator> State<P, L, M> {
             made,
             share,
         } = me;
-        let (names, noted) = names_noting(&self.machine, &mut self.history, made);
-        note_and_count(
+        names_noting(
+            &self.machine,
             &mut self.history,
             &mut self.calls,
             *number,
             made,
             share,
-            noted,
-        );
-        names
+        )
     }
 
     // The collection of every tree.
@@ -87,16 +84,14 @@ impl<P: Pages, L: Ledger, M: MergeOperator> State<P, L, M> {
             made,
             share,
         } = me;
-        let (all, noted) = export_noting(&self.machine, &mut self.history, made);
-        note_and_count(
+        export_noting(
+            &self.machine,
             &mut self.history,
             &mut self.calls,
             *number,
             made,
             share,
-            noted,
-        );
-        all
+        )
     }
 }
 
