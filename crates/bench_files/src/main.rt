@@ -3,7 +3,8 @@
 //!     bench_files FOLDER PAIRS SEED SHORTEST LONGEST FLUSH WORKLOAD..
 //!
 //! Each workload opens the database in the folder, and drops it. They are `load`, which inserts so many pairs and flushes after each FLUSH
-//! of them, and at the end; and `scan`, which reads all pairs. Keys are 8 bytes that look random, and values have SHORTEST to LONGEST
+//! of them, and at the end; and `scan`, which reads all pairs. `load_once` and `scan_once` are the same, and print the same, on a database that
+//! brings each block to the disk in one sync. Keys are 8 bytes that look random, and values have SHORTEST to LONGEST
 //! bytes. Each workload prints its name, how many calls it made and a checksum of their answers. On standard error it prints `open` and the
 //! time that the opening took, and then its name and the time that it took, both in microseconds of the clock. The status is 1 for other
 //! words, and if anything failed.
@@ -13,15 +14,11 @@ mod pairs;
 
 use example_parts::Adds;
 use pairs::{Pairs, digest};
-use sled::{Db, Error, Result, Tree};
-use sled_files::FilePages;
-use sled_host::HostFile;
-use sled_path::open;
+use sled::{Db, Error, Pages, Result, Tree};
+use sled_path::{OpenError, Opening, open, open_once};
 use std::process::ExitCode;
 use std::time::{Clock, Instant};
 use std::{env, io};
-
-type Files = Db<FilePages<HostFile>, Adds>;
 
 // How many calls a workload made, and a checksum of their answers.
 type Told = (u64, u64);
@@ -35,7 +32,7 @@ struct Work<'a> {
 }
 
 // Inserts a pair: the value that its key had, as a number of a checksum.
-fn insert(db: &mut Files, tree: &Tree, pairs: &Pairs, place: u64) -> Result<u64> {
+fn insert<P: Pages>(db: &mut Db<P, Adds>, tree: &Tree, pairs: &Pairs, place: u64) -> Result<u64> {
     let old = db.insert(tree, &pairs.key(place), pairs.value(place))?;
     let sum = digest(old.as_ref().map(|old| old.as_ref()));
     drop(old);
@@ -43,7 +40,7 @@ fn insert(db: &mut Files, tree: &Tree, pairs: &Pairs, place: u64) -> Result<u64>
 }
 
 // Inserts all pairs.
-fn load(db: &mut Files, tree: &Tree, work: &Work<'_>) -> Result<Told> {
+fn load<P: Pages>(db: &mut Db<P, Adds>, tree: &Tree, work: &Work<'_>) -> Result<Told> {
     let mut sum = 0u64;
     for place in 0..work.pairs.count {
         sum = sum.rotate_left(1) ^ insert(db, tree, &work.pairs, place)?;
@@ -56,7 +53,7 @@ fn load(db: &mut Files, tree: &Tree, work: &Work<'_>) -> Result<Told> {
 }
 
 // Reads all pairs.
-fn scan(db: &Files, tree: &Tree) -> Result<Told> {
+fn scan<P: Pages>(db: &Db<P, Adds>, tree: &Tree) -> Result<Told> {
     let (mut count, mut sum) = (0u64, 0u64);
     for pair in db.iter(tree)? {
         let (key, value) = pair?;
@@ -69,7 +66,7 @@ fn scan(db: &Files, tree: &Tree) -> Result<Told> {
 }
 
 // Runs a workload, if there is one of this name.
-fn run(db: &mut Files, work: &Work<'_>, name: &str) -> Result<Told> {
+fn run<P: Pages>(db: &mut Db<P, Adds>, work: &Work<'_>, name: &str) -> Result<Told> {
     let tree = db.default_tree()?;
     let told = match name {
         "load" => load(db, &tree, work),
@@ -87,7 +84,12 @@ fn tell_time(rt: &HostRuntime, name: &str, start: Instant) -> io::Result<()> {
 }
 
 // Prints the checksum of a workload and how long it took.
-fn tell(rt: &HostRuntime, db: &mut Files, work: &Work<'_>, name: &str) -> io::Result<()> {
+fn tell<P: Pages>(
+    rt: &HostRuntime,
+    db: &mut Db<P, Adds>,
+    work: &Work<'_>,
+    name: &str,
+) -> io::Result<()> {
     let start = Instant::now(rt)?;
     match run(db, work, name) {
         Ok((count, sum)) => {
@@ -102,8 +104,15 @@ fn tell(rt: &HostRuntime, db: &mut Files, work: &Work<'_>, name: &str) -> io::Re
     }
 }
 
-// The same on the database as it is opened.
-fn measure(rt: &HostRuntime, work: &Work<'_>, name: &str) -> io::Result<()> {
+// Prints why a database was not opened.
+fn tell_closed(rt: &HostRuntime, e: OpenError) -> io::Result<()> {
+    eprintln!(rt; "{e}")?;
+    drop(e);
+    Err(io::Error::from(io::ErrorKind::Other))
+}
+
+// The same on the database as it is opened, which brings each block to the disk in two syncs.
+fn measure_twice(rt: &HostRuntime, work: &Work<'_>, name: &str) -> io::Result<()> {
     let start = Instant::now(rt)?;
     match open::<Adds>(rt, work.folder, b"bench") {
         Ok(mut db) => {
@@ -112,11 +121,33 @@ fn measure(rt: &HostRuntime, work: &Work<'_>, name: &str) -> io::Result<()> {
             drop(db);
             told
         }
-        Err(e) => {
-            eprintln!(rt; "{e}")?;
-            drop(e);
-            Err(io::Error::from(io::ErrorKind::Other))
+        Err(e) => tell_closed(rt, e),
+    }
+}
+
+// And in one.
+fn measure_once(rt: &HostRuntime, work: &Work<'_>, name: &str) -> io::Result<()> {
+    let start = Instant::now(rt)?;
+    let opening = Opening {
+        creates: true,
+        needs_lock: true,
+    };
+    match open_once::<Adds>(rt, work.folder, b"bench", opening) {
+        Ok((mut db, _)) => {
+            tell_time(rt, "open", start)?;
+            let told = tell(rt, &mut db, work, name);
+            drop(db);
+            told
         }
+        Err(e) => tell_closed(rt, e),
+    }
+}
+
+// Runs a workload in the form of its name.
+fn measure(rt: &HostRuntime, work: &Work<'_>, name: &str) -> io::Result<()> {
+    match name.strip_suffix("_once") {
+        Some(name) => measure_once(rt, work, name),
+        None => measure_twice(rt, work, name),
     }
 }
 

@@ -7,17 +7,18 @@ use Rattle.sled_nodes.proofs.Basics.{false_true}
 use Rattle.sled_nodes.specs.Order.{Key, key_cmp}
 use Rattle.sled_batch.specs.Batch.{Writes}
 use Rattle.sled_store.specs.Store.{Store}
+use Rattle.sled_model.specs.Ids.{greatest_of_all}
 use Rattle.sled_model.specs.Maps.{Maps, Merge}
 use Rattle.sled_model.specs.State.{NamedTree, maps_of}
 use Rattle.sled_model.specs.declared.tree.Tree.{Tree}
 use Rattle.tree_transactions.specs.Attempts.{Answer, Closure, Calls, Ends}
-use Rattle.tree_transactions.specs.Ids.{OnlyRaises, SetsAside}
+use Rattle.tree_transactions.specs.Ids.{SetsAside}
 use Rattle.tree_transactions.specs.Transactions.{Begins, left_of_tree}
 use Rattle.tree_transactions.specs.declared.attempts.Commit.{Commit}
 use Rattle.tree_transactions.specs.declared.errors.TransactionError.{TransactionError}
 use Rattle.tree_transactions.specs.declared.errors.TransactionError.TheVariants.{Abort, Storage}
 use Rattle.tree_transactions.specs.declared.tree.TransactionalTree.{TransactionalTree}
-use Rattle.lent_pages.specs.Lent.{store_lent}
+use Rattle.lent_pages.specs.Lent.{lent_of, store_lent}
 use Rattle.lent_pages.specs.declared.lent.Lent.{Lent}
 use Rattle.sled.specs.Values.{DbValue, db_state}
 use Rattle.machine_shared.specs.Made.{MadeValue, TransactionMade}
@@ -55,7 +56,7 @@ module _ {P M F R E : Type 0} (store : P → Store) (meant : M → Merge) (says 
       subst (λ t. RaisesInside (store_lent store) t key n after) c.shows (subst (λ t. RaisesInside (store_lent store) c.shown.now key n t) c.leaves m)
 
   module _ (d : DbValue P M) (commit : Commit ℕ Writes) (r : RunsIn store meant says result_of f tree d (Ok commit)) where
-    abbrev ends : Ends says result_of f SetsAside (Begins (store_lent store) r.root) left_of_tree (store d.pages) (store d.pages).mark (Ok commit.answer) commit.writes commit.flushes r.runs.shown r.next
+    abbrev ends : Ends says result_of f SetsAside (Begins (store_lent store) r.root) left_of_tree (lent_of (store d.pages)) greatest_of_all (Ok commit.answer) commit.writes commit.flushes (lent_of (store d.pages)) greatest_of_all
     ends = r.runs.is.is
 
     abbrev given : TransactionalTree (Lent P)
@@ -72,8 +73,7 @@ module _ {P M F R E : Type 0} (store : P → Store) (meant : M → Merge) (says 
 
     stood_there : m.stood ≡ found_in (maps_of (db_state store meant d) tree.name) key
     stood_there =
-        let only : OnlyRaises (store d.pages) (store_lent store given.pages.now) = subst (λ s. OnlyRaises (store d.pages) s) (sym ends.last.fresh.over) ends.only in
-        let s = law d tree given key m.stood r.sound r.tested (r.root_is ∙ ap Some (sym ends.last.fresh.root_is)) only m.shows in
+        let s = law d tree given key m.stood r.sound r.tested (r.root_is ∙ ap Some (sym ends.last.fresh.root_is)) ends.last.fresh.over m.shows in
         s.is ∙ ap (λ (ws : Writes). unwrap_or (find key_cmp key ws) (find key_cmp key s.named.map)) ends.last.fresh.empty ∙ sym (ap (λ o. found_in (option_map (λ (t : NamedTree). t.map) o) key) s.there)
 
     -- as it is noted

@@ -1,19 +1,22 @@
 -- What is read of a file stands for the same after the file was mended.
-use Rattle.std.proofs.Common.{◌≡◌, ◌∙◌, inl, inr, ⊎_elim, ℕ, zero, suc, ◌+◌, ◌≤◌, List, [], ◌∷◌, ◌++◌, length, drop, refl, sym, ap, subst, arith}
+use Rattle.std.proofs.Common.{◌≡◌, ◌∙◌, inl, inr, ⊎_elim, ℕ, zero, suc, ◌+◌, List, [], ◌∷◌, ◌++◌, length, drop, refl, sym, ap, subst}
 use Rattle.std.specs.Prelude.{◌⊎◌, Result, Option, Some, None, Ok, Err}
 use Rattle.sled_log.specs.Digest.{digest}
-use Rattle.sled_log.specs.Log.{next_of, with_first, log_by, log_from, log_of, IsLog}
+use Rattle.sled_log.specs.Log.{next_of, with_first, log_by, log_from, log_of}
 use Rattle.sled_log.specs.Tear.{tear_by, tear_from, log_to_tear}
-use Rattle.sled_log.proofs.ReadingLemmas.{digest_small, log_read}
 use Rattle.sled_log.proofs.Tearing.{short_ends, ends_here}
 use Rattle.sled_files.specs.Change.{Durable}
 use Rattle.sled_files.specs.Header.{header}
-use Rattle.sled_files.specs.Standing.{StandsFor, OfGeneration, IsOlder, IsBlank, Counts, AreFor, AreBlank}
+use Rattle.sled_files.specs.Standing.{StandsFor, IsOlder, IsBlank, AreFor, AreBlank}
 use Rattle.sled_files.specs.Lasting.{Limits, IsLasting}
 use Rattle.sled_once.specs.Stages.{IsReadAs}
-use Rattle.files_once.specs.Mended.{IsOfStore, IsMended}
+use Rattle.files_once.specs.Mended.{IsMended}
 use Rattle.files_once.specs.Lasting.{AreReadFor, AreReadLasting}
 use Rattle.sled_store.specs.Store.{Store}
+
+-- what holds of two files holds of the same
+pub of_equal : (P : List ℕ → List ℕ → Type 0) {a b c d : List ℕ} → a ≡ c → b ≡ d → P a b → P c d
+of_equal P {a} {b} {c} {d} one two p = subst (λ (l : List ℕ). P c l) two (subst (λ (l : List ℕ). P l b) one p)
 
 -- what one payload and what follows are read as, where no fault is
 first_is : (payload : List ℕ) (following : Result (List (List ℕ)) ℕ) (others ps : List (List ℕ)) → ((qs : List (List ℕ)) → following ≡ Ok qs → others ≡ qs) → with_first payload following ≡ Ok ps → payload ∷ others ≡ ps
@@ -51,7 +54,7 @@ module _ (file c : List ℕ) (read : IsReadAs file c) where
         let read_as : log_to_tear digest c ≡ (header generation ++ first) ∷ others = same_read ∙ whole_is file ((header generation ++ first) ∷ others) log in
         ⊎_elim
         (λ it. absurd (it.1 (record { generation = generation; first = first; others = others; read = read_as })))
-        (λ is. is ∙ ap (λ (ps : List (List ℕ)). Ok ps) read_as)
+        (λ it. it.1 ∙ ap (λ (ps : List (List ℕ)). Ok ps) read_as)
         m
 
     stands_mended : (generation : ℕ) (d : Durable) → StandsFor file generation d → StandsFor mended generation d
@@ -71,7 +74,7 @@ module _ (file c : List ℕ) (read : IsReadAs file c) where
         let is : c ≡ file = ⊎_elim (λ is. is) (λ it. absurd (it.1 none)) read in
         ⊎_elim
         (λ it. subst (λ (l : List ℕ). IsBlank l) (sym (it.0 ∙ is)) blank)
-        (λ log. inr (log ∙ ap (λ (ps : List (List ℕ)). Ok ps) (same_read ∙ none)))
+        (λ it. inr (it.1 ∙ ap (λ (ps : List (List ℕ)). Ok ps) (same_read ∙ none)))
         m
 
     behind_mended : (generation : ℕ) → IsBlank file ⊎ IsOlder generation file → IsBlank mended ⊎ IsOlder generation mended

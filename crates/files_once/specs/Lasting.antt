@@ -1,12 +1,12 @@
 -- What two disks are left with that had blocks in one sync, against what the store in them means.
-use Rattle.std.specs.Prelude.{ℕ, List}
+use Rattle.std.specs.Prelude.{◌⊎◌, ℕ, List}
 use Rattle.sled_store.specs.Store.{Store}
 use Rattle.sled_files.specs.Change.{Durable}
 use Rattle.sled_files.specs.Standing.{AreFor}
 use Rattle.sled_files.specs.Lasting.{Limits, IsLasting}
 use Rattle.sled_files.specs.Stored.{Stored, stored_as, asked_of}
 use Rattle.sled_files.specs.Files.{Files}
-use Rattle.sled_files.specs.Opening.{OpensTo, is_why_closed}
+use Rattle.sled_files.specs.Opening.{OpensTo, is_why_unopened, is_refusal}
 use Rattle.sled_files.specs.declared.found.OpenError.{OpenError}
 use Rattle.sled_once.specs.Stages.{IsReadAs, IsTold}
 use Rattle.sled_once.specs.Once.{Once, bytes_of, outcomes_of}
@@ -40,8 +40,18 @@ pub record OpensMended {D : Type 0} (first second : List ℕ) (files : Files (On
   pub second_mended : IsMended second two
   pub opens : OpensTo bytes_of outcomes_of one two files s
 
--- why none was: for what is wrong with the files once they were mended, or as a disk refused a call
-pub record IsWhyUnmended (first second : List ℕ) (e : OpenError) : Type 0 where
+-- two files are refused for this once they were mended, the first thing that is wrong with them then
+pub record AreRefusedMended (first second : List ℕ) (e : OpenError) : Type 0 where
   pub one : List ℕ
   pub two : List ℕ
-  pub why : is_why_closed e one two
+  pub first_mended : IsMended first one
+  pub second_mended : IsMended second two
+  pub why : is_why_unopened e one two
+
+-- why none was: a disk refused a call, there was no memory, or the files were refused once they were mended
+abbrev pub IsWhyUnmended : List ℕ → List ℕ → OpenError → Type 0
+IsWhyUnmended first second e = is_refusal e ⊎ AreRefusedMended first second e
+
+-- two files that are read as those that are right for a store are right for it once they were mended
+abbrev pub MendedLasts : Type 0
+MendedLasts = (asked : List ℕ) (limits : Limits) (s : Store) (first second one two : List ℕ) → AreReadLasting asked limits s first second → IsMended first one → IsMended second two → IsLasting asked limits s one two

@@ -19,6 +19,6 @@ pub record BeginsAsStore (file : List ℕ) : Type 0 where
   pub read : log_to_tear digest file ≡ payload ∷ others
   pub begins : take 8 payload ≡ magic
 
--- A file after it was mended: a log of what was read up to the tear. One that is none of a store stays as it is
+-- A file after it was mended: a log of what was read up to the tear, if it began as one of a store. One that is none of a store stays as it is
 abbrev pub IsMended : List ℕ → List ℕ → Type 0
-IsMended before after = ((after ≡ before) × (IsOfStore before → ⊥)) ⊎ (log_of digest after ≡ Ok (log_to_tear digest before))
+IsMended before after = ((after ≡ before) × (IsOfStore before → ⊥)) ⊎ (BeginsAsStore before × (log_of digest after ≡ Ok (log_to_tear digest before)))

@@ -8,5 +8,5 @@ mod mending;
 mod opening;
 
 pub use mending::mend_store;
-pub use opening::{law_lasts_as_read, mend_both, open_once};
+pub use opening::{law_lasts_as_read, law_mended_lasts, mend_both, open_mended, open_once};
 pub use sled_once::OneSync;

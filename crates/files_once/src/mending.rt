@@ -1,21 +1,23 @@
 //! A file of a store that a crash may have torn is made whole.
-ghost use Rattle.std.specs.Prelude.{◌≡◌, ◌↔◌, ◌++◌, ℕ, List, true, false, take, IsTrue, IfOk, IfErr, OnOk, Ok};
+ghost use Rattle.std.specs.Prelude.{◌≡◌, ◌⊎◌, ◌↔◌, ◌∷◌, [], ◌++◌, ℕ, List, true, false, take, IsTrue, IfOk, IfErr, OnOk, Ok};
 ghost use Rattle.sled_disk.specs.Disk.{Only, HasCause};
 ghost use Rattle.sled_disk.specs.declared.disk.DiskError.TheVariants.{NoMemory};
 ghost use Rattle.sled_log.specs.Digest.{digest};
-ghost use Rattle.sled_log.specs.Log.{log_of};
+ghost use Rattle.sled_log.specs.Log.{closed, log_of};
 ghost use Rattle.sled_log.specs.Tear.{log_to_tear};
 ghost use Rattle.sled_files.specs.Header.{magic, header};
 ghost use Rattle.files_once.specs.Mended.{IsOfStore, BeginsAsStore, IsMended};
 
 use sled_disk::{Disk, DiskError, Result};
-use sled_log::{mend, read_all, read_log, read_to_tear};
+use sled_log::{mend, read_all, read_to_tear};
 use std::alloc::Global;
 
 // "donnavek" as a number, the low byte first.
 const MAGIC: u64 = 0x6b65_7661_6e6e_6f64;
 
 const FORMAT: u32 = 1;
+
+const CLOSED: u8 = 0;
 
 // Whether bytes begin with the name of the format.
 fn begins_with_magic(bytes: &[u8]) -> bool
@@ -42,9 +44,20 @@ fn is_headed(payload: &[u8]) -> bool
     format == FORMAT
 }
 
-// Whether a file is one of a store, up to a tear.
-fn is_of_store(alloc: Global, bytes: &[u8]) -> Result<bool>
-    ensures no { IfOk result (λ is. is ≡ false → IsOfStore bytes.now → ⊥) }
+// Whether bytes are a closed gate and nothing else.
+fn is_gate(bytes: &[u8]) -> bool
+    ensures { result ≡ true → bytes.now ≡ closed ∷ [] }
+{
+    match bytes.split_first() {
+        Some((gate, behind)) => *gate == CLOSED && behind.is_empty(),
+        None => false,
+    }
+}
+
+// Whether a file is one of a store, and not all of it is a log that ends with its closed gate.
+fn is_torn(alloc: Global, bytes: &[u8]) -> Result<bool>
+    ensures no { IfOk result (λ is. is ≡ false → (IsOfStore bytes.now → ⊥) ⊎ (log_of digest bytes.now ≡ Ok (log_to_tear digest bytes.now))) }
+    ensures headed { IfOk result (λ is. is ≡ false → (IsOfStore bytes.now → ⊥) ⊎ BeginsAsStore bytes.now) }
     ensures yes { IfOk result (λ is. is ≡ true → BeginsAsStore bytes.now) }
     ensures err { IfErr result (λ e. e ≡ NoMemory) }
 {
@@ -52,20 +65,13 @@ fn is_of_store(alloc: Global, bytes: &[u8]) -> Result<bool>
         Ok(log) => log,
         Err(_) => return Err(DiskError::NoMemory),
     };
-    match log.payloads.first() {
-        Some(payload) => Ok(is_headed(payload)),
-        None => Ok(false),
+    let Some(payload) = log.payloads.first() else {
+        return Ok(false);
+    };
+    if !is_headed(payload) {
+        return Ok(false);
     }
-}
-
-// Whether a file is a log with nothing behind its closed gate.
-fn is_whole(alloc: Global, bytes: &[u8]) -> bool
-    ensures { result ≡ true → log_of digest bytes.now ≡ Ok (log_to_tear digest bytes.now) }
-{
-    match read_log(alloc, bytes) {
-        Ok(log) => log.gate + 1 == bytes.len(),
-        Err(_) => false,
-    }
+    Ok(!is_gate(&bytes[log.gate..]))
 }
 
 /// Makes the log of a file whole that a crash may have torn while a block was brought to the disk in one sync, if the file is one of a
@@ -84,9 +90,9 @@ pub fn mend_store<D: Disk>(alloc: Global, disk: &mut D) -> Result<bool>
 {
     disk.sync()?;
     let bytes = read_all(disk, alloc)?;
-    let is_done = !is_of_store(alloc, &bytes)? || is_whole(alloc, &bytes);
+    let is_torn = is_torn(alloc, &bytes)?;
     drop(bytes);
-    if is_done {
+    if !is_torn {
         return Ok(false);
     }
     mend(disk, alloc)?;

@@ -1,16 +1,17 @@
 //! A store is opened in two files whose blocks are brought to the disk in one sync.
 ghost use Rattle.std.specs.Prelude.{◌≡◌, ℕ, false, List, IfOk, IfErr, OnOk};
 ghost use Rattle.sled_store.specs.Store.{Store};
+ghost use Rattle.sled_disk.specs.Disk.{Only};
 ghost use Rattle.sled_pages.specs.Memory.{empty_store};
 ghost use Rattle.sled_files.specs.Change.{Durable};
-ghost use Rattle.sled_files.specs.Standing.{AreBlank};
+ghost use Rattle.sled_files.specs.Standing.{AreFor, AreBlank};
 ghost use Rattle.sled_files.specs.Lasting.{Limits};
 ghost use Rattle.sled_files.specs.Laws.{GoesOn};
-ghost use Rattle.sled_files.specs.Opening.{IsReopened, is_refusal, is_why_closed};
+ghost use Rattle.sled_files.specs.Opening.{IsReopened, OpensTo, AreOpenable, is_refusal, is_why_closed};
 ghost use Rattle.sled_files.specs.Stored.{stored_as};
-ghost use Rattle.sled_once.specs.Once.{bytes_of};
+ghost use Rattle.sled_once.specs.Once.{bytes_of, outcomes_of};
 ghost use Rattle.files_once.specs.Mended.{IsMended};
-ghost use Rattle.files_once.specs.Lasting.{AreReadFor, AreReadLasting, LastsAsRead, OpensMended, IsWhyUnmended};
+ghost use Rattle.files_once.specs.Lasting.{AreReadFor, AreReadLasting, LastsAsRead, MendedLasts, OpensMended, IsWhyUnmended};
 
 use crate::mending::mend_store;
 use sled_disk::{Disk, DiskError};
@@ -20,8 +21,7 @@ use std::alloc::Global;
 
 // A refusal of a disk.
 fn refusal_of(e: DiskError) -> OpenError
-    ensures refusal { is_refusal result }
-    ensures why { (one two : List ℕ) → is_why_closed result one two }
+    ensures { is_refusal result }
 {
     match e {
         DiskError::NoMemory => OpenError::NoMemory,
@@ -29,7 +29,7 @@ fn refusal_of(e: DiskError) -> OpenError
     }
 }
 
-/// Mends both files of a store as `mend_store` does one, and says whether one was changed.
+/// Mends both files of a store as `mend_store` does one, and says whether one was changed. All of both is on the disk then.
 ///
 /// ```
 /// let were_torn = mend_both(alloc, &mut first, &mut second)?;
@@ -38,6 +38,8 @@ pub fn mend_both<D: Disk>(alloc: Global, first: &mut D, second: &mut D) -> sled_
     ensures first { OnOk result (IsMended (D.seen first.old) (D.seen first.new)) }
     ensures second { OnOk result (IsMended (D.seen second.old) (D.seen second.new)) }
     ensures same { IfOk result (λ is. is ≡ false → (D.seen first.new ≡ D.seen first.old) × (D.seen second.new ≡ D.seen second.old)) }
+    ensures first_durable { OnOk result (Only (D.seen first.new) (D.may_leave first.new)) }
+    ensures second_durable { OnOk result (Only (D.seen second.new) (D.may_leave second.new)) }
 {
     let is_first = mend_store(alloc, first)?;
     let is_second = mend_store(alloc, second)?;
@@ -71,6 +73,50 @@ fn both_once<D: Disk>(
             first: first.into_disk(),
             second,
         }),
+    }
+}
+
+/// Opens a store in two files that are whole, as `FilePages::open` does, and from then on each block is brought to the disk in one sync. Files
+/// of which one is torn are refused as decayed: `open_once` mends them first, and `mend_both` does that alone.
+///
+/// ```
+/// mend_both(alloc, &mut first, &mut second)?;
+/// match open_mended(alloc, first, second) {
+///     Ok(store) => drop(store),         // A flush syncs once.
+///     Err(refused) => drop(refused),    // `refused.first` and `refused.second` are the disks.
+/// }
+/// ```
+pub fn open_mended<D: Disk>(
+    alloc: Global,
+    first: D,
+    second: D,
+) -> Result<FilePages<OneSync<D>>, NotOpened<D>>
+    ensures opens { IfOk result (λ f. OpensTo bytes_of outcomes_of (D.seen first) (D.seen second) f.files (stored_as f)) }
+    // Of what files stand for, they stand for nothing else.
+    ensures recovers { IfOk result (λ f. (d : Durable) → AreFor (D.seen first) (D.seen second) d → IsReopened d (stored_as f)) }
+    ensures begins { IfOk result (λ f. AreBlank (D.seen first) (D.seen second) → stored_as f ≡ empty_store) }
+    ensures err { IfErr result (λ x. is_why_closed x.error (D.seen first) (D.seen second)) }
+    // If they stand for a store, or for one that is still to be made, it is refused for want of memory or by a disk alone.
+    ensures refused { IfErr result (λ x. AreOpenable (D.seen first) (D.seen second) → is_refusal x.error) }
+{
+    let (first, second) = match both_once(alloc, first, second) {
+        Ok(both) => both,
+        Err(refused) => return Err(refused),
+    };
+    match FilePages::open(alloc, first, second) {
+        Ok(store) => Ok(store),
+        Err(refused) => {
+            let NotOpened {
+                error,
+                first,
+                second,
+            } = refused;
+            Err(NotOpened {
+                error,
+                first: first.into_disk(),
+                second: second.into_disk(),
+            })
+        }
     }
 }
 
@@ -112,24 +158,9 @@ pub fn open_once<D: Disk>(
             second,
         });
     }
-    let (first, second) = match both_once(alloc, first, second) {
-        Ok(both) => both,
-        Err(refused) => return Err(refused),
-    };
-    match FilePages::open(alloc, first, second) {
+    match open_mended(alloc, first, second) {
         Ok(store) => Ok(store),
-        Err(refused) => {
-            let NotOpened {
-                error,
-                first,
-                second,
-            } = refused;
-            Err(NotOpened {
-                error,
-                first: first.into_disk(),
-                second: second.into_disk(),
-            })
-        }
+        Err(refused) => Err(refused),
     }
 }
 
@@ -150,3 +181,12 @@ pub fn law_lasts_as_read<D: Disk>(store: &FilePages<OneSync<D>>)
     law_read_as_left(first);
     law_read_as_left(second);
 }
+
+/// Does nothing. It says that what is read as right for a store is right for it once it was mended. `open_mended` opens that.
+///
+/// ```
+/// law_mended_lasts(); // From here on a proof knows what `mend_both` makes of what a crash left.
+/// ```
+pub fn law_mended_lasts()
+    ensures { MendedLasts }
+{}

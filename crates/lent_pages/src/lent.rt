@@ -1,6 +1,6 @@
 //! A store over pages that are lent.
 ghost use Rattle.std.specs.Prelude.{◌≡◌};
-ghost use Rattle.lent_pages.specs.Lent.{store_lent};
+ghost use Rattle.lent_pages.specs.Lent.{lent_of, store_lent};
 
 use sled_nodes::{Error, IVec, Link, Node, Pid, Result, Version};
 use sled_store::{Pages, View};
@@ -10,7 +10,7 @@ use std::alloc::Global;
 type Changed<T, F> = Result<std::result::Result<T, Option<F>>>;
 
 /// Pages that another value owns, lent to be read. Each change of them is refused, with `NoMemory`, which of the refusals of a store is the
-/// one that counts no fault.
+/// one that counts no fault. Their mark is the greatest number, so that a transaction over them sets no ids aside.
 #[derive(Drop)]
 pub struct Lent<'a, P: Pages + Sync> {
     pages: &'a P,
@@ -19,7 +19,7 @@ pub struct Lent<'a, P: Pages + Sync> {
 impl<'a, P: Pages + Sync> Lent<'a, P> {
     // These pages, lent.
     pub(crate) fn new(pages: &'a P) -> Lent<'a, P>
-        ensures { store_lent P.store result ≡ P.store pages.now }
+        ensures { store_lent P.store result ≡ lent_of (P.store pages.now) }
     {
         Lent { pages }
     }
@@ -86,7 +86,7 @@ impl<'a, P: Pages + Sync> Pages for Lent<'a, P> {
     }
 
     fn mark(&self) -> u64 {
-        self.pages.mark()
+        u64::MAX
     }
 
     fn was_recovered(&self) -> bool {
@@ -95,5 +95,5 @@ impl<'a, P: Pages + Sync> Pages for Lent<'a, P> {
 
     ghost sealed = { λ l. P.sealed l.pages.now };
 
-    ghost given = { λ l. P.given l.pages.now };
+    ghost given = { λ l. record { pid = (P.given l.pages.now).pid; version = (P.given l.pages.now).version; numbered = (P.given l.pages.now).numbered } };
 }

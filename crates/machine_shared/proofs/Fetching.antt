@@ -1,12 +1,12 @@
 -- A fetch keeps what holds of a state.
-use Rattle.std.proofs.Common.{◌≡◌, ◌∙◌, ℕ, ◌≤◌, List, [], ◌∷◌, ◌++◌, append-nil, length, Option, Result, Ok, Err, IfOk, OnErr, sym, refl, ap, subst}
+use Rattle.std.proofs.Common.{◌≡◌, ◌∙◌, ℕ, List, [], ◌∷◌, ◌++◌, length, Option, Result, Ok, Err, IfOk, OnErr, sym, refl, ap, subst}
 use Rattle.sled_store.specs.Store.{Store}
 use Rattle.tree_laws.proofs.Crashing.{extends_same}
 use Rattle.sled_model.specs.Answer.{key_of, decision_of, answer_of}
 use Rattle.std.specs.FinMap.Entries.{find}
 use Rattle.sled_nodes.specs.Order.{Key, key_cmp}
 use Rattle.sled_model.specs.Collections.{Content}
-use Rattle.sled_model.specs.Maps.{Maps, Merge}
+use Rattle.sled_model.specs.Maps.{Merge}
 use Rattle.sled_model.specs.Refusal.{ToPoint}
 use Rattle.sled_model.specs.State.{State, maps_of}
 use Rattle.sled_model.specs.Whole.{DecidesPoint}
@@ -24,7 +24,7 @@ use Rattle.machine_alone.proofs.Runs.{extended}
 use Rattle.machine_shared.specs.History.{MakesPoint, ids_made}
 use Rattle.machine_shared.specs.Made.{EntryValue, MadeValue, PointMade}
 use Rattle.machine_shared.specs.Notes.{entries_of}
-use Rattle.machine_shared.specs.Sound.{CrashLeaves, IsOpen, IsState, maps_now}
+use Rattle.machine_shared.specs.Sound.{CrashLeaves, IsState}
 use Rattle.machine_shared.specs.Fetches.{SwapsNow, StaysStill, swap_made}
 use Rattle.machine_alone.proofs.Rising.{at_most}
 use Rattle.machine_shared.proofs.Ids.{longer_rises}

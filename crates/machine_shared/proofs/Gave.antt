@@ -1,5 +1,5 @@
 -- What scans gave, as more is noted and a history grows.
-use Rattle.std.proofs.Common.{◌≡◌, ◌≢◌, ◌≤◌, ◌∙◌, ◌⊎◌, inl, inr, ℕ, nat_eq, Bool, true, false, cond, List, [], ◌∷◌, ◌++◌, append_assoc, append-nil, sym, refl, ap, subst, le_of_eq}
+use Rattle.std.proofs.Common.{◌≡◌, ◌≢◌, ◌∙◌, ◌⊎◌, inl, inr, ℕ, nat_eq, Bool, true, false, cond, List, [], ◌∷◌, ◌++◌, append_assoc, append-nil, sym, refl, ap, subst, le_of_eq}
 use Rattle.std.proofs.lemmas.Bool.{eqb-true, eq-eqb}
 use Rattle.std.specs.declared.ops.Bound.{Bound}
 use Rattle.sled_nodes.proofs.Basics.{true_false}

@@ -6,10 +6,8 @@ use Rattle.sled_nodes.specs.Order.{Key}
 use Rattle.sled_store.specs.In.{In}
 use Rattle.sled_store.specs.Update.{put_at}
 use Rattle.sled_model.specs.Maps.{Maps}
-use Rattle.sled_model.specs.Scan.{Reads}
 use Rattle.sled_model.specs.State.{State, CallInFlight, IsOnKey, call_begun, range_of}
 use Rattle.sled_model.specs.Transition.{Configuration, transition_as}
-use Rattle.sled_model.specs.declared.reply.Reply.{Reply}
 use Rattle.sled_model.specs.declared.reply.Reply.TheVariants as told
 use Rattle.sled_model.specs.declared.outcome.Step.{Step}
 use Rattle.sled_model.specs.declared.outcome.Step.TheVariants as step

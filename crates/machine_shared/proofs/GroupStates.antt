@@ -1,11 +1,11 @@
 -- A group that a transaction wrote, whether it was made or not, keeps what holds of a state.
-use Rattle.std.proofs.Common.{◌≡◌, ◌∙◌, ℕ, List, [], ◌∷◌, ◌++◌, append-nil, length, Result, Ok, Err, OnOk, OnErr, sym, refl, ap, subst, ◌⊎◌, inl, inr}
+use Rattle.std.proofs.Common.{◌≡◌, ◌∙◌, ℕ, List, [], ◌∷◌, ◌++◌, append-nil, length, Result, Ok, Err, OnOk, OnErr, IfErr, sym, refl, ap, subst, inl, inr}
 use Rattle.std.specs.Global.{Vec}
 use Rattle.sled_nodes.specs.declared.error.Error.{Error}
 use Rattle.sled_batch.specs.Batch.{Writes}
 use Rattle.sled_store.specs.Store.{Store}
 use Rattle.sled_model.specs.Collections.{Content}
-use Rattle.sled_model.specs.Maps.{Maps, Merge}
+use Rattle.sled_model.specs.Maps.{Merge}
 use Rattle.sled_model.specs.Refusal.{trees_of_batches}
 use Rattle.sled_model.specs.State.{State, maps_of}
 use Rattle.sled_model.specs.Transition.{WholeDecides}
@@ -13,8 +13,6 @@ use Rattle.sled_model.specs.declared.call.Whole.TheVariants.{Group}
 use Rattle.sled_model.specs.declared.outcome.Outcome.{Outcome}
 use Rattle.sled_model.specs.declared.outcome.Outcome.TheVariants as outcome
 use Rattle.sled_model.specs.declared.outcome.Step.TheVariants as step
-use Rattle.sled_model.specs.declared.reply.Reply.{Reply}
-use Rattle.sled_model.specs.declared.reply.Reply.TheVariants.{Done}
 use Rattle.sled_model.specs.declared.tree.Tree.{Tree}
 use Rattle.sled.specs.Values.{db_state}
 use Rattle.sled.proofs.Grouped.{tested_open}
@@ -27,10 +25,8 @@ use Rattle.machine_shared.specs.Made.{EntryValue, MadeValue}
 use Rattle.machine_shared.specs.Notes.{entries_of}
 use Rattle.machine_shared.specs.Sound.{CrashLeaves, IsState}
 use Rattle.machine_shared.specs.Transactions.{transaction_made}
-use Rattle.machine_shared.specs.WholeMade.{makes_whole_as}
 use Rattle.machine_shared.specs.WholeNotes.{NotesWhole}
-use Rattle.machine_shared.specs.Wholes as value
-use Rattle.machine_shared.specs.theory.Transacting.{is_decided, is_undecided, GroupMade, GroupRefused, GroupUnmade}
+use Rattle.machine_shared.specs.theory.Transacting.{is_decided, is_refused_as, GroupMade, GroupRefused, GroupUnmade}
 use Rattle.machine_shared.proofs.Ids.{came_risen, longer_rises, whole_risen}
 use Rattle.machine_shared.proofs.Moments.{GoesOn}
 use Rattle.machine_shared.proofs.Leading.{GoesTo, adds, led, whole_leaves, legal_of, leads_of}
@@ -48,9 +44,14 @@ module _ {P M : Type 0} (store : P → Store) (number : P → ℕ) (meant : M �
   group_made o s (Ok x) d = decided_made o s d
   group_made o s (Err e) d = tt
 
-  pub group_refused : (o : Outcome) → MachineStepContract store number meant a (step.Whole (Group group)) o b → (r : Result (Unit {0}) Error) → OnErr r (is_undecided o) → OnErr r (GroupRefused store number meant a group b)
+  refused_group : (o : Outcome) (e : Error) → MachineStepContract store number meant a (step.Whole (Group group)) o b → is_refused_as o e → GroupRefused store number meant a group b e
+  refused_group (outcome.Decided reply) e s u = absurd u
+  refused_group (outcome.Refused x) e s u = record { step = subst (λ y. MachineStepContract store number meant a (step.Whole (Group group)) (outcome.Refused y) b) (sym u) s }
+  refused_group other e s u = absurd s.step.step.is
+
+  pub group_refused : (o : Outcome) → MachineStepContract store number meant a (step.Whole (Group group)) o b → (r : Result (Unit {0}) Error) → IfErr r (is_refused_as o) → IfErr r (GroupRefused store number meant a group b)
   group_refused o s (Ok x) u = tt
-  group_refused o s (Err e) u = record { outcome = o; undecided = u; step = s }
+  group_refused o s (Err e) u = refused_group o e s u
 
 -- ---- states
 
@@ -85,25 +86,23 @@ module _ {P M : Type 0} (store : P → Store) (number : P → ℕ) (meant : M �
       ids = longer_rises 0 a.db.greatest_id b.db.greatest_id history (entries_of n (v ∷ [])) longer e h.ids (came_risen store number meant a b n (Group group) (outcome.Decided g.reply) g.step.step.maps 0 decides)
 
   -- .. and where it was refused
-  refused_notes : (o : Outcome) → is_undecided o → MachineStepContract store number meant a (step.Whole (Group group)) o b → longer ≡ history ++ [] → NotesWhole store number meant a history n [] (Group group) o b longer []
-  refused_notes (outcome.Decided reply) u s e = absurd u
-  refused_notes (outcome.Refused x) u s e = record { noted = []; comes = inl (record { step = s; number = 0; counts = record { is = refl }; notes = refl }); adds = e; adds_there = refl }
-  refused_notes other u s e = absurd s.step.step.is
+  refused_notes : (x : Error) → MachineStepContract store number meant a (step.Whole (Group group)) (outcome.Refused x) b → longer ≡ history ++ [] → NotesWhole store number meant a history n [] (Group group) (outcome.Refused x) b longer []
+  refused_notes x s e = record { noted = []; comes = inl (record { step = s; number = 0; counts = record { is = refl }; notes = refl }); adds = e; adds_there = refl }
 
   refused_state : (o : Outcome) → NotesWhole store number meant a history n [] (Group group) o b longer [] → GoesTo h b longer after
   refused_state o notes =
       let crashes = whole_leaves store number meant a b opening history h.crashes n longer [] [] (Group group) o notes in
       (record { legal = legal_of crashes.0; leads = leads_of crashes.0; crashes = crashes.0; ids = whole_risen store number meant a b n history longer [] [] (Group group) o notes h.ids; counted = counted }, crashes.2)
 
-  unmade_state : GroupUnmade store number meant a group b → longer ≡ history ++ [] → GoesTo h b longer after
-  unmade_state (inl same) e = (record { legal = m.0.legal; leads = m.0.leads; crashes = m.0.crashes; ids = m.0.ids; counted = counted }, m.1)
+  unmade_state : (x : Error) → GroupUnmade store number meant a group b x → longer ≡ history ++ [] → GoesTo h b longer after
+  unmade_state x (inl (same, why)) e = (record { legal = m.0.legal; leads = m.0.leads; crashes = m.0.crashes; ids = m.0.ids; counted = counted }, m.1)
     where
       m : GoesTo h b longer before
       m = subst (λ l. GoesTo h b l before) (sym (e ∙ append-nil history)) (subst (λ (x : MachineValue P M). GoesTo h x history before) (sym same) (h, λ i m there. there))
-  unmade_state (inr g) e = refused_state g.outcome (refused_notes g.outcome g.undecided g.step e)
+  unmade_state x (inr g) e = refused_state (outcome.Refused x) (refused_notes x g.step e)
 
   -- a group, whether it was made or not
   pub grouped_state : (r : Result (Unit {0}) Error) (noted : List MadeValue) → OnOk r (GroupMade store number meant a group b) → OnOk r (noted ≡ transaction_made (maps_of (db_state store meant a.db)) group.items ∷ [])
-      → OnErr r (GroupUnmade store number meant a group b) → OnErr r (noted ≡ []) → longer ≡ history ++ entries_of n noted → GoesTo h b longer after
+      → IfErr r (GroupUnmade store number meant a group b) → OnErr r (noted ≡ []) → longer ≡ history ++ entries_of n noted → GoesTo h b longer after
   grouped_state (Ok x) noted made notes unmade none e = made_state made (e ∙ ap (λ m. history ++ entries_of n m) notes)
-  grouped_state (Err x) noted made notes unmade none e = unmade_state unmade (e ∙ ap (λ m. history ++ entries_of n m) none)
+  grouped_state (Err x) noted made notes unmade none e = unmade_state x unmade (e ∙ ap (λ m. history ++ entries_of n m) none)

@@ -1,37 +1,27 @@
 -- What a call on a key makes of the maps.
-use Rattle.std.proofs.Common.{◌≡◌, ◌∙◌, ℕ, Bool, true, false, cond, List, [], ◌∷◌, ◌++◌, append-nil, length, Option, Some, None, option_map, Result, Ok, Err, IfOk, IfErr, sym, refl, ap, subst}
+use Rattle.std.proofs.Common.{◌≡◌, ◌∙◌, ℕ, Bool, true, false, cond, Option, Some, None, option_map, sym, refl, ap}
 use Rattle.std.proofs.Math.Path.{fun_ext}
 use Rattle.std.specs.FinMap.Entries.{find}
 use Rattle.std.specs.Str.{bytes_eq}
 use Rattle.sled_nodes.proofs.Basics.{none_some}
 use Rattle.sled_nodes.specs.Order.{Key, key_cmp}
 use Rattle.sled_nodes.specs.Ranges.{Range}
-use Rattle.sled_nodes.specs.declared.error.Error.{Error}
 use Rattle.sled_store.specs.Store.{Store, now}
 use Rattle.sled_store.specs.Update.{put_name}
 use Rattle.sled_store.specs.theory.Facts.{same_name}
 use Rattle.sled_model.specs.Maps.{Map, Maps, Merge}
 use Rattle.sled_model.specs.Answer.{key_of, decision_of, map_after}
-use Rattle.sled_model.specs.Collections.{Content}
 use Rattle.sled_model.specs.State.{State, NamedTree, maps_of, range_of}
-use Rattle.sled_model.specs.Transition.{transition_as, Decide}
+use Rattle.sled_model.specs.Transition.{Decide}
 use Rattle.sled_model.specs.declared.call.Call.{Call}
 use Rattle.sled_model.specs.declared.call.Call.TheVariants.{Merge as Merges, Scan}
 use Rattle.sled_model.specs.declared.decision.Decision.{Decision}
-use Rattle.sled_model.specs.declared.tree.Tree.{Tree}
 use Rattle.sled_model.specs.declared.reply.Reply.{Reply}
-use Rattle.sled_model.specs.declared.outcome.Outcome.{Outcome}
-use Rattle.sled_model.specs.declared.outcome.Outcome.TheVariants as outcome
-use Rattle.sled_model.specs.declared.outcome.Step.TheVariants as step
 use Rattle.sled.specs.Values.{named, numbers_of}
 use Rattle.tree_laws.specs.Contents.{trees_of}
-use Rattle.machine_alone.specs.Values.{MachineValue, configuration_of, slots_of}
-use Rattle.machine_alone.specs.Step.{MachineStepContract}
-use Rattle.machine_shared.specs.Made.{EntryValue, PointMade}
-use Rattle.machine_shared.specs.History.{comes_to, MakesPoint, makes_as, IsLegal, NoEntries, OneEntry, maps_from}
-use Rattle.machine_shared.specs.Notes.{entries_of, noted_as, noted_in}
-use Rattle.machine_shared.specs.Sound.{IsOpen, maps_now, IsState}
-use Rattle.machine_shared.proofs.Ids.{begun_risen, abandoned_risen, none_risen}
+use Rattle.machine_alone.specs.Values.{MachineValue, configuration_of}
+use Rattle.machine_shared.specs.History.{comes_to, MakesPoint}
+use Rattle.machine_shared.specs.Sound.{maps_now}
 
 -- a call comes to one of those things that it may come to
 pub comes : (merge : Option Merge) (c : Call) (value : Option Key) → comes_to c value (decision_of merge c value)

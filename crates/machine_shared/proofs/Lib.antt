@@ -14,6 +14,7 @@ pub mod Stands
 pub mod GroupStates
 pub mod Transacting
 pub mod Listing
+pub mod ListTests
 pub mod SameContents
 pub mod Paging
 pub mod PageReads
@@ -27,4 +28,6 @@ pub mod Gave
 pub mod ScanSteps
 pub mod ScanStates
 pub mod UnderLocks
+pub mod Committing
+pub mod Inside
 pub mod Going

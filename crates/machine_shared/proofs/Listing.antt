@@ -3,8 +3,7 @@ use Rattle.std.proofs.Common.{◌≡◌, ◌∙◌, ℕ, ◌+◌, ◌<◌, true,
 use Rattle.std.proofs.Math.Seq.{take-suc}
 use Rattle.std.proofs.lemmas.List.{map-append}
 use Rattle.std.proofs.lemmas.List.Elements.{All-head, All-tail}
-use Rattle.std.specs.Str.{bytes_eq}
-use Rattle.sled_model.specs.Refusal.{IsClosed, IsForeign, IsDropped, must_refuse_of, first_of, foreign_test, dropped_test, is_number}
+use Rattle.sled_model.specs.Refusal.{IsClosed, IsForeign, IsDropped, must_refuse_of, first_of, foreign_test, dropped_test}
 use Rattle.sled_model.specs.State.{State}
 use Rattle.sled_model.specs.declared.tree.Tree.{Tree}
 use Rattle.sled_model.proofs.Tests.{none_first}

@@ -1,9 +1,8 @@
 -- Pages as parts of a range.
-use Rattle.std.proofs.Common.{◌≡◌, ◌∙◌, ℕ, ◌≤◌, Bool, true, false, ◌&&◌, if◌then◌else◌, List, [], ◌∷◌, ◌++◌, length, take, drop, reverse, filter, min, All, T, sym, refl, ap, subst, arith}
+use Rattle.std.proofs.Common.{◌≡◌, ◌∙◌, ℕ, ◌≤◌, Bool, true, false, ◌&&◌, if◌then◌else◌, List, [], ◌∷◌, ◌++◌, length, take, drop, reverse, filter, All, sym, refl, ap, subst, arith}
 use Rattle.std.proofs.lemmas.List.{length-take, reverse-append, reverse-reverse, take-append-drop}
 use Rattle.std.proofs.lemmas.List.Elements.{All-nil, All-cons, All-head, All-tail}
 use Rattle.std.specs.FinMap.Entries.{is_sorted, below_all, is_sorted-where_key}
-use Rattle.std.specs.Ordering.{is_lt}
 use Rattle.std.specs.declared.ops.Bound.{Bound}
 use Rattle.sled_nodes.proofs.Basics.{first_true, second_true, of_true, true_of}
 use Rattle.sled_nodes.specs.Order.{Key, key_cmp}

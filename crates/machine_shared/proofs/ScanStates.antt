@@ -1,5 +1,5 @@
 -- What is known of scans in a state, after each of its calls.
-use Rattle.std.proofs.Common.{◌≡◌, ◌≤◌, ◌∙◌, ◌⊎◌, inl, inr, ℕ, List, [], ◌∷◌, ◌++◌, length, Option, Some, None, option_map, Result, Ok, Err, IfOk, IfErr, OnOk, OnErr, sym, refl, ap, subst, le_of_eq, arith}
+use Rattle.std.proofs.Common.{◌≡◌, ◌≤◌, ◌∙◌, inl, inr, ℕ, List, [], ◌++◌, length, Option, Some, None, option_map, Result, Ok, Err, IfOk, IfErr, OnOk, OnErr, sym, refl, ap, subst, le_of_eq, arith}
 use Rattle.std.proofs.lemmas.List.{length-append}
 use Rattle.std.specs.Global.{Vec}
 use Rattle.sled_nodes.proofs.Basics.{none_some, some_is}
@@ -93,11 +93,11 @@ module _ {P M : Type 0} (store : P → Store) (number : P → ℕ) (meant : M �
       | inr d ↦ after_none d.same
     ]
 
-    pub after_group : (group : Vec (Tree × Writes)) (r : Result (Unit {0}) Error) → OnOk r (GroupMade store number meant a group b) → OnErr r (GroupUnmade store number meant a group b) → MachineScans store b c.moments (length longer) scans
+    pub after_group : (group : Vec (Tree × Writes)) (r : Result (Unit {0}) Error) → OnOk r (GroupMade store number meant a group b) → IfErr r (GroupUnmade store number meant a group b) → MachineScans store b c.moments (length longer) scans
     after_group group (Ok x) made unmade = scans_quiet (at_of a) (at_of b) l.moments c.moments (length history) (length longer) goes more (last_moment a opening history l) (last_moment b opening longer c) scans h ascend (step.Whole (Group group)) (outcome.Decided made.reply) made.step.step.maps made.step.step.step (λ slot. refl) tt
     after_group group (Err x) made unmade = elim unmade [
-      | inl same ↦ after_none same
-      | inr g ↦ scans_quiet (at_of a) (at_of b) l.moments c.moments (length history) (length longer) goes more (last_moment a opening history l) (last_moment b opening longer c) scans h ascend (step.Whole (Group group)) g.outcome g.step.step.maps g.step.step.step (λ slot. refl) tt
+      | inl u ↦ after_none u.0
+      | inr g ↦ scans_quiet (at_of a) (at_of b) l.moments c.moments (length history) (length longer) goes more (last_moment a opening history l) (last_moment b opening longer c) scans h ascend (step.Whole (Group group)) (outcome.Refused x) g.step.step.maps g.step.step.step (λ slot. refl) tt
     ]
 
     pub after_fetch : (tree : Tree) (key : Key) (r : Result (Option Key × Option Key) Error) → IfOk r (λ both. SwapsNow store meant a tree key both.0 both.1 b) → OnErr r (StaysStill store meant a b) → b ≡ record a { db = b.db } → Ascend (at_of b).state

@@ -4,7 +4,6 @@ use Rattle.std.proofs.lemmas.Bool.{eqb-true, eq-eqb}
 use Rattle.std.specs.declared.ops.Bound.{Bound}
 use Rattle.sled_nodes.proofs.Basics.{none_some, some_is, true_false}
 use Rattle.sled_nodes.specs.Order.{Key}
-use Rattle.sled_nodes.specs.Ranges.{Range}
 use Rattle.sled_store.specs.In.{In}
 use Rattle.sled_store.specs.theory.Facts.{put_here}
 use Rattle.sled_model.specs.Maps.{Maps}
@@ -13,7 +12,6 @@ use Rattle.sled_model.specs.Transition.{Configuration, Transition}
 use Rattle.sled_model.specs.declared.call.Call.{Call}
 use Rattle.sled_model.specs.declared.call.Call.TheVariants.{Scan}
 use Rattle.sled_model.specs.declared.tree.Tree.{Tree}
-use Rattle.sled_model.specs.declared.reply.Reply.{Reply}
 use Rattle.sled_model.specs.declared.reply.Reply.TheVariants as told
 use Rattle.sled_model.specs.declared.outcome.Step.{Step}
 use Rattle.sled_model.specs.declared.outcome.Step.TheVariants as step
@@ -24,13 +22,13 @@ use Rattle.scan_laws.proofs.Lists.{in_right}
 use Rattle.sled_queues.proofs.Closing.{opens_none}
 use Rattle.scan_laws.proofs.Staying.{leaves}
 use Rattle.machine_shared.specs.Moments.{AtOneMoment}
-use Rattle.machine_shared.specs.Scanned.{pair_of, gave_in, IsPairOf, GaveAllOf, AreOfScans, AreScanned}
+use Rattle.machine_shared.specs.Scanned.{pair_of, gave_in, IsPairOf, AreOfScans, AreScanned}
 use Rattle.machine_shared.specs.Scans.{ScansValue, NotesScan, AreNoted, AreNotKept, Stops, begun_of, noted_at, scanned_of}
 use Rattle.machine_shared.specs.declared.scans.Scanned.{Scanned}
 use Rattle.machine_shared.specs.declared.scans.Scanned.TheVariants as did
 use Rattle.machine_shared.specs.declared.scans.ScanNote.{ScanNote}
 use Rattle.machine_shared.specs.UnderWay.{AreGoing, IsOfMoment, IsUnderWay, ScansAre}
-use Rattle.machine_shared.proofs.Gave.{GivesOn, are_later, are_more, gave_none, gave_nothing, gave_on, gave_one, gives_none, note_either}
+use Rattle.machine_shared.proofs.Gave.{are_later, are_more, gave_none, gave_nothing, gave_on, gave_one, gives_none, note_either}
 use Rattle.machine_shared.proofs.Going.{begin_noted, begun_last, going_after, of_one_more, of_step}
 use Rattle.machine_shared.proofs.Moments.{GoesOn}
 use Rattle.machine_shared.proofs.UnderWay.{WasThere, was_there, opens_of, ends_complete, gives_seen, stepped, yields_now, under_way_step, under_way_change}

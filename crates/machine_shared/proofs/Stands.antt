@@ -1,5 +1,5 @@
 -- What stands at the keys of a group.
-use Rattle.std.proofs.Common.{◌≡◌, ◌∙◌, ℕ, ◌+◌, ◌<◌, List, [], ◌∷◌, ◌++◌, append-nil, append_assoc, length, map, take, get_or, suc, Option, Some, None, Result, Ok, Err, IfOk, sym, refl, ap, arith}
+use Rattle.std.proofs.Common.{◌≡◌, ◌∙◌, ℕ, ◌+◌, ◌<◌, List, [], ◌∷◌, ◌++◌, append-nil, append_assoc, length, map, take, get_or, suc, Option, Result, Ok, Err, IfOk, sym, ap, arith}
 use Rattle.std.proofs.Math.Seq.{take-suc}
 use Rattle.std.proofs.lemmas.List.{map-append}
 use Rattle.std.specs.FinMap.Entries.{find}
@@ -7,7 +7,7 @@ use Rattle.sled_nodes.specs.Order.{Key, key_cmp}
 use Rattle.sled_nodes.specs.declared.error.Error.{Error}
 use Rattle.sled_batch.specs.Batch.{Writes}
 use Rattle.sled_store.specs.Store.{Store}
-use Rattle.sled_model.specs.Groups.{Write, writes_on, writes_of}
+use Rattle.sled_model.specs.Groups.{writes_on, writes_of}
 use Rattle.sled_model.specs.Maps.{Maps, Merge}
 use Rattle.sled_model.specs.State.{maps_of}
 use Rattle.sled_model.specs.declared.tree.Tree.{Tree}

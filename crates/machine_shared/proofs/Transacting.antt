@@ -2,7 +2,7 @@
 use Rattle.std.proofs.Common.{◌≡◌, ◌∙◌, ℕ, Bool, true, false, ◌&&◌, List, [], ◌∷◌, ◌++◌, append_assoc, append-nil, None, Result, Ok, Err, OnOk, OnErr, sym, refl, ap, subst, inl, inr}
 use Rattle.sled_nodes.specs.declared.error.Error.{Error}
 use Rattle.sled_batch.specs.Batch.{Writes}
-use Rattle.sled_store.specs.Store.{Store}
+use Rattle.sled_store.specs.Store.{Store, now}
 use Rattle.sled_model.specs.Maps.{Merge}
 use Rattle.sled_model.specs.State.{maps_of}
 use Rattle.sled_model.specs.declared.call.Whole.TheVariants.{Flush}
@@ -11,6 +11,7 @@ use Rattle.sled_model.specs.declared.outcome.Outcome.TheVariants as outcome
 use Rattle.sled_model.specs.declared.reply.Reply.{Reply}
 use Rattle.sled_model.specs.declared.reply.Reply.TheVariants.{Number}
 use Rattle.sled_model.specs.declared.tree.Tree.{Tree}
+use Rattle.tree_transactions.specs.Overlays.{ReadsThrough}
 use Rattle.tree_transactions.specs.declared.attempts.Commit.{Commit}
 use Rattle.tree_transactions.specs.declared.errors.TransactionError.{TransactionError}
 use Rattle.tree_transactions.specs.declared.errors.TransactionError.TheVariants.{Abort, Storage}
@@ -18,6 +19,7 @@ use Rattle.tree_transactions.specs.declared.tree.TransactionalTree.{Transactiona
 use Rattle.tree_transactions.specs.declared.trees.TransactionalTrees.{TransactionalTrees}
 use Rattle.lent_pages.specs.declared.lent.Lent.{Lent}
 use Rattle.sled.specs.Values.{DbValue, db_state}
+use Rattle.tree_transactions.proofs.Attempting.{only_same}
 use Rattle.sled.proofs.Transacting.{shows, shows_at}
 use Rattle.machine_alone.specs.Values.{MachineValue, configuration_of}
 use Rattle.machine_shared.specs.Made.{EntryValue, MadeValue, WholeMade}
@@ -93,10 +95,10 @@ module _ (v : MadeValue) (flushes : Bool) (made mid more : List MadeValue) where
 -- ---- transactions
 
 -- a closure was run to this end
-pub ran : {E W : Type 0} (reaches : Result W (TransactionError E) → Type 0) (ended : Result W (TransactionError E)) → reaches ended → ran_as reaches ended
-ran reaches (Ok commit) r = r
-ran reaches (Err (Abort e)) r = r
-ran reaches (Err (Storage e)) r = tt
+pub ran : {E W : Type 0} (tests : Error → Type 0) (reaches : Result W (TransactionError E) → Type 0) (ended : Result W (TransactionError E)) → reaches ended → ran_as tests reaches ended
+ran tests reaches (Ok commit) r = r
+ran tests reaches (Err (Abort e)) r = r
+ran tests reaches (Err (Storage e)) r = inr r
 
 module _ {P M A E W : Type 0} (store : P → Store) (meant : M → Merge) (so : DbValue P M → Result (Commit A W) (TransactionError E) → Type 0) (batches_of : W → List (Tree × Writes)) (has : Bool) (d : DbValue P M) (made more : List MadeValue) where
   pub ended_made : (commit : Commit A W) → so d (Ok commit) → AddsCommit (transaction_made (maps_of (db_state store meant d)) (batches_of commit.writes)) (has && commit.flushes) made more
@@ -118,9 +120,9 @@ module _ {P M A E W : Type 0} (store : P → Store) (meant : M → Merge) (so : 
     }
   ]
 
-  pub ended_failed : (e : TransactionError E) → ran_as (so d) (Err e) → AddsTransaction (IsOnce store meant so) batches_of has (Err e) made made
-  ended_failed (Abort e) r = record { noted = []; notes = ((maps_of (db_state store meant d), (d, refl, r)), refl); adds = sym (append-nil made) }
-  ended_failed (Storage e) r = record { noted = []; notes = inl refl; adds = sym (append-nil made) }
+  pub ended_failed : (tests : Error → Type 0) (e : TransactionError E) → ran_as tests (so d) (Err e) → AddsTransaction (IsOnce store meant so) batches_of has (Err e) made made
+  ended_failed tests (Abort e) r = record { noted = []; notes = ((maps_of (db_state store meant d), (d, refl, r)), refl); adds = sym (append-nil made) }
+  ended_failed tests (Storage e) r = record { noted = []; notes = inl refl; adds = sym (append-nil made) }
 
 pub adds_closed : {P M A E W : Type 0} (store : P → Store) (meant : M → Merge) (so : DbValue P M → Result (Commit A W) (TransactionError E) → Type 0) (batches_of : W → List (Tree × Writes)) (has : Bool) (e : Error) (made : List MadeValue)
     → AddsTransaction (IsOnce store meant so) batches_of has (Err (Storage e)) made made
@@ -129,15 +131,16 @@ adds_closed store meant so batches_of has e made = record { noted = []; notes = 
 -- ---- reads inside
 
 -- what is shown over pages that are lent is shown over the pages
-abbrev tree_lent : {P : Type 0} → TransactionalTree (Lent P) → TransactionalTree P
-tree_lent t = record { alloc = t.alloc; pages = t.pages.now.pages; root = t.root; overlay = t.overlay; greatest_id = t.greatest_id; mark = t.mark; flushes = t.flushes }
+abbrev tree_over : {P M : Type 0} → DbValue P M → TransactionalTree (Lent P) → TransactionalTree P
+tree_over d t = record { alloc = t.alloc; pages = record { ref_ptr = t.pages.ref_ptr; now = d.pages }; root = t.root; overlay = t.overlay; greatest_id = t.greatest_id; mark = t.mark; flushes = t.flushes }
 
-abbrev trees_lent : {P : Type 0} → TransactionalTrees (Lent P) → TransactionalTrees P
-trees_lent t = record { alloc = t.alloc; pages = t.pages.now.pages; roots = t.roots; overlays = t.overlays; greatest_id = t.greatest_id; mark = t.mark; flushes = t.flushes }
+abbrev trees_over : {P M : Type 0} → DbValue P M → TransactionalTrees (Lent P) → TransactionalTrees P
+trees_over d t = record { alloc = t.alloc; pages = record { ref_ptr = t.pages.ref_ptr; now = d.pages }; roots = t.roots; overlays = t.overlays; greatest_id = t.greatest_id; mark = t.mark; flushes = t.flushes }
 
 pub shows_inside : {P M : Type 0} (store : P → Store) (meant : M → Merge) → ShowsInsideLaw store meant
-shows_inside store meant d tree given key value db tested root only s = shows store meant d tree (tree_lent given) key value db tested root only (record { is = s.is })
+shows_inside store meant d tree given key value db tested root same s = shows store meant d tree (tree_over d given) key value db tested root (only_same (store d.pages))
+    (record { is = subst (λ (z : Store). ReadsThrough (now z) given.root given.overlay key value) same s.is })
 
 pub shows_inside_at : {P M : Type 0} (store : P → Store) (meant : M → Merge) → ShowsInsideAtLaw store meant
-shows_inside_at store meant d trees given position tree key value db tested roots only there s = shows_at store meant d trees (trees_lent given) position tree key value db tested roots only there
-    (record { root = s.root; overlay = s.overlay; at = record { root_is = s.at.root_is; overlay_is = s.at.overlay_is }; is = s.is })
+shows_inside_at store meant d trees given position tree key value db tested roots same there s = shows_at store meant d trees (trees_over d given) position tree key value db tested roots (only_same (store d.pages)) there
+    (record { root = s.root; overlay = s.overlay; at = record { root_is = s.at.root_is; overlay_is = s.at.overlay_is }; is = subst (λ (z : Store). ReadsThrough (now z) s.root s.overlay key value) same s.is })

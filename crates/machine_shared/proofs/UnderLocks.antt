@@ -1,12 +1,16 @@
 -- What is done under the lock, told by its parts.
-use Rattle.std.proofs.Common.{◌≡◌, ◌∙◌, inl, inr, ℕ, Bool, true, false, List, [], ◌∷◌, ◌++◌, append-nil, length, Option, Result, Ok, Err, IfOk, IfErr, OnErr, refl, sym, ap, subst}
+use Rattle.std.proofs.Common.{◌≡◌, ◌∙◌, ◌⊎◌, inl, inr, ℕ, Bool, true, false, List, [], ◌∷◌, ◌++◌, append-nil, length, Option, Result, Ok, Err, IfOk, IfErr, OnErr, refl, sym, ap, subst}
 use Rattle.sled_nodes.specs.declared.error.Error.{Error}
-use Rattle.sled_nodes.specs.declared.error.Error.TheVariants.{NoMemory}
+use Rattle.sled_nodes.specs.declared.error.Error.TheVariants.{Closed, NoMemory}
+use Rattle.sled_batch.specs.Batch.{Writes}
 use Rattle.sled_model.specs.Collections.{Content}
 use Rattle.sled_nodes.specs.Order.{Key}
 use Rattle.sled_store.specs.Store.{Store}
 use Rattle.sled_model.specs.Maps.{Merge}
 use Rattle.sled_model.specs.declared.call.Call.{Call}
+use Rattle.sled_model.specs.declared.call.Whole.{Whole}
+use Rattle.sled_model.specs.declared.call.Whole.TheVariants.{Group}
+use Rattle.sled_model.specs.declared.reply.Reply.{Reply}
 use Rattle.sled_model.specs.declared.outcome.Outcome.TheVariants as outcome
 use Rattle.sled_model.specs.declared.outcome.Step.TheVariants as step
 use Rattle.sled_model.specs.declared.tree.Tree.{Tree}
@@ -22,11 +26,18 @@ use Rattle.machine_shared.specs.Notes.{entries_of}
 use Rattle.machine_shared.specs.Fetches.{FetchesOnce, StaysStill, SwapsNow, swap_made}
 use Rattle.machine_shared.specs.declared.called.Stepped.{Stepped}
 use Rattle.machine_shared.specs.declared.called.Stepped.TheVariants.{Ended, On}
+use Rattle.machine_shared.specs.Replies.{ended_as, ended_with}
+use Rattle.machine_shared.specs.declared.call_error.CallError.{CallError}
+use Rattle.machine_shared.specs.declared.call_error.CallError.TheVariants.{Refused, NoSuchSlot}
+use Rattle.machine_shared.specs.declared.read.Answer.{Answer}
+use Rattle.machine_shared.specs.declared.read.Question.{Question}
 use Rattle.machine_shared.specs.declared.read.Read.{Read}
-use Rattle.machine_shared.specs.theory.Copied.{EndsStepped, TakesOn}
+use Rattle.machine_shared.specs.declared.read.Read.TheVariants as read
+use Rattle.machine_shared.specs.theory.Copied.{BeganStepped, EndsStepped, StaysIn, TakesOn}
+use Rattle.machine_shared.specs.theory.Replying.{IsGroupOf}
 use Rattle.machine_shared.specs.Scans.{ScansValue, NotesScan, AreNoted, AreNotKept, AreInOrder, begun_of, noted_at}
 use Rattle.machine_shared.specs.Sound.{IsState}
-use Rattle.machine_shared.specs.UnderLock.{IsHeld, AbandonsSlot, BeginsUnderLock, EndsUnderLock, Looks, ReadsUnderLock, read_made}
+use Rattle.machine_shared.specs.UnderLock.{IsHeld, AbandonsSlot, BeginsCall, BeginsUnderLock, EndsUnderLock, GroupsUnderLock, Looks, ReadsUnderLock, UnderLock, WholesUnderLock, read_made}
 use Rattle.machine_shared.specs.UnderWay.{MachineScans}
 use Rattle.machine_shared.specs.Values.{CallerValue, StateValue}
 use Rattle.machine_shared.proofs.ScanStates.{has_scans}
@@ -117,8 +128,8 @@ refused_as store meant read_of other e me more reads = elim reads [
 ]
 
 -- a read that there was no memory for
-pub unread : {P M A : Type 0} (store : P → Store) (meant : M → Merge) (read_of : A → Read) (e : Error) (me : CallerValue) → e ≡ NoMemory → ReadsUnderLock store meant read_of (Err e) me me
-unread store meant read_of e me is = inl (record { cause = NoMemory; unmade = tt; refused = ap (λ c. Err c) is; same = refl })
+pub unread : {P M A : Type 0} (store : P → Store) (meant : M → Merge) (read_of : A → Read) (r : Result A Error) (e cause : Error) (me : CallerValue) → r ≡ Err e → e ≡ cause → cause ≡ NoMemory → ReadsUnderLock store meant read_of r me me
+unread store meant read_of r e cause me is same lacks = inl (record { cause = NoMemory; unmade = tt; refused = is ∙ ap (λ c. Err c) (same ∙ lacks); same = refl })
 
 -- a fetch, by how it came out
 pub fetched : {P M : Type 0} (store : P → Store) (meant : M → Merge) (machine after : MachineValue P M) (opening : List Content) (scans : ScansValue) (history longer : List EntryValue) (number : ℕ) (list more : List MadeValue)
@@ -135,3 +146,56 @@ fetched {P} {M} store meant machine after opening scans history longer number li
         → FetchesOnce store meant tree key r (record { number = number; made = list }) (record { number = number; made = more }) (record { machine = machine; opening = opening; history = history; scans = scans }) (record { machine = after; opening = opening; history = longer; scans = scans })
     go (Ok both) swaps stays ok err = record { changes = swaps; same = same; adds = record { history = grows ∙ ap (λ n. history ++ entries_of number n) ok; list = ap (λ l. record { number = number; made = l }) (grows_there ∙ ap (λ n. list ++ n) ok); opening = refl }; scans = refl }
     go (Err e) swaps stays ok err = record { changes = stays; same = same; adds = record { history = grows ∙ ap (λ n. history ++ entries_of number n) err; list = ap (λ l. record { number = number; made = l }) (grows_there ∙ ap (λ n. list ++ n) err); opening = refl }; scans = refl }
+
+-- ---- whole calls, by what their short forms return
+
+module _ {P M : Type 0} (store : P → Store) (number : P → ℕ) (meant : M → Merge) (whole : Whole) (me more : CallerValue) where
+  -- a call whose reply is told as a value of its kind
+  pub whole_told : {B : Type 0} (asked : Whole) (tell : B → Reply) (reply : Reply) (b : B) → asked ≡ whole → reply ≡ tell b → WholesUnderLock store number meant asked (ended_as (Ok reply)) me more → WholesUnderLock store number meant whole (ended_with tell (Ok b)) me more
+  whole_told asked tell reply b same is w =
+      subst (λ a. WholesUnderLock store number meant a (outcome.Decided (tell b)) me more) same
+      (subst (λ r. WholesUnderLock store number meant asked (outcome.Decided r) me more) is w)
+
+  -- .. and one that was refused
+  pub whole_refused : {B : Type 0} (asked : Whole) (tell : B → Reply) (e : CallError) → asked ≡ whole → WholesUnderLock store number meant asked (ended_as (Err e)) me more → WholesUnderLock store number meant whole (ended_with tell (Err e)) me more
+  whole_refused asked tell (Refused cause) same w = subst (λ a. WholesUnderLock store number meant a (outcome.Refused cause) me more) same w
+  whole_refused asked tell NoSuchSlot same w = subst (λ a. WholesUnderLock store number meant a outcome.NoSuchSlot me more) same w
+
+-- there was no memory for what is to be called
+pub lacks_call : {A B : Type 0} (tell : B → Reply) (r : Result B CallError) (e : CallError) (cause : Error) (me : CallerValue) → r ≡ Err e → e ≡ Refused cause → cause ≡ NoMemory → ((ended_with tell r ≡ outcome.Refused NoMemory) × (me ≡ me)) ⊎ A
+lacks_call tell r e cause me is f g = inl (ap (λ x. ended_with tell x) is ∙ ap (λ x. ended_with tell (Err x)) f ∙ ap (λ c. outcome.Refused c) g, refl)
+
+-- a group, by what it has
+module _ {P M : Type 0} (store : P → Store) (number : P → ℕ) (meant : M → Merge) (batches : List (Tree × Writes)) (whole : Whole) (me more : CallerValue) (is : IsGroupOf batches whole) where
+  pub group_told : (tell : Unit {0} → Reply) (reply : Reply) → reply ≡ tell tt → WholesUnderLock store number meant whole (ended_as (Ok reply)) me more → GroupsUnderLock store number meant batches (ended_with tell (Ok tt)) me more
+  group_told tell reply told w = inr (is.group, is.holds, whole_told store number meant (Group is.group) me more whole tell reply tt is.is told w)
+
+  pub group_refused : (tell : Unit {0} → Reply) (e : CallError) → WholesUnderLock store number meant whole (ended_as (Err e)) me more → GroupsUnderLock store number meant batches (ended_with tell (Err e)) me more
+  group_refused tell e w = inr (is.group, is.holds, whole_refused store number meant (Group is.group) me more whole tell e is.is w)
+
+-- ---- reads of a tree, by what their short forms return
+
+module _ {P M B : Type 0} (store : P → Store) (meant : M → Merge) (tree : Tree) (question : Question) (tell : B → Answer) (me more : CallerValue) where
+  pub read_told : (asked : Question) (a : Answer) (b : B) → asked ≡ question → a ≡ tell b → ReadsUnderLock store meant (λ x. read.Tree tree asked x) (Ok a) me more → ReadsUnderLock store meant (λ x. read.Tree tree question (tell x)) (Ok b) me more
+  read_told asked a b same is reads = told_as store meant (λ x. read.Tree tree question x) tell a b me more is (subst (λ q. ReadsUnderLock store meant (λ x. read.Tree tree q x) (Ok a) me more) same reads)
+
+  pub read_refused : (asked : Question) (e : Error) → ReadsUnderLock store meant (λ x. read.Tree tree asked x) (Err e) me more → ReadsUnderLock store meant (λ x. read.Tree tree question (tell x)) (Err e) me more
+  read_refused asked e reads = refused_as store meant (λ x. read.Tree tree asked x) (λ x. read.Tree tree question (tell x)) e me more reads
+
+-- ---- calls on keys that go on
+
+pub began_stays : {P M : Type 0} (store : P → Store) (number : P → ℕ) (meant : M → Merge) (tree : Tree) (call : Call) (slot : ℕ) (r : Stepped) → StaysIn slot r → UnderLock store (BeginsCall store number meant tree call (Ok slot)) → BeganStepped store number meant tree call r
+began_stays store number meant tree call slot (Ended o) same b = tt
+began_stays store number meant tree call slot (On s jobs) same b = subst (λ z. UnderLock store (BeginsCall store number meant tree call (Ok z))) (sym same) b
+
+-- where a step was taken on the call stays in its slot
+pub stays_in : (o : Outcome) (slot : ℕ) (left : Option (Job × Job)) (r : Stepped) → TakesOn o slot left r → StaysIn slot r
+stays_in o slot left (Ended e) t = tt
+stays_in o slot left (On s jobs) t = t.0
+
+-- a begin that took a slot
+pub begun_under : {P M : Type 0} (store : P → Store) (number : P → ℕ) (meant : M → Merge) (tree : Tree) (call : Call) (slot : ℕ) → BeginsUnderLock store number meant tree call (Ok slot) → UnderLock store (BeginsCall store number meant tree call (Ok slot))
+begun_under store number meant tree call slot b = elim b [
+  | inl f ↦ ok_err slot Closed (Ok slot) refl f
+  | inr u ↦ u
+]

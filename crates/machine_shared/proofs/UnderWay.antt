@@ -1,36 +1,28 @@
 -- What is known of scans that are under way, at every step.
-use Rattle.std.proofs.Common.{◌≡◌, ◌≢◌, ◌≤◌, ◌<◌, ◌∙◌, ◌⊎◌, inl, inr, ℕ, nat_eq, Bool, true, false, cond, List, [], ◌∷◌, ◌++◌, append_assoc, append-nil, length, Option, Some, None, option_map, Result, Ok, Err, IfOk, IfErr, OnErr, sym, refl, ap, subst, le_trans, le_of_eq, arith}
-use Rattle.std.specs.Prelude.{slice_get}
-use Rattle.std.proofs.lemmas.Bool.{eqb-true, eq-eqb}
+use Rattle.std.proofs.Common.{◌≡◌, ◌≤◌, ◌∙◌, ◌⊎◌, inl, inr, ℕ, Bool, true, false, cond, List, [], ◌∷◌, ◌++◌, append_assoc, append-nil, Option, Some, None, option_map, sym, refl, ap, subst}
+use Rattle.std.proofs.lemmas.Bool.{eqb-true}
 use Rattle.std.specs.declared.ops.Bound.{Bound}
 use Rattle.sled_nodes.proofs.Basics.{none_some, some_is, true_false}
 use Rattle.sled_nodes.specs.Order.{Key}
 use Rattle.sled_nodes.specs.Ranges.{Range, is_in_range}
 use Rattle.sled_store.specs.In.{In}
-use Rattle.sled_store.specs.Store.{Store}
 use Rattle.sled_store.specs.theory.Facts.{put_here}
-use Rattle.sled_model.specs.Maps.{Map, Maps, Merge}
+use Rattle.sled_model.specs.Maps.{Maps}
 use Rattle.sled_model.specs.Refusal.{IsClosed, IsDropped, ToStep, first_of, foreign_test, is_number, dropped_test, must_refuse_of, operator_test, must_refuse}
-use Rattle.sled_model.specs.State.{State, NamedTree, CallInFlight, maps_of}
+use Rattle.sled_model.specs.State.{State, NamedTree, CallInFlight}
 use Rattle.sled_model.specs.Transition.{Configuration, Transition, transition_as}
-use Rattle.sled_model.specs.declared.call.Call.{Call}
-use Rattle.sled_model.specs.declared.call.Call.TheVariants.{Scan}
 use Rattle.sled_model.specs.declared.tree.Tree.{Tree}
 use Rattle.sled_model.specs.declared.reply.Reply.{Reply}
-use Rattle.sled_model.specs.declared.reply.Reply.TheVariants as told
 use Rattle.sled_model.specs.declared.outcome.Step.{Step}
 use Rattle.sled_model.specs.declared.outcome.Step.TheVariants as step
 use Rattle.sled_model.specs.declared.outcome.Outcome.{Outcome}
 use Rattle.sled_model.specs.declared.outcome.Outcome.TheVariants as outcome
 use Rattle.sled_model.proofs.Tests.{first_none, passed}
-use Rattle.scan_laws.specs.Scanned.{Ascend, ChangesBeside, HasPair, HasKey, InOrder, IsScanned, RunsBeside, NoSteps, OneMore, OneBeside, AtSomeMoment, AtOwnSteps, given_by, is_own, yielded}
+use Rattle.scan_laws.specs.Scanned.{Ascend, ChangesBeside, HasPair, HasKey, IsScanned, RunsBeside, NoSteps, OneMore, OneBeside, AtSomeMoment, AtOwnSteps, given_by, is_own, yielded}
 use Rattle.scan_laws.proofs.Scanning.{scan_law}
 use Rattle.scan_laws.proofs.Staying.{leaves}
 use Rattle.machine_shared.specs.Moments.{AtOneMoment, AtEachMoment}
-use Rattle.machine_shared.specs.Scanned.{pair_of, gave_in, IsPairOf, IsKeyOf, GaveAllOf, AreScanned}
-use Rattle.machine_shared.specs.Scans.{noted_at, scanned_of}
-use Rattle.machine_shared.specs.declared.scans.Scanned.{Scanned}
-use Rattle.machine_shared.specs.declared.scans.Scanned.TheVariants as did
+use Rattle.machine_shared.specs.Scanned.{gave_in, IsPairOf, IsKeyOf}
 use Rattle.machine_shared.specs.declared.scans.ScanNote.{ScanNote}
 use Rattle.machine_shared.specs.UnderWay.{Throughout, IsNumbered, IsOfMoment, IsUnderWay}
 use Rattle.machine_shared.proofs.Moments.{GoesOn, still_at}

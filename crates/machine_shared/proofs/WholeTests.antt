@@ -119,7 +119,7 @@ pub all_pass : (s : State) (bs : List (Tree × Writes)) → s.is_open ≡ true �
 all_pass s bs opens h = none_first (if s.is_open then None else Some IsClosed) (first_of (foreign_test s.name (trees_of_batches bs)) (dropped_test s (trees_of_batches bs))) (ap (λ t. if t then None else Some IsClosed) opens)
     (none_first (foreign_test s.name (trees_of_batches bs)) (dropped_test s (trees_of_batches bs)) (none_foreign s bs h) (none_dropped s bs h))
 
-alone : (s : State) (t : Tree) → s.is_open ≡ true → bytes_eq t.database s.name ≡ true → is_number t.number (s.trees t.name) ≡ true → PassesAlone s t
+pub alone : (s : State) (t : Tree) → s.is_open ≡ true → bytes_eq t.database s.name ≡ true → is_number t.number (s.trees t.name) ≡ true → PassesAlone s t
 alone s t o d n = none_first (if s.is_open then None else Some IsClosed) (first_of (foreign_test s.name (t ∷ [])) (dropped_test s (t ∷ []))) (ap (λ t. if t then None else Some IsClosed) o)
     (none_first (foreign_test s.name (t ∷ [])) (dropped_test s (t ∷ [])) (ap (λ b. if b then None else Some IsForeign) d) (ap (λ b. if b then None else Some (IsDropped t.name)) n))
 

@@ -20,6 +20,8 @@ pub mod WholeNotes
 pub mod Replies
 pub mod Fetches
 pub mod Transactions
+pub mod Transacted
+pub mod Inside
 pub mod RangePages
 pub mod Gathered
 pub mod Again

@@ -1,13 +1,13 @@
 -- Pages of a range, one after the other.
-use Rattle.std.specs.Prelude.{◌≡◌, ◌⊎◌, ℕ, ◌-◌, nat_lt, nat_eq, Bool, true, false, ◌||◌, List, [], ◌∷◌, ◌++◌, length, slice_get, Option, Some, None, All}
+use Rattle.std.specs.Prelude.{◌≡◌, ◌⊎◌, ℕ, ◌-◌, nat_lt, nat_eq, Bool, true, false, ◌||◌, List, [], ◌∷◌, ◌++◌, length, slice_get, Option, Some, None}
 use Rattle.std.specs.Option.{option_map}
 use Rattle.std.specs.declared.ops.Bound.{Bound}
 use Rattle.std.specs.declared.ops.Bound.TheVariants.{Excluded}
-use Rattle.sled_nodes.specs.Order.{Key, Below}
+use Rattle.sled_nodes.specs.Order.{Key}
 use Rattle.sled_nodes.specs.declared.error.Error.{Error}
 use Rattle.sled_nodes.specs.declared.error.Error.TheVariants.{NoMemory}
 use Rattle.machine_shared.specs.Made.{MadeValue, ReadMade}
-use Rattle.machine_shared.specs.Reads.{IsPart, is_within}
+use Rattle.machine_shared.specs.Reads.{IsPart}
 use Rattle.machine_shared.specs.declared.range_pages.RangePages.{RangePages}
 use Rattle.machine_shared.specs.declared.read.Answer.TheVariants as told
 use Rattle.machine_shared.specs.declared.read.Question.TheVariants as asks

@@ -59,3 +59,13 @@ abbrev pub ended_as : Result Reply CallError → Outcome
 ended_as (Ok reply) = outcome.Decided reply
 ended_as (Err (Refused cause)) = outcome.Refused cause
 ended_as (Err NoSuchSlot) = outcome.NoSuchSlot
+
+-- .. if what it returned is told by such a reply
+abbrev pub ended_with : {A : Type 0} → (A → Reply) → Result A CallError → Outcome
+ended_with tell (Ok answer) = outcome.Decided (tell answer)
+ended_with tell (Err (Refused cause)) = outcome.Refused cause
+ended_with tell (Err NoSuchSlot) = outcome.NoSuchSlot
+
+-- that a call was done
+abbrev pub tell_done : Unit {0} → Reply
+tell_done done = told.Done

@@ -3,6 +3,7 @@ use Rattle.std.specs.Prelude.{◌≡◌, ◌⊎◌, ℕ, Bool, true, false, ◌&
 use Rattle.std.specs.Option.{unwrap_or}
 use Rattle.std.specs.FinMap.Entries.{find}
 use Rattle.sled_nodes.specs.Order.{Key, key_cmp}
+use Rattle.sled_nodes.specs.declared.error.Error.{Error}
 use Rattle.sled_batch.specs.Batch.{Writes}
 use Rattle.sled_store.specs.Store.{Store, now}
 use Rattle.sled_model.specs.Maps.{Maps, Merge}
@@ -11,7 +12,6 @@ use Rattle.sled_model.specs.State.{maps_of}
 use Rattle.sled_model.specs.declared.reply.Reply.TheVariants.{Number}
 use Rattle.sled_model.specs.declared.tree.Tree.{Tree}
 use Rattle.tree_transactions.specs.Attempts.{Answer, Closure}
-use Rattle.tree_transactions.specs.Ids.{OnlyRaises}
 use Rattle.tree_transactions.specs.Positions.{ShowsAt}
 use Rattle.tree_transactions.specs.Transactions.{Transacts, TransactsAll}
 use Rattle.tree_transactions.specs.Trees.{Shows}
@@ -20,24 +20,25 @@ use Rattle.tree_transactions.specs.declared.errors.TransactionError.{Transaction
 use Rattle.tree_transactions.specs.declared.errors.TransactionError.TheVariants.{Abort, Storage}
 use Rattle.tree_transactions.specs.declared.tree.TransactionalTree.{TransactionalTree}
 use Rattle.tree_transactions.specs.declared.trees.TransactionalTrees.{TransactionalTrees}
-use Rattle.lent_pages.specs.Lent.{RunsLent, store_lent}
+use Rattle.lent_pages.specs.Lent.{RunsLent, lent_of, store_lent}
 use Rattle.lent_pages.specs.declared.lent.Lent.{Lent}
+use Rattle.sled.specs.Calls.{MustBeRefused}
 use Rattle.sled.specs.Reads.{ReadsMap}
 use Rattle.sled.specs.Sound.{IsDb}
+use Rattle.sled.specs.Transactions.{RefusesList}
 use Rattle.sled.specs.Values.{DbValue, db_state}
 use Rattle.machine_shared.specs.Made.{MadeValue, WholeMade, TransactionMade}
 use Rattle.machine_shared.specs.Stood.{stood_in}
 use Rattle.machine_shared.specs.Wholes as value
 
 -- How the closure of a transaction ends: in this database no test refuses the tree, and the closure is run at the tree's root, over the
--- pages as they are, up to this end. No id is set aside for it
+-- pages as they are, up to this end. No id is set aside for it, and none is given
 pub record RunsIn {P M F R A E : Type 0} (store : P → Store) (meant : M → Merge) (says : Closure F (TransactionalTree (Lent P)) R) (result_of : R → Answer A E) (f : F) (tree : Tree) (d : DbValue P M) (ended : Result (Commit A Writes) (TransactionError E)) : Type 0 where
   pub sound : IsDb store d
   pub tested : must_refuse_of (db_state store meant d) (tree ∷ []) ≡ None
   pub root : ℕ
   pub root_is : (now (store d.pages)).roots tree.name ≡ Some root
-  pub next : ℕ
-  pub runs : RunsLent (Transacts (store_lent store) says result_of f root) (store d.pages) (store d.pages).mark ended next
+  pub runs : RunsLent (Transacts (store_lent store) says result_of f root) (store d.pages) ended
 
 -- .. none refuses these trees, and it is run at the roots of all
 pub record RunsAllIn {P M F R A E : Type 0} (store : P → Store) (meant : M → Merge) (says : Closure F (TransactionalTrees (Lent P)) R) (result_of : R → Answer A E) (f : F) (trees : List Tree) (d : DbValue P M) (ended : Result (Commit A (List Writes)) (TransactionError E)) : Type 0 where
@@ -45,8 +46,15 @@ pub record RunsAllIn {P M F R A E : Type 0} (store : P → Store) (meant : M →
   pub tested : must_refuse_of (db_state store meant d) trees ≡ None
   pub roots : List ℕ
   pub roots_are : map (λ (t : Tree). (now (store d.pages)).roots t.name) trees ≡ map Some roots
-  pub next : ℕ
-  pub runs : RunsLent (TransactsAll (store_lent store) says result_of f roots) (store d.pages) (store d.pages).mark ended next
+  pub runs : RunsLent (TransactsAll (store_lent store) says result_of f roots) (store d.pages) ended
+
+-- a test of the tree fails, and so says the error
+abbrev pub fails_tests : {P M : Type 0} → (P → Store) → (M → Merge) → Tree → DbValue P M → Error → Type 0
+fails_tests store meant tree d e = MustBeRefused (must_refuse_of (db_state store meant d) (tree ∷ [])) e
+
+-- the first of the tests of these trees that fails, as the error says, or if none fails there is no memory for the list of their roots
+abbrev pub fails_tests_of_list : {P M : Type 0} → (P → Store) → (M → Merge) → List Tree → DbValue P M → Error → Type 0
+fails_tests_of_list store meant trees d e = RefusesList (must_refuse_of (db_state store meant d) trees) e
 
 -- it is so of the database as it was at some moment, which had these maps
 abbrev pub IsOnce : {P M X : Type 0} → (P → Store) → (M → Merge) → (DbValue P M → X → Type 0) → Maps → X → Type 0
@@ -112,12 +120,12 @@ module _ {A E W : Type 0} (reaches : Maps → Result (Commit A W) (TransactionEr
 -- none the value in the map of the tree
 abbrev pub ShowsInsideLaw : {P M : Type 0} → (P → Store) → (M → Merge) → Type 0
 ShowsInsideLaw {P} {M} store meant = (d : DbValue P M) (tree : Tree) (given : TransactionalTree (Lent P)) (key : Key) (value : Option Key) → IsDb store d
-    → must_refuse_of (db_state store meant d) (tree ∷ []) ≡ None → (now (store d.pages)).roots tree.name ≡ Some given.root → OnlyRaises (store d.pages) (store_lent store given.pages.now)
+    → must_refuse_of (db_state store meant d) (tree ∷ []) ≡ None → (now (store d.pages)).roots tree.name ≡ Some given.root → store_lent store given.pages.now ≡ lent_of (store d.pages)
     → Shows (store_lent store) given key value → ReadsMap store meant d tree (λ pairs. value ≡ unwrap_or (find key_cmp key given.overlay) (find key_cmp key pairs))
 
 -- .. and at a list of trees, at the position of the tree
 abbrev pub ShowsInsideAtLaw : {P M : Type 0} → (P → Store) → (M → Merge) → Type 0
 ShowsInsideAtLaw {P} {M} store meant = (d : DbValue P M) (trees : List Tree) (given : TransactionalTrees (Lent P)) (position : ℕ) (tree : Tree) (key : Key) (value : Option Key) → IsDb store d
-    → must_refuse_of (db_state store meant d) trees ≡ None → map (λ (t : Tree). (now (store d.pages)).roots t.name) trees ≡ map Some given.roots.now → OnlyRaises (store d.pages) (store_lent store given.pages.now)
+    → must_refuse_of (db_state store meant d) trees ≡ None → map (λ (t : Tree). (now (store d.pages)).roots t.name) trees ≡ map Some given.roots.now → store_lent store given.pages.now ≡ lent_of (store d.pages)
     → slice_get trees position ≡ Some tree → ShowsAt (store_lent store) given position key value
     → (overlay : Writes) × (slice_get given.overlays position ≡ Some overlay) × ReadsMap store meant d tree (λ pairs. value ≡ unwrap_or (find key_cmp key overlay) (find key_cmp key pairs))

@@ -1,12 +1,15 @@
 -- What callers do under the lock.
-use Rattle.std.specs.Prelude.{◌≡◌, ◌⊎◌, ℕ, List, [], ◌∷◌, ◌++◌, length, Some, Result, Ok, Err}
+use Rattle.std.specs.Prelude.{◌≡◌, ◌≢◌, ◌⊎◌, ℕ, List, [], ◌∷◌, ◌++◌, length, Some, Result, Ok, Err}
 use Rattle.std.specs.Option.{option_map}
+use Rattle.std.specs.Global.{Vec}
 use Rattle.sled_store.specs.Store.{Store}
 use Rattle.sled_nodes.specs.declared.error.Error.{Error}
 use Rattle.sled_nodes.specs.declared.error.Error.TheVariants.{Closed, NoMemory}
+use Rattle.sled_batch.specs.Batch.{Writes}
 use Rattle.sled_model.specs.Maps.{Merge}
 use Rattle.sled_model.specs.declared.call.Call.{Call}
 use Rattle.sled_model.specs.declared.call.Whole.{Whole}
+use Rattle.sled_model.specs.declared.call.Whole.TheVariants.{Group}
 use Rattle.sled_model.specs.declared.outcome.Outcome.{Outcome}
 use Rattle.sled_model.specs.declared.outcome.Outcome.TheVariants.{Begun, Refused, NoSuchSlot}
 use Rattle.sled_model.specs.declared.outcome.Step.TheVariants as step
@@ -108,13 +111,27 @@ module _ {P M : Type 0} (store : P → Store) (flush_number : P → ℕ) (meant 
   abbrev pub WholesUnderLock : Whole → Outcome → CallerValue → CallerValue → Type 0
   WholesUnderLock whole o me more = ((o ≡ Refused Closed) × (more ≡ me)) ⊎ UnderLock store (MakesWhole whole o me more)
 
+  -- a whole call that is made of what a caller gives, for which there may be no memory; then nothing is done
+  abbrev pub CallsUnderLock : Whole → Outcome → CallerValue → CallerValue → Type 0
+  CallsUnderLock whole o me more = ((o ≡ Refused NoMemory) × (more ≡ me)) ⊎ WholesUnderLock whole o me more
+
+  -- .. of a group of these batches
+  abbrev pub GroupsUnderLock : List (Tree × Writes) → Outcome → CallerValue → CallerValue → Type 0
+  GroupsUnderLock batches o me more = ((o ≡ Refused NoMemory) × (more ≡ me)) ⊎ ((group : Vec (Tree × Writes)) × (group.items ≡ batches) × WholesUnderLock (Group group) o me more)
+
+-- the slot has this call no more, and nothing is done
+pub record LacksCall {P M : Type 0} (tree : Tree) (call : Call) (slot : ℕ) (old new : StateValue P M) : Type 0 where
+  pub gone : option_map job_of_call (slots_of old.machine.flights slot) ≢ Some (tree, call)
+  pub same : new ≡ old
+
 -- How a call on a key ends that is made step by step. A step of its slot ends it, under the lock; or it does not begin. Or there was no
--- memory for it, another caller ended its slot, or the database was taken out of its lock: then nothing is noted
+-- memory for it, the slot in which it had begun under the lock had it no more the next time, or the database was taken out of its lock: then
+-- nothing is noted
 pub data EndsUnderLock {P M : Type 0} (store : P → Store) (flush_number : P → ℕ) (meant : M → Merge) (tree : Tree) (call : Call) (o : Outcome) (me more : CallerValue) : Type 0 where
   EndsBySteps : {slot : ℕ} → UnderLock store (EndsCall store flush_number meant tree call slot o me more) → EndsUnderLock store flush_number meant tree call o me more
   IsNotBegun : {e : Error} → BeginsUnderLock store flush_number meant tree call (Err e) → o ≡ Refused e → more ≡ me → EndsUnderLock store flush_number meant tree call o me more
   LacksMemory : o ≡ Refused NoMemory → more ≡ me → EndsUnderLock store flush_number meant tree call o me more
-  LostSlot : o ≡ NoSuchSlot → more ≡ me → EndsUnderLock store flush_number meant tree call o me more
+  LostSlot : {slot : ℕ} → UnderLock store (BeginsCall store flush_number meant tree call (Ok slot)) → UnderLock {P = P} {M = M} store (LacksCall tree call slot) → o ≡ NoSuchSlot → more ≡ me → EndsUnderLock store flush_number meant tree call o me more
   TakenOut : o ≡ Refused Closed → more ≡ me → EndsUnderLock store flush_number meant tree call o me more
 
 -- what is noted of a read, if it is not refused

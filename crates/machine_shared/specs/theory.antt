@@ -4,3 +4,4 @@ pub mod Reading
 pub mod Orders
 pub mod Scanning
 pub mod Copied
+pub mod Replying

@@ -1,15 +1,16 @@
 //! Steps of a call with copies of it: they are made once, before it begins, and a step that does not decide the call makes none.
-ghost use Rattle.std.specs.Prelude.{◌≡◌, ◌++◌, IfNone, IfSome, Some};
+ghost use Rattle.std.specs.Prelude.{◌≡◌, ◌++◌, IfNone, IfSome, Ok, Some};
 ghost use Rattle.std.specs.Option.{option_map};
 ghost use Rattle.sled_model.specs.State.{IsOnKey};
 ghost use Rattle.machine_alone.specs.Values.{slots_of, job_of_call};
-ghost use Rattle.machine_shared.specs.theory.Copied.{AddsStepped, AreCopies, EndsStepped, TakesOn};
+ghost use Rattle.machine_shared.specs.theory.Copied.{AddsStepped, AreCopies, BeganStepped, EndsStepped, StaysIn, TakesOn};
 ghost use Rattle.machine_shared.specs.Notes.{IsEnd, entries_of, noted_of};
 ghost use Rattle.machine_shared.specs.Steps.{SlotStep};
+ghost use Rattle.machine_shared.specs.UnderLock.{BeginsCall, UnderLock};
 ghost use Rattle.machine_shared.specs.theory.Noting.{job_pair};
 
 use crate::caller::Caller;
-use crate::noting::{Jobs, note_and_count, step_noting_jobs};
+use crate::noting::{Jobs, step_noting_jobs};
 use crate::state::State;
 use crate::steps::has_job;
 use sled_model::{Call, MergeOperator, Outcome, Slot, Tree};
@@ -28,14 +29,16 @@ fn taken_on(outcome: Outcome, slot: Slot, left: Option<Jobs>) -> Stepped
     requires { IfNone left (IsEnd outcome) }
     ensures { TakesOn outcome slot left result }
 {
-    match (outcome, left) {
-        (end, None) => Stepped::Ended(end),
-        (end @ (Outcome::Decided(_) | Outcome::Refused(_) | Outcome::NoSuchSlot), Some(jobs)) => {
+    let Some(jobs) = left else {
+        return Stepped::Ended(outcome);
+    };
+    match outcome {
+        end @ (Outcome::Decided(_) | Outcome::Refused(_) | Outcome::NoSuchSlot) => {
             drop(jobs);
             Stepped::Ended(end)
         }
         // a call on a key that is not decided or refused returns `Moved`
-        (other, Some(jobs)) => {
+        other => {
             drop(other);
             Stepped::On(slot, jobs)
         }
@@ -64,22 +67,16 @@ impl<P: Pages, L: Ledger, M: MergeOperator> State<P, L, M> {
             made,
             share,
         } = me;
-        let (outcome, noted, left) = step_noting_jobs(
+        step_noting_jobs(
             &mut self.machine,
-            &mut self.history,
-            made,
-            slot,
-            jobs,
-        );
-        note_and_count(
             &mut self.history,
             &mut self.calls,
             *number,
             made,
             share,
-            noted,
-        );
-        (outcome, left)
+            slot,
+            jobs,
+        )
     }
 
     // The same, and whether the call goes on.
@@ -90,6 +87,7 @@ impl<P: Pages, L: Ledger, M: MergeOperator> State<P, L, M> {
         ensures made { AddsStepped jobs.0.tree jobs.0.call result me.old.made me.new.made }
         ensures number { me.new.number ≡ me.old.number }
         ensures ends { EndsStepped P.store P.flush_number M.meant jobs.0.tree jobs.0.call result me.old me.new }
+        ensures stays { StaysIn slot result }
     {
         self.audit();
         let (outcome, left) = self.step_copied(me, slot, jobs);
@@ -104,6 +102,7 @@ impl<P: Pages, L: Ledger, M: MergeOperator> State<P, L, M> {
         ensures made { AddsStepped tree.now call result me.old.made me.new.made }
         ensures number { me.new.number ≡ me.old.number }
         ensures ends { EndsStepped P.store P.flush_number M.meant tree.now call result me.old me.new }
+        ensures began { BeganStepped P.store P.flush_number M.meant tree.now call result }
     {
         self.audit();
         let begun = self.begin(tree, call);
@@ -133,6 +132,7 @@ pub(crate) fn begin_on<P: Pages, L: Ledger, M: MergeOperator>(
     ensures made { AddsStepped tree.now call result me.old.made me.new.made }
     ensures number { me.new.number ≡ me.old.number }
     ensures ends { EndsStepped P.store P.flush_number M.meant tree.now call result me.old me.new }
+    ensures began { BeganStepped P.store P.flush_number M.meant tree.now call result }
 {
     match held {
         None => {
@@ -153,15 +153,20 @@ pub(crate) fn step_on<P: Pages, L: Ledger, M: MergeOperator>(
 ) -> Stepped
     requires second { jobs.1 ≡ jobs.0 }
     requires key { IsOnKey jobs.0.call }
+    requires began { UnderLock P.store (BeginsCall P.store P.flush_number M.meant jobs.0.tree jobs.0.call (Ok slot)) }
     ensures made { AddsStepped jobs.0.tree jobs.0.call result me.old.made me.new.made }
     ensures number { me.new.number ≡ me.old.number }
     ensures ends { EndsStepped P.store P.flush_number M.meant jobs.0.tree jobs.0.call result me.old me.new }
 {
     match held {
-        Some(state) if has_job(&state.machine, slot, &jobs.0) => state.step_on(me, slot, jobs),
-        Some(_) => {
-            drop(jobs);
-            Stepped::Ended(Outcome::NoSuchSlot)
+        Some(state) => {
+            state.audit();
+            if has_job(state.machine(), slot, jobs.first()) {
+                state.step_on(me, slot, jobs)
+            } else {
+                drop(jobs);
+                Stepped::Ended(Outcome::NoSuchSlot)
+            }
         }
         None => {
             drop(jobs);

@@ -1,14 +1,18 @@
 //! Groups that transactions wrote, each noted with what was before at the keys of its writes; over the parts of a state.
-ghost use Rattle.std.specs.Prelude.{◌≡◌, ◌<◌, ◌++◌, ◌∷◌, [], map, IfOk, OnOk, OnErr, IfSome, vec_len, vec_capacity};
+ghost use Rattle.std.specs.Prelude.{◌≡◌, ◌⊎◌, ◌<◌, ◌++◌, ◌∷◌, [], map, IfErr, IfOk, OnOk, OnErr, IfSome, vec_len, vec_capacity};
 ghost use Rattle.sled_nodes.specs.Order.{Key};
+ghost use Rattle.sled_nodes.specs.declared.error.Error.TheVariants.{NoMemory};
+ghost use Rattle.tree_reads.specs.Walk.{once};
+ghost use Rattle.sled.specs.Reads.{RefusesReading};
 ghost use Rattle.sled_model.specs.Groups.{writes_on};
 ghost use Rattle.sled_model.specs.State.{maps_of};
 ghost use Rattle.sled.specs.Values.{db_state};
 ghost use Rattle.machine_shared.specs.Made.{TransactionMade, made_value};
 ghost use Rattle.machine_shared.specs.Stood.{stands_at, stood_in};
+ghost use Rattle.machine_shared.specs.Transacted.{CannotNote, MakesGroup};
 ghost use Rattle.machine_shared.specs.Transactions.{transaction_made};
 ghost use Rattle.machine_shared.specs.theory.Noting.{first_noted, second_noted};
-ghost use Rattle.machine_shared.specs.theory.Transacting.{GroupMade, GroupRefused, GroupUnmade, is_decided, is_undecided};
+ghost use Rattle.machine_shared.specs.theory.Transacting.{GroupMade, GroupRefused, GroupUnmade, StopsGroup, is_decided, is_refused_as, is_undecided};
 
 use crate::caller::Caller;
 use crate::entry::{Entry, Made};
@@ -30,7 +34,8 @@ fn stood_at<P: Pages, M: MergeOperator>(
     key: &IVec,
     value: &Option<IVec>,
 ) -> Result<Option<IVec>>
-    ensures { IfOk result (λ stood. stood ≡ stands_at (maps_of (db_state P.store M.meant machine.now.db)) (record { tree = tree.now; key = key.now; value = value.now })) }
+    ensures ok { IfOk result (λ stood. stood ≡ stands_at (maps_of (db_state P.store M.meant machine.now.db)) (record { tree = tree.now; key = key.now; value = value.now })) }
+    ensures err { IfErr result (RefusesReading P.store M.meant machine.now.db tree.now once) }
 {
     let _ = value;
     machine.db().get(tree, key.as_ref())
@@ -43,7 +48,8 @@ fn add_stood<P: Pages, M: MergeOperator>(
     batch: &Batch,
     stood: &mut Vec<Option<IVec>>,
 ) -> Result<()>
-    ensures { OnOk result (stood.new.items ≡ stood.old.items ++ map (stands_at (maps_of (db_state P.store M.meant machine.now.db))) (writes_on tree.now batch.now)) }
+    ensures ok { OnOk result (stood.new.items ≡ stood.old.items ++ map (stands_at (maps_of (db_state P.store M.meant machine.now.db))) (writes_on tree.now batch.now)) }
+    ensures err { IfErr result (λ e. (e ≡ NoMemory) ⊎ RefusesReading P.store M.meant machine.now.db tree.now once e) }
 {
     for (key, value) in batch.writes().iter() {
         stood.push(stood_at(machine, tree, key, value)?)?;
@@ -56,7 +62,8 @@ fn stood_in<P: Pages, M: MergeOperator>(
     machine: &Machine<P, M>,
     group: &[(Tree, Batch)],
 ) -> Result<Vec<Option<IVec>>>
-    ensures { IfOk result (λ stood. stood.items ≡ stood_in (maps_of (db_state P.store M.meant machine.now.db)) group.now) }
+    ensures ok { IfOk result (λ stood. stood.items ≡ stood_in (maps_of (db_state P.store M.meant machine.now.db)) group.now) }
+    ensures err { IfErr result (CannotNote P.store M.meant machine.now.db group.now) }
 {
     let mut stood = Vec::new(machine.db().allocator());
     for batch in group {
@@ -70,7 +77,8 @@ fn stood_in<P: Pages, M: MergeOperator>(
 
 // The same values.
 fn copied_values(alloc: Global, values: &[Option<IVec>]) -> Result<Vec<Option<IVec>>>
-    ensures { IfOk result (λ copy. copy.items ≡ values.now) }
+    ensures ok { IfOk result (λ copy. copy.items ≡ values.now) }
+    ensures err { IfErr result (λ e. e ≡ NoMemory) }
 {
     let mut copy = Vec::new(alloc);
     for value in values {
@@ -81,7 +89,8 @@ fn copied_values(alloc: Global, values: &[Option<IVec>]) -> Result<Vec<Option<IV
 
 // The same batch on the same tree.
 fn copied_batch(alloc: Global, batch: &(Tree, Batch)) -> Result<(Tree, Batch)>
-    ensures { IfOk result (λ copy. copy ≡ batch.now) }
+    ensures ok { IfOk result (λ copy. copy ≡ batch.now) }
+    ensures err { IfErr result (λ e. e ≡ NoMemory) }
 {
     let tree = batch.0.clone()?;
     match batch.1.clone(alloc) {
@@ -95,7 +104,8 @@ fn copied_batch(alloc: Global, batch: &(Tree, Batch)) -> Result<(Tree, Batch)>
 
 // The same group.
 fn copied_group(alloc: Global, group: &[(Tree, Batch)]) -> Result<Vec<(Tree, Batch)>>
-    ensures { IfOk result (λ copy. copy.items ≡ group.now) }
+    ensures ok { IfOk result (λ copy. copy.items ≡ group.now) }
+    ensures err { IfErr result (λ e. e ≡ NoMemory) }
 {
     let mut copy = Vec::new(alloc);
     for batch in group {
@@ -106,7 +116,8 @@ fn copied_group(alloc: Global, group: &[(Tree, Batch)]) -> Result<Vec<(Tree, Bat
 
 // A group, with what was at its keys, as it is noted.
 fn made_of(alloc: Global, group: &[(Tree, Batch)], stood: Vec<Option<IVec>>) -> Result<Made>
-    ensures { IfOk result (λ made. made_value made ≡ TransactionMade group.now stood.items) }
+    ensures ok { IfOk result (λ made. made_value made ≡ TransactionMade group.now stood.items) }
+    ensures err { IfErr result (λ e. e ≡ NoMemory) }
 {
     match copied_group(alloc, group) {
         Ok(copy) => Ok(Made::Transaction(copy, stood)),
@@ -121,6 +132,7 @@ fn made_of(alloc: Global, group: &[(Tree, Batch)], stood: Vec<Option<IVec>>) -> 
 fn twice(alloc: Global, group: &[(Tree, Batch)], stood: Vec<Option<IVec>>) -> Result<(Made, Made)>
     ensures first { IfOk result (λ both. made_value both.0 ≡ TransactionMade group.now stood.items) }
     ensures second { IfOk result (λ both. made_value both.1 ≡ TransactionMade group.now stood.items) }
+    ensures err { IfErr result (λ e. e ≡ NoMemory) }
 {
     let again = match copied_values(alloc, stood.as_slice()) {
         Ok(again) => again,
@@ -154,6 +166,7 @@ fn room_and_group<P: Pages, M: MergeOperator>(
 ) -> Result<(Made, Made)>
     ensures first { IfOk result (λ both. made_value both.0 ≡ transaction_made (maps_of (db_state P.store M.meant machine.now.db)) group.now) }
     ensures second { IfOk result (λ both. made_value both.1 ≡ transaction_made (maps_of (db_state P.store M.meant machine.now.db)) group.now) }
+    ensures err { IfErr result (CannotNote P.store M.meant machine.now.db group.now) }
     ensures history { history.new.items ≡ history.old.items }
     ensures made { made.new.items ≡ made.old.items }
     ensures room { IfOk result (λ both. vec_len history.new < vec_capacity history.new) }
@@ -172,6 +185,7 @@ fn room_and_group<P: Pages, M: MergeOperator>(
 pub(crate) fn decided(outcome: Outcome) -> Result<()>
     ensures ok { OnOk result (is_decided outcome) }
     ensures err { OnErr result (is_undecided outcome) }
+    ensures why { IfErr result (is_refused_as outcome) }
 {
     match outcome {
         Outcome::Decided(reply) => {
@@ -194,7 +208,7 @@ fn make_now<P: Pages, M: MergeOperator>(
     group: Vec<(Tree, Batch)>,
 ) -> Result<()>
     ensures ok { OnOk result (GroupMade P.store P.flush_number M.meant machine.old group machine.new) }
-    ensures err { OnErr result (GroupRefused P.store P.flush_number M.meant machine.old group machine.new) }
+    ensures err { IfErr result (GroupRefused P.store P.flush_number M.meant machine.old group machine.new) }
 {
     let outcome = machine.whole(Whole::Group(group));
     decided(outcome)
@@ -210,7 +224,7 @@ fn group_noting<P: Pages, M: MergeOperator>(
 ) -> (Result<()>, Option<(Made, Made)>)
     ensures ok { OnOk result.0 (GroupMade P.store P.flush_number M.meant machine.old group machine.new) }
     ensures noted { OnOk result.0 (first_noted result.1 ≡ transaction_made (maps_of (db_state P.store M.meant machine.old.db)) group.items ∷ []) }
-    ensures err { OnErr result.0 (GroupUnmade P.store P.flush_number M.meant machine.old group machine.new) }
+    ensures err { IfErr result.0 (GroupUnmade P.store P.flush_number M.meant machine.old group machine.new) }
     ensures none { OnErr result.0 (first_noted result.1 ≡ []) }
     ensures again { second_noted result.1 ≡ first_noted result.1 }
     ensures history { history.new.items ≡ history.old.items }
@@ -240,6 +254,8 @@ impl<P: Pages, L: Ledger, M: MergeOperator> State<P, L, M> {
         ensures ok { OnOk result (me.new.made ≡ me.old.made ++ transaction_made (maps_of (db_state P.store M.meant self.old.machine.db)) group.items ∷ []) }
         ensures err { OnErr result (me.new.made ≡ me.old.made) }
         ensures number { me.new.number ≡ me.old.number }
+        ensures makes { OnOk result (MakesGroup P.store P.flush_number M.meant group.items me.old me.new self.old self.new) }
+        ensures stops { IfErr result (λ e. StopsGroup P.store P.flush_number M.meant group.items e me.old me.new self.old self.new) }
     {
         self.machine.audit();
         let Caller {

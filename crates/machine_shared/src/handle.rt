@@ -5,12 +5,12 @@ ghost use Rattle.sled_model.specs.State.{IsOnKey};
 ghost use Rattle.sled_model.specs.declared.call.Call.{Call};
 ghost use Rattle.sled_model.specs.declared.call.Call.TheVariants.{Get, Insert, Remove, CompareAndSwap, Merge};
 ghost use Rattle.sled_nodes.specs.Order.{Key};
-ghost use Rattle.machine_shared.specs.theory.Copied.{AddsStepped, AreCopies, EndsStepped};
+ghost use Rattle.machine_shared.specs.theory.Copied.{AddsStepped, AreCopies, BeganStepped, EndsStepped};
 ghost use Rattle.machine_shared.specs.Fetches.{Fetches, FetchesUnderLock};
 ghost use Rattle.machine_shared.specs.Made.{made_values};
 ghost use Rattle.machine_shared.specs.Notes.{AddsStep, IsEnd, IsGivenUp, noted_of};
 ghost use Rattle.machine_shared.specs.Replies.{RepliesTo};
-ghost use Rattle.machine_shared.specs.UnderLock.{AbandonsUnderLock, BeginsUnderLock, EndsUnderLock, StepsUnderLock, WholesUnderLock};
+ghost use Rattle.machine_shared.specs.UnderLock.{AbandonsUnderLock, BeginsCall, BeginsUnderLock, EndsUnderLock, StepsUnderLock, UnderLock, WholesUnderLock};
 ghost use Rattle.machine_shared.specs.WholeNotes.{AddsWhole};
 
 use crate::called::{Stepped, begin_on, step_on};
@@ -249,6 +249,7 @@ impl<P: Pages, L: Ledger, M: MergeOperator> Handle<P, L, M> {
         ensures made { AddsStepped tree.now call result self.old.made self.new.made }
         ensures number { self.new.number ≡ self.old.number }
         ensures ends { EndsStepped P.store P.flush_number M.meant tree.now call result self.old self.new }
+        ensures began { BeganStepped P.store P.flush_number M.meant tree.now call result }
     {
         let mut guard = self.lock.lock(rt);
         let stepped = begin_on(&mut *guard, &mut self.me, tree, call, jobs);
@@ -260,6 +261,7 @@ impl<P: Pages, L: Ledger, M: MergeOperator> Handle<P, L, M> {
     fn step_on(&mut self, rt: &impl Wait, slot: Slot, jobs: Jobs) -> Stepped
         requires second { jobs.1 ≡ jobs.0 }
         requires key { IsOnKey jobs.0.call }
+        requires began { UnderLock P.store (BeginsCall P.store P.flush_number M.meant jobs.0.tree jobs.0.call (Ok slot)) }
         ensures made { AddsStepped jobs.0.tree jobs.0.call result self.old.made self.new.made }
         ensures number { self.new.number ≡ self.old.number }
         ensures ends { EndsStepped P.store P.flush_number M.meant jobs.0.tree jobs.0.call result self.old self.new }
@@ -274,6 +276,7 @@ impl<P: Pages, L: Ledger, M: MergeOperator> Handle<P, L, M> {
     fn steps(&mut self, rt: &impl Wait, slot: Slot, jobs: Jobs, gate: &impl Gate) -> Outcome
         requires second { jobs.1 ≡ jobs.0 }
         requires key { IsOnKey jobs.0.call }
+        requires began { UnderLock P.store (BeginsCall P.store P.flush_number M.meant jobs.0.tree jobs.0.call (Ok slot)) }
         ensures made { self.new.made ≡ self.old.made ++ noted_of result jobs.0.tree jobs.0.call }
         ensures number { self.new.number ≡ self.old.number }
         ensures ends { IsEnd result }
@@ -292,7 +295,8 @@ impl<P: Pages, L: Ledger, M: MergeOperator> Handle<P, L, M> {
 
     /// Makes a call on a key of a tree, step by step until it is decided or refused. The lock is taken for each step and is free between
     /// two, when the gate is called. A call that is decided is added to this caller's list, with its reply. It must be no scan:
-    /// `Call::is_on_key` says so. If another caller ended the slot it returns `NoSuchSlot`, and nothing is added to the list.
+    /// `Call::is_on_key` says so. If another caller ended the slot it returns `NoSuchSlot`, and nothing is added to the list: the call had
+    /// begun in this slot, and the next time that the lock was taken the slot had it no more.
     ///
     /// ```
     /// let outcome = handle.call(rt, &tree, Call::insert(alloc, b"ulm", b"21")?, &NoGate);
@@ -304,7 +308,7 @@ impl<P: Pages, L: Ledger, M: MergeOperator> Handle<P, L, M> {
         ensures ends { IsEnd result }
         ensures under_lock { EndsUnderLock P.store P.flush_number M.meant tree.now call result self.old self.new }
     {
-        let jobs = match copies_of(tree, &call) {
+        let jobs = match copies_of(*self.me.made.allocator(), tree, &call) {
             Ok(jobs) => jobs,
             Err(e) => {
                 drop(e);

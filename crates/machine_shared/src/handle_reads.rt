@@ -1,7 +1,8 @@
 //! Reads by a handle, each under one lock. They take no slot, and no map changes. If another caller writes beside them each returns what
 //! there is at its own place in the history.
-ghost use Rattle.std.specs.Prelude.{◌≡◌, ◌++◌, ◌∷◌, [], IfOk, OnErr};
+ghost use Rattle.std.specs.Prelude.{◌≡◌, ◌++◌, ◌∷◌, [], IfErr, IfOk, OnErr};
 ghost use Rattle.sled_nodes.specs.Among.{bound_of};
+ghost use Rattle.sled_nodes.specs.declared.error.Error.TheVariants.{NoMemory};
 ghost use Rattle.machine_shared.specs.Made.{ReadMade};
 ghost use Rattle.machine_shared.specs.Reads.{IsAnswerTo, IsCount, IsFlag, IsPair, IsPart, IsValue};
 ghost use Rattle.machine_shared.specs.declared.read.Answer.TheVariants as told;
@@ -85,7 +86,8 @@ fn page_between(
     back: bool,
     most: usize,
 ) -> Result<Question>
-    ensures { IfOk result (λ question. question ≡ asks.Page (bound_of lo.entry) (bound_of hi.entry) back most) }
+    ensures ok { IfOk result (λ question. question ≡ asks.Page (bound_of lo.entry) (bound_of hi.entry) back most) }
+    ensures err { IfErr result (λ e. e ≡ NoMemory) }
 {
     let lo = own_bound(alloc, lo)?;
     match own_bound(alloc, hi) {
@@ -132,6 +134,7 @@ impl<P: Pages, L: Ledger, M: MergeOperator> Handle<P, L, M> {
         ensures ok { IfOk result (λ it. self.new.made ≡ self.old.made ++ ReadMade (read.Tree tree.now (asks.Get key.now) (told.Value it)) ∷ []) }
         ensures err { OnErr result (self.new.made ≡ self.old.made) }
         ensures number { self.new.number ≡ self.old.number }
+        ensures looks { ReadsUnderLock P.store M.meant (λ it. read.Tree tree.now (asks.Get key.now) (told.Value it)) result self.old self.new }
     {
         let question = Question::Get(IVec::from_slice(alloc, key)?);
         match self.read(rt, tree, question) {
@@ -155,6 +158,7 @@ impl<P: Pages, L: Ledger, M: MergeOperator> Handle<P, L, M> {
         ensures ok { IfOk result (λ it. self.new.made ≡ self.old.made ++ ReadMade (read.Tree tree.now (asks.ContainsKey key.now) (told.Flag it)) ∷ []) }
         ensures err { OnErr result (self.new.made ≡ self.old.made) }
         ensures number { self.new.number ≡ self.old.number }
+        ensures looks { ReadsUnderLock P.store M.meant (λ it. read.Tree tree.now (asks.ContainsKey key.now) (told.Flag it)) result self.old self.new }
     {
         let question = Question::ContainsKey(IVec::from_slice(alloc, key)?);
         match self.read(rt, tree, question) {
@@ -172,6 +176,7 @@ impl<P: Pages, L: Ledger, M: MergeOperator> Handle<P, L, M> {
         ensures ok { IfOk result (λ it. self.new.made ≡ self.old.made ++ ReadMade (read.Tree tree.now (asks.First) (told.Pair it)) ∷ []) }
         ensures err { OnErr result (self.new.made ≡ self.old.made) }
         ensures number { self.new.number ≡ self.old.number }
+        ensures looks { ReadsUnderLock P.store M.meant (λ it. read.Tree tree.now asks.First (told.Pair it)) result self.old self.new }
     {
         let question = Question::First;
         match self.read(rt, tree, question) {
@@ -189,6 +194,7 @@ impl<P: Pages, L: Ledger, M: MergeOperator> Handle<P, L, M> {
         ensures ok { IfOk result (λ it. self.new.made ≡ self.old.made ++ ReadMade (read.Tree tree.now (asks.Last) (told.Pair it)) ∷ []) }
         ensures err { OnErr result (self.new.made ≡ self.old.made) }
         ensures number { self.new.number ≡ self.old.number }
+        ensures looks { ReadsUnderLock P.store M.meant (λ it. read.Tree tree.now asks.Last (told.Pair it)) result self.old self.new }
     {
         let question = Question::Last;
         match self.read(rt, tree, question) {
@@ -212,6 +218,7 @@ impl<P: Pages, L: Ledger, M: MergeOperator> Handle<P, L, M> {
         ensures ok { IfOk result (λ it. self.new.made ≡ self.old.made ++ ReadMade (read.Tree tree.now (asks.GetLt key.now) (told.Pair it)) ∷ []) }
         ensures err { OnErr result (self.new.made ≡ self.old.made) }
         ensures number { self.new.number ≡ self.old.number }
+        ensures looks { ReadsUnderLock P.store M.meant (λ it. read.Tree tree.now (asks.GetLt key.now) (told.Pair it)) result self.old self.new }
     {
         let question = Question::GetLt(IVec::from_slice(alloc, key)?);
         match self.read(rt, tree, question) {
@@ -235,6 +242,7 @@ impl<P: Pages, L: Ledger, M: MergeOperator> Handle<P, L, M> {
         ensures ok { IfOk result (λ it. self.new.made ≡ self.old.made ++ ReadMade (read.Tree tree.now (asks.GetGt key.now) (told.Pair it)) ∷ []) }
         ensures err { OnErr result (self.new.made ≡ self.old.made) }
         ensures number { self.new.number ≡ self.old.number }
+        ensures looks { ReadsUnderLock P.store M.meant (λ it. read.Tree tree.now (asks.GetGt key.now) (told.Pair it)) result self.old self.new }
     {
         let question = Question::GetGt(IVec::from_slice(alloc, key)?);
         match self.read(rt, tree, question) {
@@ -252,6 +260,7 @@ impl<P: Pages, L: Ledger, M: MergeOperator> Handle<P, L, M> {
         ensures ok { IfOk result (λ it. self.new.made ≡ self.old.made ++ ReadMade (read.Tree tree.now (asks.Len) (told.Count it)) ∷ []) }
         ensures err { OnErr result (self.new.made ≡ self.old.made) }
         ensures number { self.new.number ≡ self.old.number }
+        ensures looks { ReadsUnderLock P.store M.meant (λ it. read.Tree tree.now asks.Len (told.Count it)) result self.old self.new }
     {
         let question = Question::Len;
         match self.read(rt, tree, question) {
@@ -269,6 +278,7 @@ impl<P: Pages, L: Ledger, M: MergeOperator> Handle<P, L, M> {
         ensures ok { IfOk result (λ it. self.new.made ≡ self.old.made ++ ReadMade (read.Tree tree.now (asks.IsEmpty) (told.Flag it)) ∷ []) }
         ensures err { OnErr result (self.new.made ≡ self.old.made) }
         ensures number { self.new.number ≡ self.old.number }
+        ensures looks { ReadsUnderLock P.store M.meant (λ it. read.Tree tree.now asks.IsEmpty (told.Flag it)) result self.old self.new }
     {
         let question = Question::IsEmpty;
         match self.read(rt, tree, question) {
@@ -298,6 +308,7 @@ impl<P: Pages, L: Ledger, M: MergeOperator> Handle<P, L, M> {
         ensures ok { IfOk result (λ it. self.new.made ≡ self.old.made ++ ReadMade (read.Tree tree.now (asks.Page (bound_of lo.entry) (bound_of hi.entry) back most) (told.Pairs it)) ∷ []) }
         ensures err { OnErr result (self.new.made ≡ self.old.made) }
         ensures number { self.new.number ≡ self.old.number }
+        ensures looks { ReadsUnderLock P.store M.meant (λ it. read.Tree tree.now (asks.Page (bound_of lo.entry) (bound_of hi.entry) back most) (told.Pairs it)) result self.old self.new }
     {
         let question = page_between(alloc, lo, hi, back, most)?;
         match self.read(rt, tree, question) {

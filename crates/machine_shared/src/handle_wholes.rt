@@ -7,11 +7,14 @@ ghost use Rattle.sled_model.specs.declared.call.Whole.TheVariants as wholes;
 ghost use Rattle.sled_model.specs.declared.outcome.Outcome.TheVariants as outcome;
 ghost use Rattle.sled_model.specs.declared.reply.Reply.TheVariants as told;
 ghost use Rattle.sled_nodes.specs.Order.{Key};
+ghost use Rattle.sled_nodes.specs.declared.error.Error.TheVariants.{NoMemory};
 ghost use Rattle.machine_shared.specs.Made.{WholeMade, whole_value};
-ghost use Rattle.machine_shared.specs.Replies.{AddsParts, IsRefused, IsReplyTo, TellsFlag, TellsNext, TellsPair};
+ghost use Rattle.machine_shared.specs.Replies.{AddsParts, IsRefused, IsReplyTo, TellsFlag, TellsNext, TellsPair, ended_as, ended_with, tell_done};
+ghost use Rattle.machine_shared.specs.UnderLock.{CallsUnderLock, GroupsUnderLock, WholesUnderLock};
 ghost use Rattle.machine_shared.specs.WholeNotes.{noted_whole};
 ghost use Rattle.machine_shared.specs.WholeMade.{TellsNumber, TellsSubscriber, TellsTree};
 ghost use Rattle.machine_shared.specs.Wholes as value;
+ghost use Rattle.machine_shared.specs.theory.Replying.{IsGroupOf};
 
 use crate::call_error::{CallResult, reply_of};
 use crate::handle::Handle;
@@ -91,7 +94,8 @@ fn next_of(reply: Reply) -> Option<Next>
 
 // The call that watches a prefix in a tree.
 fn watch_of(alloc: Global, tree: &Tree, prefix: &[u8]) -> Result<Whole>
-    ensures { IfOk result (λ whole. whole ≡ wholes.Watch tree.now prefix.now) }
+    ensures ok { IfOk result (λ whole. whole ≡ wholes.Watch tree.now prefix.now) }
+    ensures err { IfErr result (λ e. e ≡ NoMemory) }
 {
     let tree = tree.clone()?;
     match IVec::from_slice(alloc, prefix) {
@@ -105,7 +109,9 @@ fn watch_of(alloc: Global, tree: &Tree, prefix: &[u8]) -> Result<Whole>
 
 // A group of one batch.
 fn group_of(alloc: Global, tree: &Tree, batch: Batch) -> Result<Whole>
-    ensures { IfOk result (λ whole. whole_value whole ≡ value.Group ((tree.now, batch) ∷ [])) }
+    ensures ok { IfOk result (λ whole. whole_value whole ≡ value.Group ((tree.now, batch) ∷ [])) }
+    ensures group { IfOk result (IsGroupOf ((tree.now, batch) ∷ [])) }
+    ensures err { IfErr result (λ e. e ≡ NoMemory) }
 {
     let tree = match tree.clone() {
         Ok(tree) => tree,
@@ -128,6 +134,7 @@ impl<P: Pages, L: Ledger, M: MergeOperator> Handle<P, L, M> {
         ensures parts { OnErr result (AddsParts (whole_value whole) self.old.made self.new.made) }
         ensures none { OnErr result (kind_of whole ≢ InParts → self.new.made ≡ self.old.made) }
         ensures number { self.new.number ≡ self.old.number }
+        ensures under_lock { WholesUnderLock P.store P.flush_number M.meant whole (ended_as result) self.old self.new }
     {
         reply_of(self.whole(rt, whole))
     }
@@ -142,6 +149,7 @@ impl<P: Pages, L: Ledger, M: MergeOperator> Handle<P, L, M> {
         ensures err { IfErr result IsRefused }
         ensures same { OnErr result (self.new.made ≡ self.old.made) }
         ensures number { self.new.number ≡ self.old.number }
+        ensures under_lock { WholesUnderLock P.store P.flush_number M.meant wholes.Flush (ended_with told.Number result) self.old self.new }
     {
         let whole = Whole::Flush;
         match self.reply_to(rt, whole) {
@@ -160,6 +168,7 @@ impl<P: Pages, L: Ledger, M: MergeOperator> Handle<P, L, M> {
         ensures err { IfErr result IsRefused }
         ensures same { OnErr result (self.new.made ≡ self.old.made) }
         ensures number { self.new.number ≡ self.old.number }
+        ensures under_lock { CallsUnderLock P.store P.flush_number M.meant (wholes.PopMin tree.now) (ended_with told.Pair result) self.old self.new }
     {
         let whole = Whole::PopMin(tree.clone()?);
         match self.reply_to(rt, whole) {
@@ -178,6 +187,7 @@ impl<P: Pages, L: Ledger, M: MergeOperator> Handle<P, L, M> {
         ensures err { IfErr result IsRefused }
         ensures same { OnErr result (self.new.made ≡ self.old.made) }
         ensures number { self.new.number ≡ self.old.number }
+        ensures under_lock { CallsUnderLock P.store P.flush_number M.meant (wholes.PopMax tree.now) (ended_with told.Pair result) self.old self.new }
     {
         let whole = Whole::PopMax(tree.clone()?);
         match self.reply_to(rt, whole) {
@@ -196,6 +206,7 @@ impl<P: Pages, L: Ledger, M: MergeOperator> Handle<P, L, M> {
         ensures err { IfErr result IsRefused }
         ensures parts { OnErr result (AddsParts (value.Clear tree.now) self.old.made self.new.made) }
         ensures number { self.new.number ≡ self.old.number }
+        ensures under_lock { CallsUnderLock P.store P.flush_number M.meant (wholes.Clear tree.now) (ended_with tell_done result) self.old self.new }
     {
         let whole = Whole::Clear(tree.clone()?);
         match self.reply_to(rt, whole) {
@@ -223,6 +234,7 @@ impl<P: Pages, L: Ledger, M: MergeOperator> Handle<P, L, M> {
         ensures err { IfErr result IsRefused }
         ensures same { OnErr result (self.new.made ≡ self.old.made) }
         ensures number { self.new.number ≡ self.old.number }
+        ensures under_lock { GroupsUnderLock P.store P.flush_number M.meant ((tree.now, batch) ∷ []) (ended_with tell_done result) self.old self.new }
     {
         let whole = group_of(alloc, tree, batch)?;
         match self.reply_to(rt, whole) {
@@ -247,6 +259,7 @@ impl<P: Pages, L: Ledger, M: MergeOperator> Handle<P, L, M> {
         ensures err { IfErr result IsRefused }
         ensures same { OnErr result (self.new.made ≡ self.old.made) }
         ensures number { self.new.number ≡ self.old.number }
+        ensures under_lock { WholesUnderLock P.store P.flush_number M.meant (wholes.Group batches) (ended_with tell_done result) self.old self.new }
     {
         let whole = Whole::Group(batches);
         match self.reply_to(rt, whole) {
@@ -269,6 +282,7 @@ impl<P: Pages, L: Ledger, M: MergeOperator> Handle<P, L, M> {
         ensures err { IfErr result IsRefused }
         ensures same { OnErr result (self.new.made ≡ self.old.made) }
         ensures number { self.new.number ≡ self.old.number }
+        ensures under_lock { CallsUnderLock P.store P.flush_number M.meant (wholes.OpenTree name.now) (ended_with told.Tree result) self.old self.new }
     {
         let whole = Whole::OpenTree(IVec::from_slice(alloc, name)?);
         match self.reply_to(rt, whole) {
@@ -287,6 +301,7 @@ impl<P: Pages, L: Ledger, M: MergeOperator> Handle<P, L, M> {
         ensures err { IfErr result IsRefused }
         ensures same { OnErr result (self.new.made ≡ self.old.made) }
         ensures number { self.new.number ≡ self.old.number }
+        ensures under_lock { CallsUnderLock P.store P.flush_number M.meant (wholes.DropTree name.now) (ended_with told.Flag result) self.old self.new }
     {
         let whole = Whole::DropTree(IVec::from_slice(alloc, name)?);
         match self.reply_to(rt, whole) {
@@ -305,6 +320,7 @@ impl<P: Pages, L: Ledger, M: MergeOperator> Handle<P, L, M> {
         ensures err { IfErr result IsRefused }
         ensures same { OnErr result (self.new.made ≡ self.old.made) }
         ensures number { self.new.number ≡ self.old.number }
+        ensures under_lock { WholesUnderLock P.store P.flush_number M.meant wholes.GenerateId (ended_with told.Number result) self.old self.new }
     {
         let whole = Whole::GenerateId;
         match self.reply_to(rt, whole) {
@@ -324,6 +340,7 @@ impl<P: Pages, L: Ledger, M: MergeOperator> Handle<P, L, M> {
         ensures err { IfErr result IsRefused }
         ensures parts { OnErr result (AddsParts (value.Import (contents_of collections.items)) self.old.made self.new.made) }
         ensures number { self.new.number ≡ self.old.number }
+        ensures under_lock { WholesUnderLock P.store P.flush_number M.meant (wholes.Import collections) (ended_with tell_done result) self.old self.new }
     {
         let whole = Whole::Import(collections);
         match self.reply_to(rt, whole) {
@@ -351,6 +368,7 @@ impl<P: Pages, L: Ledger, M: MergeOperator> Handle<P, L, M> {
         ensures err { IfErr result IsRefused }
         ensures same { OnErr result (self.new.made ≡ self.old.made) }
         ensures number { self.new.number ≡ self.old.number }
+        ensures under_lock { CallsUnderLock P.store P.flush_number M.meant (wholes.Watch tree.now prefix.now) (ended_with told.Subscriber result) self.old self.new }
     {
         let whole = watch_of(alloc, tree, prefix)?;
         match self.reply_to(rt, whole) {
@@ -370,6 +388,7 @@ impl<P: Pages, L: Ledger, M: MergeOperator> Handle<P, L, M> {
         ensures err { IfErr result IsRefused }
         ensures same { OnErr result (self.new.made ≡ self.old.made) }
         ensures number { self.new.number ≡ self.old.number }
+        ensures under_lock { WholesUnderLock P.store P.flush_number M.meant (wholes.Next subscriber.now) (ended_with told.Next result) self.old self.new }
     {
         let whole = Whole::Next(Subscriber(subscriber.0));
         match self.reply_to(rt, whole) {
@@ -388,6 +407,7 @@ impl<P: Pages, L: Ledger, M: MergeOperator> Handle<P, L, M> {
         ensures err { IfErr result IsRefused }
         ensures same { OnErr result (self.new.made ≡ self.old.made) }
         ensures number { self.new.number ≡ self.old.number }
+        ensures under_lock { WholesUnderLock P.store P.flush_number M.meant (wholes.Unsubscribe subscriber.now) (ended_with tell_done result) self.old self.new }
     {
         let whole = Whole::Unsubscribe(Subscriber(subscriber.0));
         match self.reply_to(rt, whole) {

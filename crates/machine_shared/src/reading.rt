@@ -1,10 +1,12 @@
 //! Reads that are noted, over the parts of a state.
-ghost use Rattle.std.specs.Prelude.{◌≡◌, ◌<◌, ◌∷◌, [], IfOk, OnErr, IfSome, vec_len, vec_capacity};
-ghost use Rattle.machine_shared.specs.Made.{ReadMade, made_value};
+ghost use Rattle.std.specs.Prelude.{◌≡◌, ◌<◌, ◌+◌, ◌++◌, ◌∷◌, [], IfOk, OnErr, IfSome, length, vec_len, vec_capacity};
+ghost use Rattle.machine_shared.specs.Made.{ReadMade, entry_values, made_value, made_values};
+ghost use Rattle.machine_shared.specs.Notes.{entries_of};
 ghost use Rattle.machine_shared.specs.Reads.{IsAnswerTo};
 ghost use Rattle.machine_shared.specs.declared.read.Read.TheVariants as read;
 ghost use Rattle.machine_shared.specs.theory.Noting.{first_noted, second_noted};
 ghost use Rattle.machine_shared.specs.theory.Reading.{NotesRead, ReadsNow};
+ghost use Rattle.machine_shared.specs.UnderLock.{read_made};
 
 use crate::answers::{answer_to, export_of, names_of};
 use crate::entry::{Entry, Made};
@@ -15,6 +17,7 @@ use machine_alone::Machine;
 use sled_model::{MergeOperator, Tree};
 use sled_nodes::{Error, Result};
 use sled_store::Pages;
+use std::sync::ledger::{Book, Ledger, Share};
 
 // What was read, as it is noted, twice.
 fn twice(read: Read) -> Result<(Made, Made)>
@@ -71,26 +74,54 @@ fn read_of(tree: &Tree, question: Question, answer: &Answer) -> Result<Read>
     }
 }
 
-// What is to be noted of it, twice, with room for it in both lists.
-fn room_and_answers(
-    history: &mut Vec<Entry>,
-    made: &mut Vec<Made>,
-    tree: &Tree,
-    question: Question,
-    answer: &Answer,
-) -> Option<(Made, Made)>
-    ensures first { IfSome result (λ both. made_value both.0 ≡ ReadMade (read.Tree tree.now question answer.now)) }
-    ensures second { IfSome result (λ both. made_value both.1 ≡ ReadMade (read.Tree tree.now question answer.now)) }
-    ensures history { history.new.items ≡ history.old.items }
-    ensures made { made.new.items ≡ made.old.items }
-    ensures room { IfSome result (λ both. vec_len history.new < vec_capacity history.new) }
-    ensures room_there { IfSome result (λ both. vec_len made.new < vec_capacity made.new) }
+// Adds a read at the end of the history, with the number of its caller, and the same of the caller's list.
+fn note_both(history: &mut Vec<Entry>, made: &mut Vec<Made>, number: u64, read: Read, again: Read)
+    requires room { vec_len history.old < vec_capacity history.old }
+    requires room_there { vec_len made.old < vec_capacity made.old }
+    requires again { again ≡ read }
+    ensures history { entry_values history.new.items ≡ entry_values history.old.items ++ entries_of number (ReadMade read ∷ []) }
+    ensures made { made_values made.new.items ≡ made_values made.old.items ++ ReadMade read ∷ [] }
+    ensures longer { length history.new.items ≡ length history.old.items + 1 }
+    ensures longer_there { length made.new.items ≡ length made.old.items + 1 }
 {
-    match read_of(tree, question, answer) {
-        Ok(read) => room_and_reads(history, made, read),
+    history.push_reserved(Entry {
+        by: number,
+        made: Made::Read(read),
+    });
+    made.push_reserved(Made::Read(again));
+}
+
+// Adds a read at the ends of both lists, and counts it. Want of memory for that refuses it; then nothing is added.
+fn note_read<L: Ledger>(
+    history: &mut Vec<Entry>,
+    calls: &mut Book<L>,
+    number: u64,
+    made: &mut Vec<Made>,
+    share: &mut Share<L>,
+    read: Read,
+) -> Result<()>
+    requires part { share.old.parts ≡ 1 }
+    requires counted { length history.old.items ≡ calls.old.total }
+    requires shared { share.old.amount ≡ length made.old.items }
+    ensures history { entry_values history.new.items ≡ entry_values history.old.items ++ entries_of number (read_made (λ done. read) result) }
+    ensures made { made_values made.new.items ≡ made_values made.old.items ++ read_made (λ done. read) result }
+    ensures part { share.new.parts ≡ 1 }
+    ensures counted { length history.new.items ≡ calls.new.total }
+    ensures shared { share.new.amount ≡ length made.new.items }
+{
+    if !make_room(history, made) {
+        drop(read);
+        return Err(Error::NoMemory);
+    }
+    match read.clone() {
+        Ok(again) => {
+            note_both(history, made, number, read, again);
+            calls.add(share, 1);
+            Ok(())
+        }
         Err(e) => {
-            drop(e);
-            None
+            drop(read);
+            Err(e)
         }
     }
 }
@@ -109,36 +140,49 @@ fn answer_now<P: Pages, M: MergeOperator>(
     answer_to(machine, tree, question)
 }
 
-// A question about a tree, and what is to be noted of it, twice, with room for it in both lists. Want of memory for that refuses it.
-pub(crate) fn answer_noting<P: Pages, M: MergeOperator>(
+// A question about a tree. Its answer is added at the ends of both lists, and counted. Want of memory for that refuses it.
+pub(crate) fn answer_noting<P: Pages, L: Ledger, M: MergeOperator>(
     machine: &Machine<P, M>,
     history: &mut Vec<Entry>,
+    calls: &mut Book<L>,
+    number: u64,
     made: &mut Vec<Made>,
+    share: &mut Share<L>,
     tree: &Tree,
     question: Question,
-) -> (Result<Answer>, Option<(Made, Made)>)
-    ensures kind { IfOk result.0 (IsAnswerTo question) }
-    ensures ok { IfOk result.0 (λ answer. first_noted result.1 ≡ ReadMade (read.Tree tree.now question answer) ∷ []) }
-    ensures err { OnErr result.0 (first_noted result.1 ≡ []) }
-    ensures notes { NotesRead P.store machine.now (first_noted result.1) }
-    ensures again { second_noted result.1 ≡ first_noted result.1 }
-    ensures history { history.new.items ≡ history.old.items }
-    ensures made { made.new.items ≡ made.old.items }
-    ensures room { IfSome result.1 (λ both. vec_len history.new < vec_capacity history.new) }
-    ensures room_there { IfSome result.1 (λ both. vec_len made.new < vec_capacity made.new) }
+) -> Result<Answer>
+    requires part { share.old.parts ≡ 1 }
+    requires counted { length history.old.items ≡ calls.old.total }
+    requires shared { share.old.amount ≡ length made.old.items }
+    ensures kind { IfOk result (IsAnswerTo question) }
+    ensures ok { IfOk result (λ answer. made_values made.new.items ≡ made_values made.old.items ++ ReadMade (read.Tree tree.now question answer) ∷ []) }
+    ensures err { OnErr result (made_values made.new.items ≡ made_values made.old.items) }
+    ensures notes { NotesRead P.store machine.now (read_made (λ answer. read.Tree tree.now question answer) result) }
+    ensures history { entry_values history.new.items ≡ entry_values history.old.items ++ entries_of number (read_made (λ answer. read.Tree tree.now question answer) result) }
+    ensures made { made_values made.new.items ≡ made_values made.old.items ++ read_made (λ answer. read.Tree tree.now question answer) result }
+    ensures part { share.new.parts ≡ 1 }
+    ensures counted { length history.new.items ≡ calls.new.total }
+    ensures shared { share.new.amount ≡ length made.new.items }
 {
     let answer = match answer_now(machine, tree, &question) {
         Ok(answer) => answer,
         Err(e) => {
             drop(question);
-            return (Err(e), None);
+            return Err(e);
         }
     };
-    match room_and_answers(history, made, tree, question, &answer) {
-        Some(both) => (Ok(answer), Some(both)),
-        None => {
+    let read = match read_of(tree, question, &answer) {
+        Ok(read) => read,
+        Err(e) => {
             drop(answer);
-            (Err(Error::NoMemory), None)
+            return Err(e);
+        }
+    };
+    match note_read(history, calls, number, made, share, read) {
+        Ok(()) => Ok(answer),
+        Err(e) => {
+            drop(answer);
+            Err(e)
         }
     }
 }

@@ -33,16 +33,16 @@ impl<P: Pages, L: Ledger, M: MergeOperator> State<P, L, M> {
             made,
             share,
         } = me;
-        let (answer, noted) = answer_noting(&self.machine, &mut self.history, made, tree, question);
-        note_and_count(
+        answer_noting(
+            &self.machine,
             &mut self.history,
             &mut self.calls,
             *number,
             made,
             share,
-            noted,
-        );
-        answer
+            tree,
+            question,
+        )
     }
 
     // The names of all trees.

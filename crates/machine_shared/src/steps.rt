@@ -1,5 +1,5 @@
 //! What callers do to a state.
-ghost use Rattle.std.specs.Prelude.{◌≡◌, true, ◌++◌, Some, IfOk, IfErr, OnErr, length};
+ghost use Rattle.std.specs.Prelude.{◌≡◌, ◌≢◌, true, false, ◌++◌, Some, IfOk, IfErr, OnErr, length};
 ghost use Rattle.std.specs.Option.{option_map};
 ghost use Rattle.sled_model.specs.Collections.{contents_of};
 ghost use Rattle.sled_model.specs.declared.outcome.Step.TheVariants as step;
@@ -33,7 +33,8 @@ use std::sync::ledger::Ledger;
 
 // Whether the jobs are the same.
 fn is_job(job: &Job, other: &Job) -> bool
-    ensures { result ≡ true → (job.now.tree ≡ other.now.tree) × (job.now.call ≡ other.now.call) }
+    ensures yes { result ≡ true → (job.now.tree ≡ other.now.tree) × (job.now.call ≡ other.now.call) }
+    ensures no { result ≡ false → job.now.tree ≡ other.now.tree → job.now.call ≢ other.now.call }
 {
     job.tree == other.tree && job.call == other.call
 }
@@ -44,7 +45,8 @@ pub(crate) fn has_job<P: Pages, M: MergeOperator>(
     slot: Slot,
     wanted: &Job,
 ) -> bool
-    ensures { result ≡ true → option_map job_of_call (slots_of machine.now.flights slot) ≡ Some (job_pair wanted.now.tree wanted.now.call) }
+    ensures yes { result ≡ true → option_map job_of_call (slots_of machine.now.flights slot) ≡ Some (job_pair wanted.now.tree wanted.now.call) }
+    ensures no { result ≡ false → option_map job_of_call (slots_of machine.now.flights slot) ≢ Some (job_pair wanted.now.tree wanted.now.call) }
 {
     match machine.job(slot) {
         Some(job) => is_job(job, wanted),

@@ -1,10 +1,16 @@
 //! Transactions by a caller: a closure is run over the pages as they are, and what it wrote is made as a group, which is noted.
-ghost use Rattle.std.specs.Prelude.{◌≡◌, ◌∷◌, [], true, IfOk, OnOk, OnErr};
+ghost use Rattle.std.specs.Prelude.{◌≡◌, ◌∷◌, [], true, IfErr, IfOk, OnOk, OnErr};
+ghost use Rattle.sled_nodes.specs.declared.error.Error.TheVariants.{NoMemory};
 ghost use Rattle.sled_store.specs.Store.{now};
 ghost use Rattle.sled_model.specs.Refusal.{must_refuse_of};
 ghost use Rattle.sled_model.specs.State.{maps_of};
+ghost use Rattle.sled_model.specs.declared.call.Whole.TheVariants.{Flush};
+ghost use Rattle.sled_model.specs.declared.outcome.Outcome.TheVariants.{Refused};
 ghost use Rattle.sled.specs.Values.{db_state};
-ghost use Rattle.machine_shared.specs.Transactions.{AddsTransaction, RunsIn, RunsOnce, ShowsInsideAtLaw, ShowsInsideLaw, batches_of_tree, transaction_made};
+ghost use Rattle.machine_shared.specs.Inside.{RunsOver};
+ghost use Rattle.machine_shared.specs.Transacted.{CommitsGroup, RefusesCommit, TransactsUnderLock, flushes_as, transacts_as};
+ghost use Rattle.machine_shared.specs.Transactions.{AddsTransaction, RunsIn, RunsOnce, ShowsInsideAtLaw, ShowsInsideLaw, batches_of_tree, fails_tests, transaction_made};
+ghost use Rattle.machine_shared.specs.UnderLock.{MakesWhole};
 ghost use Rattle.machine_shared.specs.theory.Transacting.{AddsCommit, AddsFlush, StopsCommit, ran_as};
 
 use crate::caller::Caller;
@@ -31,6 +37,7 @@ pub(crate) fn root_of<P: Pages, M: MergeOperator>(
 ) -> Result<Pid>
     ensures tested { OnOk result (must_refuse_of (db_state P.store M.meant machine.now.db) (tree.now ∷ []) ≡ None) }
     ensures is { IfOk result (λ root. (now (P.store machine.now.db.pages)).roots tree.now.name ≡ Some root) }
+    ensures err { IfErr result (fails_tests P.store M.meant tree.now machine.now.db) }
 {
     if let Err(e) = machine.db().check(tree) {
         return Err(e);
@@ -50,7 +57,7 @@ fn run<P: Pages + Sync, M: MergeOperator, A, E, R: TransactionAnswer<A, E>, F>(
 where
     F: Fn(&mut TransactionalTree<'_, Lent<'_, P>>) -> R,
     requires { (shown : _) → F.pre f shown }
-    ensures { ran_as (RunsIn P.store M.meant F.Fn R.result_of f tree.now machine.now.db) result }
+    ensures { ran_as (fails_tests P.store M.meant tree.now machine.now.db) (RunsIn P.store M.meant F.Fn R.result_of f tree.now machine.now.db) result }
 {
     machine.audit();
     let root = match root_of(machine, tree) {
@@ -58,13 +65,13 @@ where
         Err(e) => return Err(TransactionError::Storage(e)),
     };
     let pages = machine.db().pages();
-    let mut greatest_id = pages.mark();
-    run_on(machine.db().allocator(), pages, root, &mut greatest_id, f)
+    run_on(machine.db().allocator(), pages, root, f)
 }
 
 // What was written of a tree, as a group.
 fn group_of(alloc: Global, tree: &Tree, writes: Batch) -> Result<Vec<(Tree, Batch)>>
-    ensures { IfOk result (λ group. group.items ≡ batches_of_tree tree.now writes) }
+    ensures ok { IfOk result (λ group. group.items ≡ batches_of_tree tree.now writes) }
+    ensures err { IfErr result (λ e. e ≡ NoMemory) }
 {
     let tree = match tree.clone() {
         Ok(tree) => tree,
@@ -92,6 +99,8 @@ fn make_flush<P: Pages, L: Ledger, M: MergeOperator>(
     ensures ok { OnOk result (AddsFlush me.old.made me.new.made) }
     ensures err { OnErr result (me.new.made ≡ me.old.made) }
     ensures number { me.new.number ≡ me.old.number }
+    ensures makes { OnOk result (flushes_as P.store P.flush_number M.meant true me.old me.new state.old state.new) }
+    ensures stops { IfErr result (λ e. MakesWhole P.store P.flush_number M.meant Flush (Refused e) me.old me.new state.old state.new) }
 {
     let outcome = state.whole(me, Whole::Flush);
     decided(outcome)
@@ -107,6 +116,8 @@ pub(crate) fn commit<P: Pages, L: Ledger, M: MergeOperator>(
     ensures ok { OnOk result (AddsCommit (transaction_made (maps_of (db_state P.store M.meant state.old.machine.db)) group.items) flushes me.old.made me.new.made) }
     ensures err { OnErr result (StopsCommit (transaction_made (maps_of (db_state P.store M.meant state.old.machine.db)) group.items) flushes me.old.made me.new.made) }
     ensures number { me.new.number ≡ me.old.number }
+    ensures commits { OnOk result (CommitsGroup P.store P.flush_number M.meant group.items flushes me.old me.new state.old state.new) }
+    ensures stops { IfErr result (λ e. RefusesCommit P.store P.flush_number M.meant group.items flushes e me.old me.new state.old state.new) }
 {
     if let Err(e) = state.make(me, group) {
         return Err(e);
@@ -128,8 +139,10 @@ fn commit_tree<P: Pages, L: Ledger, M: MergeOperator>(
     ensures ok { OnOk result (AddsCommit (transaction_made (maps_of (db_state P.store M.meant state.old.machine.db)) (batches_of_tree tree.now writes)) flushes me.old.made me.new.made) }
     ensures err { OnErr result (StopsCommit (transaction_made (maps_of (db_state P.store M.meant state.old.machine.db)) (batches_of_tree tree.now writes)) flushes me.old.made me.new.made) }
     ensures number { me.new.number ≡ me.old.number }
+    ensures commits { OnOk result (CommitsGroup P.store P.flush_number M.meant (batches_of_tree tree.now writes) flushes me.old me.new state.old state.new) }
+    ensures stops { IfErr result (λ e. RefusesCommit P.store P.flush_number M.meant (batches_of_tree tree.now writes) flushes e me.old me.new state.old state.new) }
 {
-    let alloc = state.machine.db().allocator();
+    let alloc = state.machine().db().allocator();
     match group_of(alloc, tree, writes) {
         Ok(group) => commit(state, me, group, flushes),
         Err(e) => Err(e),
@@ -151,8 +164,9 @@ where
     requires { (shown : _) → F.pre f shown }
     ensures made { AddsTransaction (RunsOnce P.store M.meant F.Fn R.result_of f tree.now) (batches_of_tree tree.now) true result me.old.made me.new.made }
     ensures number { me.new.number ≡ me.old.number }
+    ensures does { transacts_as P.store P.flush_number M.meant (fails_tests P.store M.meant tree.now) (RunsOver P.store M.meant F.Fn R.result_of f tree.now) (batches_of_tree tree.now) true result me.old me.new state.old state.new }
 {
-    let ended = run(&state.machine, tree, f);
+    let ended = run(state.machine(), tree, f);
     match ended {
         Ok(
             Commit {
@@ -191,17 +205,24 @@ where
     requires { (shown : _) → F.pre f shown }
     ensures made { AddsTransaction (RunsOnce P.store M.meant F.Fn R.result_of f tree.now) (batches_of_tree tree.now) true result me.old.made me.new.made }
     ensures number { me.new.number ≡ me.old.number }
+    ensures under_lock { TransactsUnderLock P.store P.flush_number M.meant (fails_tests P.store M.meant tree.now) (RunsOver P.store M.meant F.Fn R.result_of f tree.now) (batches_of_tree tree.now) true result me.old me.new }
 {
     match held {
         None => Err(TransactionError::Storage(Error::Closed)),
-        Some(state) => transact(state, me, tree, f),
+        Some(state) => {
+            state.audit();
+            let ended = transact(state, me, tree, f);
+            state.audit();
+            ended
+        }
     }
 }
 
 impl<P: Pages + Sync, L: Ledger, M: MergeOperator> Handle<P, L, M> {
     /// Runs a closure as a transaction of a tree: all that it writes is made, or nothing. It is one step under the lock. What it wrote is
     /// added to this caller's list, also if that is nothing, with what was before at each key that it wrote: the closure was run over maps
-    /// that had this there. Of keys that it read and did not write the list says nothing.
+    /// that had this there. Of keys that it read and did not write the list says nothing. The clause `under_lock` does: whatever it read was
+    /// in the maps at its place in the history, unless it had written the key itself.
     ///
     /// After it the flush that the closure asked for is added. Of a transaction that is aborted or refused nothing is added to the list;
     /// but if only the flush is refused what it wrote is made, and is in the list.
@@ -231,6 +252,7 @@ impl<P: Pages + Sync, L: Ledger, M: MergeOperator> Handle<P, L, M> {
         requires { (shown : _) → F.pre f shown }
         ensures made { AddsTransaction (RunsOnce P.store M.meant F.Fn R.result_of f tree.now) (batches_of_tree tree.now) true (R.answer_of result) self.old.made self.new.made }
         ensures number { self.new.number ≡ self.old.number }
+        ensures under_lock { TransactsUnderLock P.store P.flush_number M.meant (fails_tests P.store M.meant tree.now) (RunsOver P.store M.meant F.Fn R.result_of f tree.now) (batches_of_tree tree.now) true (R.answer_of result) self.old self.new }
     {
         let mut guard = self.lock.lock(rt);
         let ended = transact_in(&mut *guard, &mut self.me, tree, f);

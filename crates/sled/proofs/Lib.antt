@@ -16,6 +16,10 @@ pub mod Counting
 pub mod Popping
 pub mod Promising
 pub mod Mapping
+pub mod Keeping
+pub mod Clearing
+pub mod Parting
+pub mod Bounding
 pub mod Fetching
 pub mod Naming
 pub mod Numbering

@@ -9,6 +9,8 @@ pub mod Reads
 pub mod Flights
 pub mod Direct
 pub mod Promises
+pub mod Wholes
+pub mod ManyKeys
 pub mod Pops
 pub mod Fetch
 pub mod Flush

@@ -103,6 +103,7 @@ impl<P: Pages, M: MergeOperator> Db<P, M> {
     ghost use Rattle.sled.specs.theory.Walking.{DbWalksDown};
     ghost use Rattle.sled.specs.Direct.{RunsAtOnce};
     ghost use Rattle.sled.specs.Flush.{FlushesDb, RefusesFlush};
+    ghost use Rattle.sled.specs.Wholes.{KeepsMaps, leaves_flushed_as};
     ghost use Rattle.sled.specs.Operators.{without_operators};
     ghost use Rattle.sled_queues.specs.Queues.{AreQueues};
 
@@ -478,6 +479,8 @@ impl<P: Pages, M: MergeOperator> Db<P, M> {
     pub fn flush(&mut self) -> Result<usize>
         ensures ok { IfOk result (λ number. FlushesDb P.store P.flush_number M.meant self.old number self.new) }
         ensures err { IfErr result (RefusesFlush P.store M.meant self.old self.new) }
+        ensures keeps { KeepsMaps P.store M.meant self.old self.new }
+        ensures leaves { leaves_flushed_as P.store M.meant result self.old self.new }
     {
         if self.pages.in_group() {
             return Err(Error::Closed);

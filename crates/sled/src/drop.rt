@@ -2,7 +2,9 @@
 //!
 //! The removal of the tree's root decides: from then on no call in flight on the tree goes on, since its number is gone. What becomes of
 //! its pages is said in `tree_pages`.
-ghost use Rattle.std.specs.Prelude.{IfOk, IfErr};
+ghost use Rattle.std.specs.Prelude.{IfOk, IfErr, OnErr, [], None};
+ghost use Rattle.sled_model.specs.declared.call.Whole.TheVariants.{DropTree};
+ghost use Rattle.sled_model.specs.declared.reply.Reply.TheVariants.{Flag};
 
 use crate::DEFAULT_TREE;
 use crate::db::Db;
@@ -15,7 +17,9 @@ use tree_pages::drop_root;
 
 impl<P: Pages, M: MergeOperator> Db<P, M> {
     ghost use Rattle.sled.specs.Drops.{DropsTree, RefusesDrop};
-    ghost use Rattle.sled.specs.Promises.{DropsMap};
+    ghost use Rattle.sled.specs.Direct.{LeavesAll, lost_of};
+    ghost use Rattle.sled.specs.Promises.{DropsMap, RefusesCall};
+    ghost use Rattle.sled.specs.Wholes.{LeavesAfter};
 
     /// Drops the tree of a name, and answers whether there was one. The name can be opened anew, as an empty tree; every
     /// `Tree` of before is answered with `CollectionNotFound` from now on, and so is each call in flight on it at its next step.
@@ -31,6 +35,9 @@ impl<P: Pages, M: MergeOperator> Db<P, M> {
         ensures ok { IfOk result (λ dropped. DropsTree P.store M.meant self.old name.now dropped self.new) }
         ensures err { IfErr result (λ e. RefusesDrop P.store M.meant self.old name.now e self.new) }
         ensures changes { IfOk result (λ dropped. DropsMap P.store M.meant self.old name.now dropped self.new) }
+        ensures refuses { IfErr result (λ e. RefusesCall P.store M.meant self.old (DropTree name.now) e self.new) }
+        ensures leaves { IfOk result (λ dropped. LeavesAfter P.store M.meant (lost_of (DropTree name.now) (Flag dropped)) self.old self.new) }
+        ensures stays { OnErr result (LeavesAll P.store [] None self.old self.new) }
     {
         if self.pages.in_group() {
             return Err(Error::Closed);

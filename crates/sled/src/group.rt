@@ -126,6 +126,7 @@ fn make_group<P: Pages>(
 impl<P: Pages, M: MergeOperator> Db<P, M> {
     ghost use Rattle.sled.specs.Values.{db_state, snapshot_of_db};
     ghost use Rattle.sled.specs.Groups.{GroupDecided, GroupRefused, IsQuietGroup};
+    ghost use Rattle.sled.specs.Wholes.{RefusesGroup, leaves_whole_as};
 
     // The tests before a group, each of all its trees.
     fn check_batches(&self, batches: &[(Tree, Batch)]) -> Result<()>
@@ -303,6 +304,8 @@ impl<P: Pages, M: MergeOperator> Db<P, M> {
         ensures ok { OnOk result (GroupDecided P.store M.meant self.old batches.now self.new) }
         ensures err { IfErr result (λ e. GroupRefused P.store M.meant self.old batches.now e self.new) }
         ensures quiet { IsQuietGroup P.store M.meant self.old batches.now self.new }
+        ensures refuses { IfErr result (λ e. RefusesGroup P.store M.meant self.old batches.now e self.new) }
+        ensures leaves { leaves_whole_as P.store M.meant result self.old self.new }
         ensures changes { OnOk result (db_state P.store M.meant self.new ≡ after_writes (writes_of batches.now) (db_state P.store M.meant self.old)) }
     {
         if let Err(e) = self.check_batches(batches) {
@@ -334,6 +337,8 @@ impl<P: Pages, M: MergeOperator> Db<P, M> {
         ensures ok { OnOk result (GroupDecided P.store M.meant self.old ((tree.now, batch) ∷ []) self.new) }
         ensures err { IfErr result (λ e. GroupRefused P.store M.meant self.old ((tree.now, batch) ∷ []) e self.new) }
         ensures quiet { IsQuietGroup P.store M.meant self.old ((tree.now, batch) ∷ []) self.new }
+        ensures refuses { IfErr result (λ e. RefusesGroup P.store M.meant self.old ((tree.now, batch) ∷ []) e self.new) }
+        ensures leaves { leaves_whole_as P.store M.meant result self.old self.new }
         ensures changes { OnOk result (db_state P.store M.meant self.new ≡ after_writes (writes_of ((tree.now, batch) ∷ [])) (db_state P.store M.meant self.old)) }
     {
         if let Err(e) = self.check(tree) {

@@ -1,5 +1,6 @@
 //! Ids, which rise strictly.
 ghost use Rattle.std.specs.Prelude.{◌≡◌, ◌≤◌, ◌<◌, ◌⊎◌, IfOk, IfErr, OnOk, OnErr, true};
+ghost use Rattle.sled_store.specs.Crash.{crash_states};
 ghost use Rattle.sled_store.specs.Store.{now};
 ghost use Rattle.sled_model.specs.Ids.{greatest_of_all, mark_above};
 ghost use Rattle.sled.specs.Ids.{RefusesToRaise};
@@ -31,6 +32,7 @@ fn set_aside_above<P: Pages>(pages: &mut P, greatest: u64) -> Result<()>
 
 impl<P: Pages, M: MergeOperator> Db<P, M> {
     ghost use Rattle.sled.specs.Ids.{GivesId, RefusesId};
+    ghost use Rattle.sled.specs.Wholes.{KeepsMaps};
 
     /// The next id: one above the greatest that was given, from 1 on, and above all that were given before a crash. While ids
     /// are set aside it asks for no memory, and of the store for its mark and whether it is open. Else 4096 are set aside first, or
@@ -44,6 +46,9 @@ impl<P: Pages, M: MergeOperator> Db<P, M> {
     pub fn generate_id(&mut self) -> Result<u64>
         ensures ok { IfOk result (λ id. GivesId P.store M.meant self.old id self.new) }
         ensures err { IfErr result (λ e. RefusesId P.store M.meant self.old e self.new) }
+        ensures rises { IfOk result (λ id. (self.old.greatest_id < id) × (id ≤ (P.store self.new.pages).mark)) }
+        ensures keeps { KeepsMaps P.store M.meant self.old self.new × (self.new.queues ≡ self.old.queues) }
+        ensures leaves { crash_states (P.store self.new.pages) ≡ crash_states (P.store self.old.pages) }
         ensures ready { OnErr result (((now (P.store self.old.pages)).in_group ≡ true) ⊎ ((P.store self.old.pages).mark ≤ self.old.greatest_id)) }
     {
         if self.pages.in_group() {

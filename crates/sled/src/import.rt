@@ -1,9 +1,11 @@
 //! Importing collections, as an export gives them.
-ghost use Rattle.std.specs.Prelude.{◌≡◌, IfErr, OnOk, [], ◌∷◌, length};
+ghost use Rattle.std.specs.Prelude.{◌≡◌, ℕ, IfErr, OnOk, [], ◌∷◌, length, None};
 ghost use Rattle.sled_model.specs.Collections.{content_of, contents_of, are_trees};
 ghost use Rattle.sled_model.specs.Imports.{Puts, puts_of, parts_of};
 ghost use Rattle.sled.specs.Imports.{ImportDecided, ImportRefused, ImportsBySteps};
 ghost use Rattle.sled.specs.Parts.{told_parts, ImportsParts, ImportRefusedAfter};
+ghost use Rattle.sled.specs.Wholes.{LeavesMaps};
+ghost use Rattle.sled.specs.ManyKeys.{HaveFirst, ImportsMaps, RefusesImport};
 ghost use Rattle.sled.specs.theory.Imports.{IsTreeNow, PartsDone, PartsStopped, PartsStoppedAfter};
 
 use crate::db::Db;
@@ -92,6 +94,9 @@ impl<P: Pages, M: MergeOperator> Db<P, M> {
     pub fn import(&mut self, collections: &[Collection]) -> Result<()>
         ensures ok { OnOk result (ImportDecided P.store M.meant self.old (contents_of collections.now) self.new) }
         ensures err { IfErr result (λ e. ImportRefused P.store M.meant self.old (contents_of collections.now) e self.new) }
+        ensures changes { OnOk result (ImportsMaps P.store M.meant self.old (contents_of collections.now) self.new) }
+        ensures refuses { IfErr result (λ e. (number : ℕ) × RefusesImport P.store M.meant self.old (contents_of collections.now) number e self.new) }
+        ensures leaves { LeavesMaps P.store M.meant (HaveFirst P.store M.meant self.old (parts_of (contents_of collections.now))) None self.old self.new }
         ensures steps { OnOk result (ImportsBySteps P.store M.meant self.old (parts_of (contents_of collections.now)) self.new) }
     {
         let (done, _) = self.import_counted(collections);
@@ -109,6 +114,9 @@ impl<P: Pages, M: MergeOperator> Db<P, M> {
         ensures ok { OnOk result.0 (ImportDecided P.store M.meant self.old (contents_of collections.now) self.new) }
         ensures parts { OnOk result.0 (ImportsParts (contents_of collections.now) result.1) }
         ensures err { IfErr result.0 (λ e. ImportRefusedAfter P.store M.meant self.old (contents_of collections.now) result.1 e self.new) }
+        ensures changes { OnOk result.0 (ImportsMaps P.store M.meant self.old (contents_of collections.now) self.new) }
+        ensures refuses { IfErr result.0 (λ e. RefusesImport P.store M.meant self.old (contents_of collections.now) result.1 e self.new) }
+        ensures leaves { LeavesMaps P.store M.meant (HaveFirst P.store M.meant self.old (parts_of (contents_of collections.now))) None self.old self.new }
         ensures steps { OnOk result.0 (ImportsBySteps P.store M.meant self.old (parts_of (contents_of collections.now)) self.new) }
     {
         if self.pages.in_group() {

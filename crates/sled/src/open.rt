@@ -202,7 +202,8 @@ impl<P: Pages> Db<P> {
 impl<P: Pages, M: MergeOperator> Db<P, M> {
     ghost use Rattle.sled.specs.Direct.{WholeDecided, WholeRefused};
     ghost use Rattle.sled.specs.Opens.{OpensBySteps, OpenRefusedBySteps};
-    ghost use Rattle.sled.specs.Promises.{OpensMap};
+    ghost use Rattle.sled.specs.Promises.{OpensMap, RefusesCall};
+    ghost use Rattle.sled.specs.Wholes.{leaves_whole_as};
 
     // What names the tree of this name and number.
     pub(crate) fn handle_of(&self, name: &[u8], number: u64) -> Result<Tree>
@@ -238,6 +239,8 @@ impl<P: Pages, M: MergeOperator> Db<P, M> {
         ensures steps { OnOk result (OpensBySteps P.store name.now self.old self.new) }
         ensures refused { IfErr result (λ e. OpenRefusedBySteps P.store name.now self.old e self.new) }
         ensures changes { OnOk result (OpensMap P.store M.meant self.old name.now self.new) }
+        ensures refuses { IfErr result (λ e. RefusesCall P.store M.meant self.old (OpenTree name.now) e self.new) }
+        ensures leaves { leaves_whole_as P.store M.meant result self.old self.new }
     {
         if self.pages.in_group() {
             return Err(Error::Closed);

@@ -49,6 +49,8 @@ impl<P: Pages, M: MergeOperator> Db<P, M> {
     ghost use Rattle.sled.specs.Values.{db_state};
     ghost use Rattle.sled.specs.Groups.{GroupRefused, IsQuietGroup};
     ghost use Rattle.sled.specs.Removals.{range_group, RangeRemoved};
+    ghost use Rattle.sled.specs.Wholes.{RefusesGroup, leaves_whole_as};
+    ghost use Rattle.sled.specs.ManyKeys.{RemovesWithin};
 
     // The removals of the keys of a tree within two bounds.
     fn removals(&self, tree: &Tree, lo: Bound<&[u8]>, hi: Bound<&[u8]>) -> Result<Batch>
@@ -79,7 +81,11 @@ impl<P: Pages, M: MergeOperator> Db<P, M> {
         ensures ok { IfOk result (λ count. RangeRemoved P.store M.meant self.old tree.now (bound_of lo.entry) (bound_of hi.entry) count self.new) }
         ensures err { IfErr result (λ e. GroupRefused P.store M.meant self.old (range_group P.store M.meant self.old tree.now (bound_of lo.entry) (bound_of hi.entry)) e self.new) }
         ensures quiet { IsQuietGroup P.store M.meant self.old (range_group P.store M.meant self.old tree.now (bound_of lo.entry) (bound_of hi.entry)) self.new }
+        ensures changes { IfOk result (λ count. RemovesWithin P.store M.meant self.old tree.now (bound_of lo.entry) (bound_of hi.entry) count self.new) }
+        ensures refuses { IfErr result (λ e. RefusesGroup P.store M.meant self.old (range_group P.store M.meant self.old tree.now (bound_of lo.entry) (bound_of hi.entry)) e self.new) }
+        ensures leaves { leaves_whole_as P.store M.meant result self.old self.new }
     {
+        self.audit();
         let batch = match self.removals(tree, lo, hi) {
             Ok(batch) => batch,
             Err(e) => return Err(e),

@@ -1,5 +1,6 @@
 //! Subscribers, each of which has a queue of the events of its tree, and a count of those that it missed.
-ghost use Rattle.std.specs.Prelude.{IfOk, IfErr};
+ghost use Rattle.std.specs.Prelude.{◌≡◌, IfOk, IfErr, Some};
+ghost use Rattle.sled_model.specs.Backlog.{no_backlog};
 
 use crate::db::Db;
 use sled_model::{MergeOperator, Next, Subscriber, Tree};
@@ -8,6 +9,7 @@ use sled_store::Pages;
 
 impl<P: Pages, M: MergeOperator> Db<P, M> {
     ghost use Rattle.sled.specs.Watch.{WatchesDb, RefusesWatch, TakesFromDb, EndsSubscriber};
+    ghost use Rattle.sled.specs.Wholes.{KeepsMaps, KeepsOthers, queue_in};
 
     /// A new subscriber to the keys of a tree that begin with a prefix. From now on each change of such a key that is decided is
     /// put into its queue, in order, and `next` takes it out. At most 1024 events wait there: if one more comes, the oldest goes
@@ -24,6 +26,9 @@ impl<P: Pages, M: MergeOperator> Db<P, M> {
     pub fn watch_prefix(&mut self, tree: &Tree, prefix: &[u8]) -> Result<Subscriber>
         ensures ok { IfOk result (λ number. WatchesDb P.store M.meant self.old tree.now prefix.now number self.new) }
         ensures err { IfErr result (λ e. RefusesWatch P.store M.meant self.old tree.now prefix.now e self.new) }
+        ensures keeps { KeepsMaps P.store M.meant self.old self.new }
+        ensures queue { IfOk result (λ number. queue_in P.store M.meant self.new number ≡ Some (record { tree = tree.now.number; prefix = prefix.now; backlog = no_backlog })) }
+        ensures others { IfOk result (λ number. KeepsOthers P.store M.meant number self.old self.new) }
     {
         if let Err(e) = self.check(tree) {
             return Err(e);

@@ -1,5 +1,5 @@
 //! Whole calls, which take pairs out of a tree.
-ghost use Rattle.std.specs.Prelude.{◌≡◌, IfOk, IfErr, OnOk, []};
+ghost use Rattle.std.specs.Prelude.{◌≡◌, ℕ, IfOk, IfErr, OnOk, [], None};
 ghost use Rattle.sled_nodes.specs.declared.error.Error.TheVariants.{NoMemory};
 ghost use Rattle.sled_model.specs.Maps.{IsLeast, IsGreatest};
 ghost use Rattle.sled_model.specs.declared.call.Whole.TheVariants.{PopMin, PopMax, Clear};
@@ -55,6 +55,8 @@ impl<P: Pages, M: MergeOperator> Db<P, M> {
     ghost use Rattle.sled.specs.Direct.{WholeDecided, WholeRefused};
     ghost use Rattle.sled.specs.Parts.{ClearsParts};
     ghost use Rattle.sled.specs.Promises.{ChangesMap, RefusesCall, leaves_as, without_found};
+    ghost use Rattle.sled.specs.Wholes.{LeavesMaps};
+    ghost use Rattle.sled.specs.ManyKeys.{LosesFirst, RefusesClear, LackFirst};
     ghost use Rattle.sled.specs.Reads.{ReadsMap, RefusesReading};
     ghost use Rattle.sled.specs.Pops.{PopsBySteps, PopRefusedBySteps, GivesUpPop, ClearsBySteps, ClearRefusedBySteps};
 
@@ -194,6 +196,8 @@ impl<P: Pages, M: MergeOperator> Db<P, M> {
         ensures err { IfErr result (λ e. WholeRefused P.store M.meant self.old (Clear tree.now) e self.new) }
         ensures steps { OnOk result (ClearsBySteps P.store M.meant tree.now self.old self.new) }
         ensures refused { IfErr result (λ e. ClearRefusedBySteps P.store M.meant self.old tree.now e self.new) }
+        ensures refuses { IfErr result (λ e. (number : ℕ) × RefusesClear P.store M.meant self.old tree.now number e self.new) }
+        ensures leaves { LeavesMaps P.store M.meant (LackFirst P.store M.meant self.old tree.now) None self.old self.new }
         ensures changes { OnOk result (ChangesMap P.store M.meant self.old tree.now (λ before after. after ≡ []) self.new) }
     {
         let (done, _) = self.clear_counted(tree);
@@ -212,8 +216,12 @@ impl<P: Pages, M: MergeOperator> Db<P, M> {
         ensures steps { OnOk result.0 (ClearsBySteps P.store M.meant tree.now self.old self.new) }
         ensures refused { IfErr result.0 (λ e. ClearRefusedBySteps P.store M.meant self.old tree.now e self.new) }
         ensures parts { ClearsParts P.store M.meant self.old tree.now result.1 self.new }
+        ensures counts { OnOk result.0 (ChangesMap P.store M.meant self.old tree.now (LosesFirst result.1) self.new) }
+        ensures refuses { IfErr result.0 (λ e. RefusesClear P.store M.meant self.old tree.now result.1 e self.new) }
+        ensures leaves { LeavesMaps P.store M.meant (LackFirst P.store M.meant self.old tree.now) None self.old self.new }
         ensures changes { OnOk result.0 (ChangesMap P.store M.meant self.old tree.now (λ before after. after ≡ []) self.new) }
     {
+        self.audit();
         let mut count: u64 = 0;
         'parts: loop {
             self.audit();

@@ -7,6 +7,7 @@ use sled_nodes::{IVec, Pid};
 use std::alloc::Global;
 
 /// A number.
+#[inline(always)]
 pub fn number_of(bytes: &[u8], at: usize) -> Result<(u64, usize), Refusal>
     requires place { at ≤ length bytes.now }
     ensures place { IfOk result (λ x. (at ≤ x.1) × (x.1 ≤ length bytes.now)) }
@@ -19,6 +20,7 @@ pub fn number_of(bytes: &[u8], at: usize) -> Result<(u64, usize), Refusal>
 }
 
 /// So many bytes.
+#[inline(always)]
 pub fn bytes_of(
     alloc: Global,
     bytes: &[u8],
@@ -44,6 +46,7 @@ pub fn bytes_of(
 
 /// A byte string.
 #[tactic(auto, unfolding(crate::specs::Reading::string_at))]
+#[inline(always)]
 pub fn string_of(alloc: Global, bytes: &[u8], at: usize) -> Result<(IVec, usize), Refusal>
     requires place { at ≤ length bytes.now }
     ensures place { IfOk result (λ x. (at ≤ x.1) × (x.1 ≤ length bytes.now)) }

@@ -9,7 +9,11 @@ use crate::refusal::Refusal;
 use sled_nodes::{Data, IVec, Index, Leaf, Node, Pid};
 use std::alloc::Global;
 
+// Room for so many entries is made at once: a page of a tree has no more. The count in bytes may be any number.
+const USUAL: u64 = 33;
+
 #[tactic(auto, unfolding(crate::specs::Reading::pair_at))]
+#[inline(always)]
 pub fn pair_of(alloc: Global, bytes: &[u8], at: usize) -> Result<((IVec, IVec), usize), Refusal>
     requires place { at ≤ length bytes.now }
     ensures place { IfOk result (λ x. (at ≤ x.1) × (x.1 ≤ length bytes.now)) }
@@ -42,7 +46,7 @@ fn pairs_of(
     ensures place { IfOk result (λ x. (from ≤ x.1) × (x.1 ≤ length bytes.now)) }
     ensures gives { Gives (λ x. (x.0.items, drop x.1 bytes.now)) result (each_at pair_at count (drop from bytes.now)) }
 {
-    let mut pairs = Vec::new(alloc);
+    let mut pairs = Vec::with_capacity(alloc, count.min(USUAL) as usize)?;
     let mut at = from;
     'pairs: for _ in 0..count {
         let (pair, behind) = pair_of(alloc, bytes, at)?;
@@ -63,7 +67,7 @@ fn pointers_of(
     ensures place { IfOk result (λ x. (from ≤ x.1) × (x.1 ≤ length bytes.now)) }
     ensures gives { Gives (λ x. (x.0.items, drop x.1 bytes.now)) result (each_at pointer_at count (drop from bytes.now)) }
 {
-    let mut pointers = Vec::new(alloc);
+    let mut pointers = Vec::with_capacity(alloc, count.min(USUAL) as usize)?;
     let mut at = from;
     'pointers: for _ in 0..count {
         let (pointer, behind) = pointer_of(alloc, bytes, at)?;

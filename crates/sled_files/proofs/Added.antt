@@ -180,3 +180,9 @@ asks_by true true before asked upto e = inl e
 asks_by true false before asked upto e = inl e
 asks_by false true before asked upto e = inr (e, refl, refl)
 asks_by false false before asked upto e = inl e
+
+-- a mark that a disk refused, of a store that was not stopped before
+pub asked_new : (was is : Bool) (before asked : Option ℕ) (upto : ℕ) → was ≡ false → asked ≡ (if is then Some upto else before) → asked ≡ (if is && not was then Some upto else before)
+asked_new true is before asked upto up e = absurd (cc)
+asked_new false true before asked upto up e = e
+asked_new false false before asked upto up e = e

@@ -6,7 +6,7 @@ use Rattle.sled_disk.specs.declared.disk.DiskError.{DiskError}
 use Rattle.sled_disk.specs.declared.disk.DiskError.TheVariants as disk
 use Rattle.sled_store.specs.Store.{Store, IsRefused as IsRefusedCall}
 use Rattle.sled_pages.specs.Memory.{store_of}
-use Rattle.sled_files.specs.Files.{Files, IsRefused}
+use Rattle.sled_files.specs.Files.{Files, IsRefused, is_stop, faults_in}
 use Rattle.sled_files.specs.Stored.{Stored, stored_as, missed_after}
 
 -- no page number or no version is left
@@ -17,7 +17,7 @@ used_up = 3
 abbrev pub disk_full : ℕ
 disk_full = 4
 
--- a disk failed in another way, or refused a call before
+-- a disk failed in another way or had no memory while a file was changed, or refused a call before
 abbrev pub disk_failed : ℕ
 disk_failed = 5
 
@@ -37,6 +37,21 @@ pub record IsUnstored {D : Type 0} (faults : D → ℕ) (lacks_room : Type 0) (o
   pub cause : DiskError
   pub why : IsRefused faults lacks_room old new cause
   pub is : e ≡ error_of counted cause
+
+-- a disk refused a call while a file was changed, and the store's call is refused with the error for that
+pub record Stops {D : Type 0} (faults : D → ℕ) (old new : Stored D) (e : Error) : Type 0 where
+  pub cause : DiskError
+  pub refused : is_stop (faults_in faults old.files) (faults_in faults new.files) cause
+  pub told : e ≡ error_of old.faults cause
+
+-- A refused call stops the store, so that its disks have to be opened again, only as a disk refused a call of it, and then says so. After
+-- each other refusal the store is stopped if it was before, and not if it was not
+pub record StopsOnlyAsFailed {D : Type 0} (faults : D → ℕ) (old new : Stored D) (e : Error) : Type 0 where
+  pub is : (new.files.failed ≡ old.files.failed) ⊎ Stops faults old new e
+
+-- once a disk refused a call, this one is refused for that, whatever else might refuse it
+abbrev pub SaysThatItFailed : {D : Type 0} → Stored D → Error → Type 0
+SaysThatItFailed old e = old.files.failed ≡ true → e ≡ fault_of old.faults disk_failed
 
 -- what is pending has no room in the log, limits that are set with it included
 abbrev pub LacksRoom : {D : Type 0} → Stored D → Type 0

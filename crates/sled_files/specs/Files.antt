@@ -1,6 +1,6 @@
 -- The two files of a store as code holds them, between two calls and within one.
 use Rattle.std.specs.Prelude.{◌≡◌, ◌⊎◌, ◌+◌, ◌<◌, ◌≤◌, ◌==◌, ℕ, Bool, true, false, List, length, if◌then◌else◌}
-use Rattle.sled_disk.specs.Disk.{Only, is_caused}
+use Rattle.sled_disk.specs.Disk.{Only}
 use Rattle.sled_disk.specs.declared.disk.DiskError.{DiskError}
 use Rattle.sled_disk.specs.declared.disk.DiskError.TheVariants.{NoMemory, Full, Failed}
 use Rattle.sled_files.specs.Change.{Durable}
@@ -64,9 +64,16 @@ is_unasked failed lacks_room NoMemory = Unit {0}
 is_unasked failed lacks_room Full = lacks_room
 is_unasked failed lacks_room Failed = failed ≡ true
 
+-- A disk refused a call while a file was changed, and which part of it is done is not known. It is counted as the disk's fault; a disk that
+-- has no memory is one that failed, and is not counted. So want of memory is never told of a call that stops the store
+abbrev pub is_stop : ℕ → ℕ → DiskError → Type 0
+is_stop before now NoMemory = ⊥
+is_stop before now Full = now ≡ before + 1
+is_stop before now Failed = (now ≡ before + 1) ⊎ (now ≡ before)
+
 -- A call was refused: before a disk was asked, and then nothing changed, or by a disk, and then all calls are refused from then on
 abbrev pub IsRefused : {D : Type 0} → (D → ℕ) → Type 0 → Files D → Files D → DiskError → Type 0
-IsRefused faults lacks_room old new e = ((new ≡ old) × is_unasked old.failed lacks_room e) ⊎ ((new.failed ≡ true) × is_caused (faults_in faults old) (faults_in faults new) e)
+IsRefused faults lacks_room old new e = ((new ≡ old) × is_unasked old.failed lacks_room e) ⊎ ((new.failed ≡ true) × is_stop (faults_in faults old) (faults_in faults new) e)
 
 -- the invariant: unless a call of a disk was refused, all of both files is on the disk, and there is a byte at the gate
 pub record IsKept {D : Type 0} (seen : D → List ℕ) (may_leave : D → List ℕ → Type 0) (f : Files D) : Type 0 where
@@ -88,4 +95,5 @@ pub record IsGrown {D : Type 0} (seen : D → List ℕ) (added : ℕ) (old new :
   pub generation : new.generation ≡ old.generation
   pub bytes : new.gate ≡ old.gate + (if added == 0 then 0 else 17 + added)
   pub nothing : added ≡ 0 → new ≡ old
+  pub calm : new.failed ≡ old.failed
   pub other : 0 < added → length (seen (other_of new)) ≤ 1

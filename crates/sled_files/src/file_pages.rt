@@ -14,7 +14,7 @@ use crate::spelled::{
     allocate, begin_group, cas_root, free, link, next_of, replace, seal_group, spell_limits,
     spelled,
 };
-use crate::storing::{USED_UP, add, begin_anew, fault};
+use crate::storing::{DISK_FAILED, USED_UP, add, begin_anew, fault};
 use crate::two_files::TwoFiles;
 use sled_bytes::Change;
 use sled_disk::Disk;
@@ -31,7 +31,8 @@ use std::marker::Model;
 /// ```
 #[derive(Clone, Copy)]
 pub struct FileStats {
-    /// How many page numbers were given, those of pages that are gone included.
+    /// How many page numbers were given, those of pages that are gone included. Of a store that was opened again all count that were set
+    /// aside in its files, up to 1,000,000 more than were used.
     pub pages: u64,
     /// How long the log is that counts.
     pub bytes: usize,
@@ -231,15 +232,11 @@ fn are_below(pid: Pid, version: Version, pids: u64, versions: u64) -> bool
     pid.0 < pids && version.0 < versions
 }
 
-// The mark that may be in the files after one was refused: this one, if a disk refused it just now.
-fn asked_then(asked: Option<u64>, upto: u64, was_over: bool, is_over: bool) -> Option<u64>
-    ensures { result ≡ (if is_over && not was_over then Some upto else asked) }
+// The mark that may be in the files after one was refused: this one, if a disk refused it.
+fn asked_then(asked: Option<u64>, upto: u64, is_over: bool) -> Option<u64>
+    ensures { result ≡ (if is_over then Some upto else asked) }
 {
-    if is_over && !was_over {
-        Some(upto)
-    } else {
-        asked
-    }
+    if is_over { Some(upto) } else { asked }
 }
 
 impl<D: Disk> FilePages<D> {
@@ -335,15 +332,15 @@ impl<D: Disk> FilePages<D> {
 
 impl<D: Disk> FilePages<D> {
     ghost use Rattle.sled_files.specs.Stored.{stored_as, asked_of, KeepsRule};
-    ghost use Rattle.sled_files.specs.Codes.{IsUnstored, LacksRoom, IsLast};
+    ghost use Rattle.sled_files.specs.Codes.{IsUnstored, LacksRoom, IsLast, StopsOnlyAsFailed, SaysThatItFailed};
     ghost use Rattle.sled_files.specs.Raised.{FlushesOn, FlushesAnew};
     ghost use Rattle.sled_files.specs.theory.Snapshot.{Makes, durable_now};
     ghost use Rattle.sled_files.specs.Files.{LeavesPairs};
     ghost use Rattle.sled_files.specs.Lasting.{IsLasting};
 
     /// Flushes, and begins the other file anew with a snapshot of all that the store is, which counts from then on. At any moment a crash
-    /// leaves files that are right for the store before. Nothing is done if a group is open. Refused for want of memory, and then nothing
-    /// changed, or by a disk.
+    /// leaves files that are right for the store before. Nothing is done if a group is open. Refused for want of memory, or as there is no
+    /// greater generation, and then the files are as they were; or by a disk, and then the store is stopped, as `failed` says.
     ///
     /// ```
     /// store.compact()?; // The log has one block.
@@ -357,9 +354,12 @@ impl<D: Disk> FilePages<D> {
         ensures up { (now (stored_as self.old)).in_group ≡ false → OnOk result ((self.old.files.failed ≡ false) × (self.new.files.failed ≡ false)) }
         ensures err { IfErr result (λ e. IsRefused e (stored_as self.old) (stored_as self.new)) }
         ensures cause { IfErr result (λ e. IsUnstored D.faults (IsLast self.old) self.old.files self.new.files self.old.faults e) }
-        // Once a disk refused a call, it is refused.
+        // Once a disk refused a call, it is refused, and says that.
+        ensures stops { IfErr result (StopsOnlyAsFailed D.faults self.old self.new) }
+        ensures says { IfErr result (SaysThatItFailed self.old) }
         ensures over { self.old.files.failed ≡ true → self.new.files ≡ self.old.files }
         ensures asked { self.new.asked ≡ self.old.asked }
+        ensures stays { IfErr result (λ e. e ≡ NoMemory → self.new.files.failed ≡ false → self.new ≡ self.old) }
         ensures rule { KeepsRule self.old self.new }
         ensures limits { AreNoLower self.old.limits self.new.limits }
         ensures any_moment { LeavesPairs D.moment D.left_since D.may_leave self.old.files self.new.files (IsLasting (asked_of self.old.asked) self.old.limits (stored_as self.old)) }
@@ -386,10 +386,12 @@ impl<D: Disk> FilePages<D> {
         self.longest = len;
     }
 
-    /// Whether a disk refused a call that adds to the files. From then on each flush, mark, raise and `compact` is refused.
+    /// Whether a disk refused a call that adds to the files. From then on each flush, mark, raise and `compact` is refused, with the fault
+    /// `DISK_FAILED`. Drop the store then, and open its folder again. The disks of `into_disks` can be opened again only if they can still be
+    /// read: a file of the operating system cannot, once it was changed.
     ///
     /// ```
-    /// let is_over = store.failed(); // Open the disks of `into_disks` again.
+    /// let is_over = store.failed(); // Drop it, and open the folder again.
     /// ```
     pub fn failed(&self) -> bool
         ensures { result ≡ self.now.files.failed }
@@ -397,8 +399,8 @@ impl<D: Disk> FilePages<D> {
         self.files.failed()
     }
 
-    /// How many page numbers were given, how long the log is and its snapshot, of which generation it is, and how many snapshots were
-    /// missed.
+    /// How many page numbers were given (after an opening, all that were set aside before), how long the log is and its snapshot, of which
+    /// generation it is, and how many snapshots were missed.
     ///
     /// ```
     /// let generation = store.stats().generation;
@@ -465,6 +467,8 @@ impl<D: Disk> FilePages<D> {
         ensures up { OnOk result ((self.old.files.failed ≡ false) × (self.new.files.failed ≡ false)) }
         ensures err { IfErr result (λ e. IsRefused e (stored_as self.old) (stored_as self.new)) }
         ensures cause { IfErr result (λ e. IsUnstored D.faults (LacksRoom self.old) self.old.files self.new.files self.old.faults e) }
+        ensures stops { IfErr result (StopsOnlyAsFailed D.faults self.old self.new) }
+        ensures says { IfErr result (SaysThatItFailed self.old) }
         ensures over { self.old.files.failed ≡ true → self.new.files ≡ self.old.files }
         ensures asked { self.new.asked ≡ self.old.asked }
         ensures rule { KeepsRule self.old self.new }
@@ -472,6 +476,9 @@ impl<D: Disk> FilePages<D> {
         ensures any_moment { LeavesPairs D.moment D.left_since D.may_leave self.old.files self.new.files (IsLasting (asked_of self.old.asked) self.old.limits (stored_as self.old)) }
     {
         self.files.law_time();
+        if self.files.failed() {
+            return Err(fault(&mut self.faults, DISK_FAILED));
+        }
         let len = self.pending.len();
         let (pids, versions) = self.ahead(len == 0);
         if let Err(e) = spell_limits(
@@ -507,6 +514,7 @@ impl<D: Disk> FilePages<D> {
         ensures up { OnOk result ((self.old.files.failed ≡ false) × (self.new.files.failed ≡ false)) }
         ensures err { IfErr result (λ e. IsRefused e (stored_as self.old) (stored_as self.new)) }
         ensures cause { IfErr result (λ e. IsUnstored D.faults (IsLast self.old) self.old.files self.new.files self.old.faults e) }
+        ensures stops { IfErr result (StopsOnlyAsFailed D.faults self.old self.new) }
         ensures over { self.old.files.failed ≡ true → self.new.files ≡ self.old.files }
         ensures stays { IfErr result (λ e. e ≡ NoMemory → self.new.files.failed ≡ false → self.new ≡ self.old) }
         ensures asked { self.new.asked ≡ self.old.asked }
@@ -533,6 +541,8 @@ impl<D: Disk> FilePages<D> {
         ensures up { OnOk result ((self.old.files.failed ≡ false) × (self.new.files.failed ≡ false)) }
         ensures err { IfErr result (λ e. IsRefused e (stored_as self.old) (stored_as self.new)) }
         ensures cause { IfErr result (λ e. IsUnstored D.faults (IsLast self.old) self.old.files self.new.files self.old.faults e) }
+        ensures stops { IfErr result (StopsOnlyAsFailed D.faults self.old self.new) }
+        ensures says { IfErr result (SaysThatItFailed self.old) }
         ensures over { self.old.files.failed ≡ true → self.new.files ≡ self.old.files }
         ensures stays { IfErr result (λ e. e ≡ NoMemory → self.new.files.failed ≡ false → self.new ≡ self.old) }
         ensures asked { self.new.asked ≡ self.old.asked }
@@ -541,6 +551,9 @@ impl<D: Disk> FilePages<D> {
         ensures any_moment { LeavesPairs D.moment D.left_since D.may_leave self.old.files self.new.files (IsLasting (asked_of self.old.asked) self.old.limits (stored_as self.old)) }
     {
         self.files.law_time();
+        if self.files.failed() {
+            return Err(fault(&mut self.faults, DISK_FAILED));
+        }
         let (pids, versions) = self.ahead(false);
         let whole = match self.whole_with(pids, versions) {
             Ok(whole) => whole,
@@ -554,7 +567,7 @@ impl<D: Disk> FilePages<D> {
 
 impl<D: Disk + Send> Pages for FilePages<D> {
     ghost use Rattle.sled_files.specs.Stored.{stored_as, asked_of, flush_number_in, KeepsFiles, KeepsRule, AsksFor};
-    ghost use Rattle.sled_files.specs.Codes.{IsUnstored, LacksRoom, FailsAnew, FailsOn, is_why_ungiven};
+    ghost use Rattle.sled_files.specs.Codes.{IsUnstored, LacksRoom, FailsAnew, FailsOn, is_why_ungiven, StopsOnlyAsFailed, SaysThatItFailed};
     ghost use Rattle.sled_files.specs.Raised.{FlushesOn, FlushesAnew, Reaches, ReachesOrFails};
     ghost use Rattle.sled_files.specs.Files.{LeavesPairs, IsGrown};
     ghost use Rattle.sled_files.specs.Lasting.{IsLasting};
@@ -583,6 +596,8 @@ impl<D: Disk + Send> Pages for FilePages<D> {
         ensures refused { OnErr result (ReachesOrFails D.seen self.old self.new) }
         ensures cause { IfErr result (is_why_ungiven D.faults self.old self.new) }
         ensures asked { self.new.asked ≡ self.old.asked }
+        ensures stops { IfErr result (StopsOnlyAsFailed D.faults self.old self.new) }
+        ensures goes_on { OnOk result (self.new.files.failed ≡ self.old.files.failed) }
         ensures over { self.old.files.failed ≡ true → self.new.files ≡ self.old.files }
         ensures rule { KeepsRule self.old self.new }
         ensures any_moment { LeavesPairs D.moment D.left_since D.may_leave self.old.files self.new.files (IsLasting (asked_of self.old.asked) self.old.limits (stored_as self.old)) }
@@ -611,6 +626,8 @@ impl<D: Disk + Send> Pages for FilePages<D> {
         ensures refused { OnErr result (ReachesOrFails D.seen self.old self.new) }
         ensures cause { IfErr result (is_why_ungiven D.faults self.old self.new) }
         ensures asked { self.new.asked ≡ self.old.asked }
+        ensures stops { IfErr result (StopsOnlyAsFailed D.faults self.old self.new) }
+        ensures goes_on { OnOk result (self.new.files.failed ≡ self.old.files.failed) }
         ensures over { self.old.files.failed ≡ true → self.new.files ≡ self.old.files }
         ensures rule { KeepsRule self.old self.new }
         ensures any_moment { LeavesPairs D.moment D.left_since D.may_leave self.old.files self.new.files (IsLasting (asked_of self.old.asked) self.old.limits (stored_as self.old)) }
@@ -637,6 +654,8 @@ impl<D: Disk + Send> Pages for FilePages<D> {
         ensures refused { OnErr result (ReachesOrFails D.seen self.old self.new) }
         ensures cause { IfErr result (is_why_ungiven D.faults self.old self.new) }
         ensures asked { self.new.asked ≡ self.old.asked }
+        ensures stops { IfErr result (StopsOnlyAsFailed D.faults self.old self.new) }
+        ensures goes_on { OnOk result (self.new.files.failed ≡ self.old.files.failed) }
         ensures over { self.old.files.failed ≡ true → self.new.files ≡ self.old.files }
         ensures rule { KeepsRule self.old self.new }
         ensures any_moment { LeavesPairs D.moment D.left_since D.may_leave self.old.files self.new.files (IsLasting (asked_of self.old.asked) self.old.limits (stored_as self.old)) }
@@ -702,6 +721,9 @@ impl<D: Disk + Send> Pages for FilePages<D> {
     /// Makes all that was done durable. The number is that of the changing actions since the last flush. At any moment a crash leaves
     /// files that are right for the store before. Once the log is longer than 4 MB (or than `compact_from` set) and than twice the last
     /// snapshot, the other file is begun anew with a snapshot, and counts from then on. If there is no memory for it, the log grows.
+    ///
+    /// Refused for want of memory, or as the log would be too long, the files are as they were, and the store goes on. Refused by a disk, the
+    /// store is stopped, as `FilePages::failed` says: open the folder again. Each flush from then on is refused with `DISK_FAILED`.
     fn flush(&mut self) -> Result<usize>
         requires { (now (stored_as self.old)).in_group ≡ false }
         ensures ok { OnOk result (stored_as self.new ≡ after_flush (stored_as self.old)) }
@@ -711,8 +733,10 @@ impl<D: Disk + Send> Pages for FilePages<D> {
         ensures renewed { OnOk result (is_due self.old ≡ true → (FlushesAnew self.old self.new × (self.new.missed ≡ self.old.missed)) ⊎ (FlushesOn D.seen self.old self.new × (self.new.missed ≡ missed_after self.old))) }
         ensures calm { is_due self.old ≡ false → self.new.missed ≡ self.old.missed }
         ensures longest { self.new.longest ≡ self.old.longest }
-        // Once a disk refused a call, it is refused, until the disks are opened again.
+        // Once a disk refused a call, it is refused, and says that.
         ensures up { OnOk result ((self.old.files.failed ≡ false) × (self.new.files.failed ≡ false)) }
+        ensures stops { IfErr result (StopsOnlyAsFailed D.faults self.old self.new) }
+        ensures says { IfErr result (SaysThatItFailed self.old) }
         ensures over { self.old.files.failed ≡ true → self.new.files ≡ self.old.files }
         ensures err { IfErr result (λ e. IsRefused e (stored_as self.old) (stored_as self.new)) }
         ensures cause { IfErr result (λ e. is_due self.old ≡ false → IsUnstored D.faults (LacksRoom self.old) self.old.files self.new.files self.old.faults e) }
@@ -736,15 +760,17 @@ impl<D: Disk + Send> Pages for FilePages<D> {
     }
 
     /// Raises the mark, which is durable at once, also while a group is open. At any moment a crash leaves files that are right for the
-    /// store before, with the mark that it had or this one.
+    /// store before, with the mark that it had or this one. It is refused as a flush is.
     fn set_aside(&mut self, upto: u64) -> Result<()>
         requires { (stored_as self.old).mark ≤ upto }
         ensures ok { OnOk result (stored_as self.new ≡ record (stored_as self.old) { mark = upto }) }
         ensures err { IfErr result (λ e. IsRefused e (stored_as self.old) (stored_as self.new)) }
         ensures asked { OnOk result (self.new.asked ≡ self.old.asked) }
         ensures asks { OnErr result (AsksFor upto self.old self.new) }
-        // Once a disk refused a call, it is refused, until the disks are opened again.
+        // Once a disk refused a call, it is refused, and says that.
         ensures up { OnOk result ((self.old.files.failed ≡ false) × (self.new.files.failed ≡ false)) }
+        ensures stops { IfErr result (StopsOnlyAsFailed D.faults self.old self.new) }
+        ensures says { IfErr result (SaysThatItFailed self.old) }
         ensures over { self.old.files.failed ≡ true → self.new.files ≡ self.old.files }
         ensures cause { IfErr result (λ e. IsUnstored D.faults (LacksRoom self.old) self.old.files self.new.files self.old.faults e) }
         ensures rule { KeepsRule self.old self.new }
@@ -754,13 +780,15 @@ impl<D: Disk + Send> Pages for FilePages<D> {
         ensures any_moment { LeavesPairs D.moment D.left_since D.may_leave self.old.files self.new.files (IsLasting (upto ∷ asked_of self.old.asked) self.old.limits (stored_as self.old)) }
     {
         self.files.law_time();
+        if self.files.failed() {
+            return Err(fault(&mut self.faults, DISK_FAILED));
+        }
         let block = match spelled(self.alloc, Change::Marked(upto)) {
             Ok(block) => block,
             Err(e) => return Err(e),
         };
-        let was_over = self.files.failed();
         if let Err(e) = add(&mut self.files, &mut self.faults, &block) {
-            self.asked = asked_then(self.asked, upto, was_over, self.files.failed());
+            self.asked = asked_then(self.asked, upto, self.files.failed());
             return Err(e);
         }
         self.mark = upto;

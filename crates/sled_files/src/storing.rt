@@ -18,7 +18,7 @@ pub const USED_UP: u32 = 3;
 /// The code of the fault that a disk has no room, or that the log or its generation would be too large.
 pub const DISK_FULL: u32 = 4;
 
-/// The code of the fault that a disk failed in another way, or that one refused a call before.
+/// The code of the fault that a disk failed in another way or had no memory while a file was changed, or that one refused a call before.
 pub const DISK_FAILED: u32 = 5;
 
 /// A fault, while faults can be counted.

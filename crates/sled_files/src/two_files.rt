@@ -1,6 +1,6 @@
 //! Two files of which one counts, and how what they stand for changes.
 ghost use Rattle.std.specs.Prelude.{◌≡◌, ℕ, ◌+◌, ◌≤◌, ◌<◌, ◌^◌, List, length, true, false, [], ◌∷◌, ◌++◌, IfOk, IfErr, OnOk, Err};
-ghost use Rattle.sled_disk.specs.Disk.{Only, LeavesOnly, HasCause};
+ghost use Rattle.sled_disk.specs.Disk.{Only, LeavesOnly, HasCause, is_caused};
 ghost use Rattle.sled_disk.specs.declared.disk.DiskError.TheVariants.{Failed};
 ghost use Rattle.sled_bytes.specs.declared.change.Change.{Change};
 ghost use Rattle.sled_files.specs.Change.{Durable, nothing_yet, changed_all, AreOfStore, AreAdded};
@@ -8,7 +8,7 @@ ghost use Rattle.sled_log.specs.Log.{IsLog};
 ghost use Rattle.sled_log.specs.Append.{IsBlockFor, IsBeforeOrAfter};
 ghost use Rattle.sled_files.specs.Standing.{StandsWith, IsBegun};
 ghost use Rattle.sled_files.specs.Pending.{Spells};
-ghost use Rattle.sled_files.specs.Files.{picked, KeepsTime};
+ghost use Rattle.sled_files.specs.Files.{picked, KeepsTime, is_stop};
 ghost use Rattle.sled_files.specs.theory.Begun.{IsFirstBlock, IsEmptied};
 
 use crate::begin::{begin_with, empty, first_block};
@@ -29,6 +29,16 @@ fn laws_of<D: Disk>(first: &D, second: &D)
     law_only_now(first);
     law_counts_now(second);
     law_only_now(second);
+}
+
+// Why the files stop, if a disk refused to change one. Of a disk without memory the file may be half changed, so it counts as failed.
+fn stop_of(e: DiskError) -> DiskError
+    ensures { (before now : ℕ) → is_caused before now e → is_stop before now result }
+{
+    match e {
+        DiskError::NoMemory => DiskError::Failed,
+        e => e,
+    }
 }
 
 // Adds a block to the log of the file that counts.
@@ -269,8 +279,8 @@ impl<D: Disk> TwoFiles<D> {
 
     /// Adds changes to those for which the files stand, as one block of the log that counts, and brings them to the disk. Then it empties
     /// the other file, if that was not done before. At any moment a crash leaves files that stand for what they stood for, or for that with
-    /// all of the changes. Refused with `NoMemory` or, if the log would be too long, `Full`, and then nothing changed; by the disk, and
-    /// then all calls are refused from then on, with `Failed`.
+    /// all of the changes. Refused with `NoMemory` or, if the log would be too long, `Full`, and then nothing changed; by the disk, with
+    /// `Full` or `Failed`, and then all calls are refused from then on, with `Failed`. A disk that has no memory counts as failed.
     ///
     /// ```
     /// files.append(&[5, 6])?; // A group begins, and ends. No crash takes it back.
@@ -307,7 +317,9 @@ impl<D: Disk> TwoFiles<D> {
             &block,
         );
         laws_of(&self.first, &self.second);
-        added?;
+        if let Err(e) = added {
+            return Err(stop_of(e));
+        }
         self.gate += block.len();
         self.failed = false;
         Ok(())
@@ -344,7 +356,9 @@ impl<D: Disk> TwoFiles<D> {
         self.failed = true;
         let begun = begin_other(&mut self.first, &mut self.second, self.is_second, &block);
         laws_of(&self.first, &self.second);
-        begun?;
+        if let Err(e) = begun {
+            return Err(stop_of(e));
+        }
         self.is_second = !self.is_second;
         self.gate = block.len();
         self.snapshot = payload.len();

@@ -1,5 +1,5 @@
 -- What a file of the operating system shows.
-use Rattle.std.specs.Prelude.{◌≡◌, ℕ, false, List, [], ◌∷◌}
+use Rattle.std.specs.Prelude.{◌≡◌, ℕ, Bool, false, List, [], ◌∷◌}
 use Rattle.sled_host.specs.Event.{Event, opened}
 use Rattle.sled_host.specs.Outcomes.{seen_after_all, MayLeave, LeftSince}
 use Rattle.sled_host.specs.declared.host.HostFile.{HostFile}
@@ -20,9 +20,17 @@ outcomes_of file = MayLeave (calls_of file)
 abbrev pub outcomes_since : HostFile → ℕ → List ℕ → Type 0
 outcomes_since file = LeftSince (calls_of file)
 
--- the opening did not make the file, and no call came after it
+-- its opening found it or made it, and no call came after that: it has what it had
+abbrev pub IsUntouched : HostFile → Type 0
+IsUntouched file = (is_new : Bool) × (calls_of file ≡ opened is_new (bytes_of file) ∷ [])
+
+-- its opening found it, and no call came after that
 abbrev pub WasThere : HostFile → Type 0
 WasThere file = calls_of file ≡ opened false (bytes_of file) ∷ []
+
+-- whether the system locked it as it was opened
+abbrev pub was_locked : HostFile → Bool
+was_locked file = file.system.is_locked
 
 -- how many calls were refused for a fault
 abbrev pub faults_of : HostFile → ℕ

@@ -7,10 +7,9 @@ ghost use Rattle.sled_host.specs.Event.{opened};
 ghost use Rattle.sled_host.specs.Outcomes.{seen_after_all, MayLeave, LeftSince};
 ghost use Rattle.sled_host.specs.Stops.{has_failed, has_stopped};
 
-use crate::system::SystemFile;
+use crate::system::{OpenFile, SystemFile};
 use sled_disk::{Disk, DiskError, Result};
 use std::alloc::Global;
-use std::fs::File;
 use std::io::{self, ErrorKind};
 
 /// A file of the operating system. It can be read until its first change: what it had at its opening is kept in memory until then,
@@ -30,15 +29,16 @@ pub struct HostFile {
 }
 
 impl HostFile {
-    ghost use Rattle.sled_host.specs.Host.{calls_of, bytes_of, outcomes_of, faults_of};
+    ghost use Rattle.sled_host.specs.Host.{calls_of, bytes_of, outcomes_of, faults_of, was_locked};
 
-    /// An open file, brought to the disk and read. It is new if its opening made it.
-    pub(crate) fn settle(alloc: Global, file: File, is_new: bool) -> io::Result<HostFile>
-        ensures opened { IfOk result (λ f. calls_of f ≡ opened is_new (bytes_of f) ∷ []) }
+    /// An open file, brought to the disk and read.
+    pub(crate) fn settle(alloc: Global, file: OpenFile) -> io::Result<HostFile>
+        ensures opened { IfOk result (λ f. calls_of f ≡ opened file.is_new (bytes_of f) ∷ []) }
+        ensures locked { IfOk result (λ f. was_locked f ≡ file.is_locked) }
         ensures durable { IfOk result (λ f. Only (bytes_of f) (outcomes_of f)) }
         ensures unfailing { IfOk result (λ f. faults_of f ≡ 0) }
     {
-        let (system, bytes) = SystemFile::settle(alloc, file, is_new)?;
+        let (system, bytes) = SystemFile::settle(alloc, file)?;
         Ok(HostFile {
             system,
             len: bytes.len(),

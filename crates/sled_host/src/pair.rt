@@ -1,16 +1,15 @@
 //! The two files of a store, in a folder: made if they are not there, locked, and opened.
 ghost use Rattle.std.specs.Prelude.{◌≡◌, true, false, IfOk, IfErr, IfSome};
 ghost use Rattle.sled_disk.specs.Disk.{Only};
-ghost use Rattle.sled_host.specs.Host.{bytes_of, outcomes_of, faults_of, WasThere};
+ghost use Rattle.sled_host.specs.Host.{bytes_of, outcomes_of, faults_of, was_locked, IsUntouched, WasThere};
 ghost use Rattle.sled_host.specs.declared.pair.Opening.{Opening};
-ghost use Rattle.sled_host.specs.Pair.{AreFound, is_no_lock, is_why_unpaired};
+ghost use Rattle.sled_host.specs.Pair.{OpensPair, is_no_lock, is_why_unpaired};
 
 use crate::host::HostFile;
+use crate::system::OpenFile;
 use std::fmt::{self, Display, Formatter, Write};
-use std::fs::{self, File, OpenOptions, TryLockError};
+use std::fs::{self, File, TryLockError};
 use std::io::{self, ErrorKind};
-use std::os::fd::AsRawFd;
-use std::os::unix::fs::MetadataExt;
 use std::path::PathBuf;
 
 /// The name of the first file.
@@ -101,10 +100,8 @@ pub fn open_pair(rt: &HostRuntime, path: &str, opening: Opening) -> Result<Pair,
     ensures first { IfOk result (λ pair. Only (bytes_of pair.first) (outcomes_of pair.first)) }
     ensures second { IfOk result (λ pair. Only (bytes_of pair.second) (outcomes_of pair.second)) }
     ensures unfailing { IfOk result (λ pair. (faults_of pair.first ≡ 0) × (faults_of pair.second ≡ 0)) }
-    // Files that cannot be locked are opened only if that is allowed.
-    ensures locked { IfOk result (λ pair. opening.needs_lock ≡ true → pair.is_locked ≡ true) }
-    // If none is to be made, both were there.
-    ensures found { IfOk result (λ pair. AreFound opening pair.first pair.second) }
+    // They are as they were found, and locked if `is_locked` says so. If none is to be made, both were there.
+    ensures pair { IfOk result (λ pair. OpensPair opening pair.first pair.second pair.is_locked) }
     ensures err { IfErr result (is_why_unpaired opening) }
 {
     let is_new = opening.creates && make_folder(rt, path)?;
@@ -119,8 +116,7 @@ fn open_both(rt: &HostRuntime, folder: &PathBuf, opening: Opening) -> Result<Pai
     ensures first { IfOk result (λ pair. Only (bytes_of pair.first) (outcomes_of pair.first)) }
     ensures second { IfOk result (λ pair. Only (bytes_of pair.second) (outcomes_of pair.second)) }
     ensures unfailing { IfOk result (λ pair. (faults_of pair.first ≡ 0) × (faults_of pair.second ≡ 0)) }
-    ensures locked { IfOk result (λ pair. opening.needs_lock ≡ true → pair.is_locked ≡ true) }
-    ensures found { IfOk result (λ pair. AreFound opening pair.first pair.second) }
+    ensures pair { IfOk result (λ pair. OpensPair opening pair.first pair.second pair.is_locked) }
     ensures err { IfErr result (is_why_unpaired opening) }
 {
     let (first, is_first_locked) = open_file(rt, folder, FIRST, opening)?;
@@ -161,69 +157,60 @@ fn open_file(
 ) -> Result<(HostFile, bool), HostError>
     ensures durable { IfOk result (λ it. Only (bytes_of it.0) (outcomes_of it.0)) }
     ensures unfailing { IfOk result (λ it. faults_of it.0 ≡ 0) }
-    ensures locked { IfOk result (λ it. opening.needs_lock ≡ true → it.1 ≡ true) }
+    ensures untouched { IfOk result (λ it. IsUntouched it.0) }
     ensures found { IfOk result (λ it. opening.creates ≡ false → WasThere it.0) }
+    ensures locked { IfOk result (λ it. it.1 ≡ was_locked it.0) }
+    ensures needed { IfOk result (λ it. opening.needs_lock ≡ true → it.1 ≡ true) }
     ensures err { IfErr result (is_why_unpaired opening) }
 {
     let path = folder.join(rt.alloc(), name)?;
-    let (file, is_new) = open_or_make(rt, path.as_str(), opening.creates)?;
-    let is_locked = lock(&file, opening.needs_lock)?;
-    if !is_named(rt, &file, path.as_str())? {
+    let mut file = open_or_make(rt, path.as_str(), opening.creates)?;
+    let is_locked = lock(&mut file, opening.needs_lock)?;
+    if !file.is_named(rt, path.as_str())? {
         return Err(HostError::NotAFile);
     }
-    Ok((HostFile::settle(rt.alloc(), file, is_new)?, is_locked))
+    Ok((HostFile::settle(rt.alloc(), file)?, is_locked))
 }
 
-// A regular file, which is made if nothing is at the path, and whether it was made.
-fn open_or_make(rt: &HostRuntime, path: &str, creates: bool) -> Result<(File, bool), HostError>
-    ensures found { IfOk result (λ it. creates ≡ false → it.1 ≡ false) }
+// A regular file, which is made if nothing is at the path and that is wanted.
+fn open_or_make(rt: &HostRuntime, path: &str, creates: bool) -> Result<OpenFile, HostError>
+    ensures found { IfOk result (λ it. creates ≡ false → it.is_new ≡ false) }
     ensures err { IfErr result is_no_lock }
 {
     match open_new(rt, path, creates)? {
-        Some(file) => Ok((off_streams(file)?, true)),
-        None => Ok((off_streams(open_old(rt, path)?)?, false)),
-    }
-}
-
-// What is meant for a standard stream that was closed must not land in a store.
-fn off_streams(file: File) -> io::Result<File> {
-    if file.as_raw_fd() <= 2 {
-        file.try_clone()
-    } else {
-        Ok(file)
+        Some(file) => Ok(file),
+        None => open_old(rt, path),
     }
 }
 
 // A new file, unless something is at the path or none is to be made.
-fn open_new(rt: &HostRuntime, path: &str, creates: bool) -> io::Result<Option<File>>
+fn open_new(rt: &HostRuntime, path: &str, creates: bool) -> io::Result<Option<OpenFile>>
     ensures { IfOk result (λ made. IfSome made (λ _. creates ≡ true)) }
 {
     if !creates {
         return Ok(None);
     }
-    match File::create_new(rt, path) {
-        Ok(file) => Ok(Some(file)),
-        Err(error) if error.kind() == ErrorKind::AlreadyExists => Ok(None),
-        Err(error) => Err(error),
-    }
+    OpenFile::make(rt, path)
 }
 
 // The file that is at the path. A link, a pipe or a device is not opened.
-fn open_old(rt: &HostRuntime, path: &str) -> Result<File, HostError>
-    ensures { IfErr result is_no_lock }
+fn open_old(rt: &HostRuntime, path: &str) -> Result<OpenFile, HostError>
+    ensures found { IfOk result (λ it. it.is_new ≡ false) }
+    ensures err { IfErr result is_no_lock }
 {
     if !fs::symlink_metadata(rt, path)?.is_file() {
         return Err(HostError::NotAFile);
     }
-    Ok(OpenOptions::new().read(true).write(true).open(rt, path)?)
+    Ok(OpenFile::open(rt, path)?)
 }
 
 // Locks a file for as long as it is open, and says whether that could be done.
-fn lock(file: &File, needs_lock: bool) -> Result<bool, HostError>
-    ensures ok { IfOk result (λ is_locked. needs_lock ≡ true → is_locked ≡ true) }
+fn lock(file: &mut OpenFile, needs_lock: bool) -> Result<bool, HostError>
+    ensures ok { IfOk result (λ is_locked. (is_locked ≡ file.new.is_locked) × (needs_lock ≡ true → is_locked ≡ true)) }
+    ensures same { file.new.is_new ≡ file.old.is_new }
     ensures err { IfErr result (λ e. (opening : Opening) → opening.needs_lock ≡ needs_lock → is_why_unpaired opening e) }
 {
-    match file.try_lock() {
+    match file.lock() {
         Ok(()) => Ok(true),
         Err(TryLockError::WouldBlock) => Err(HostError::Locked),
         Err(TryLockError::Error(error)) => {
@@ -234,13 +221,6 @@ fn lock(file: &File, needs_lock: bool) -> Result<bool, HostError>
             }
         }
     }
-}
-
-// Whether the path still names the file that was opened.
-fn is_named(rt: &HostRuntime, file: &File, path: &str) -> io::Result<bool> {
-    let opened = file.metadata()?;
-    let named = fs::symlink_metadata(rt, path)?;
-    Ok(named.is_file() && opened.dev() == named.dev() && opened.ino() == named.ino())
 }
 
 // Brings the names of the files to the disk, and that of the folder.

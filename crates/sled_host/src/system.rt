@@ -1,30 +1,98 @@
-//! The calls of the system that are made of an open file: each method makes one, and then notes it with its answer.
-ghost use Rattle.std.specs.Prelude.{◌≡◌, [], ◌∷◌, is_ok, IfOk};
+//! The calls of the system by which a file is opened, locked, read, written, cut and brought to the disk. Each method of an open file makes
+//! one, and then notes it with its answer.
+ghost use Rattle.std.specs.Prelude.{◌≡◌, true, false, [], ◌∷◌, is_ok, IfOk, IfSome};
 ghost use Rattle.sled_host.specs.Event.{opened, wrote, cut, synced};
 ghost use Rattle.sled_host.specs.Noted.{event_of};
 
 use crate::record::{Call, Record};
 use std::alloc::Global;
-use std::fs::File;
-use std::io::{self, Read};
-use std::os::unix::fs::FileExt;
+use std::fs::{self, File, OpenOptions, TryLockError};
+use std::io::{self, ErrorKind, Read};
+use std::os::fd::AsRawFd;
+use std::os::unix::fs::{FileExt, MetadataExt};
+
+/// A file that the operating system opened or made, before anything is read or changed.
+#[derive(Drop)]
+pub struct OpenFile {
+    file: File,
+    is_new: bool,
+    is_locked: bool,
+}
+
+impl OpenFile {
+    /// Makes a file, unless something is at the path.
+    pub fn make(rt: &HostRuntime, path: &str) -> io::Result<Option<OpenFile>>
+        ensures { IfOk result (λ made. IfSome made (λ it. it.is_new ≡ true)) }
+    {
+        match File::create_new(rt, path) {
+            Ok(file) => Ok(Some(OpenFile {
+                file: off_streams(file)?,
+                is_new: true,
+                is_locked: false,
+            })),
+            Err(error) if error.kind() == ErrorKind::AlreadyExists => Ok(None),
+            Err(error) => Err(error),
+        }
+    }
+
+    /// Opens the file at the path, and leaves it as it is.
+    pub fn open(rt: &HostRuntime, path: &str) -> io::Result<OpenFile>
+        ensures { IfOk result (λ it. it.is_new ≡ false) }
+    {
+        let file = OpenOptions::new().read(true).write(true).open(rt, path)?;
+        Ok(OpenFile {
+            file: off_streams(file)?,
+            is_new: false,
+            is_locked: false,
+        })
+    }
+
+    /// Locks it for as long as it is open.
+    pub fn lock(&mut self) -> std::result::Result<(), TryLockError>
+        ensures locked { self.new.is_locked ≡ is_ok result }
+        ensures same { self.new.is_new ≡ self.old.is_new }
+    {
+        let answer = self.file.try_lock();
+        self.is_locked = answer.is_ok();
+        answer
+    }
+
+    /// Whether the path still names it.
+    pub fn is_named(&self, rt: &HostRuntime, path: &str) -> io::Result<bool> {
+        let opened = self.file.metadata()?;
+        let named = fs::symlink_metadata(rt, path)?;
+        Ok(named.is_file() && opened.dev() == named.dev() && opened.ino() == named.ino())
+    }
+}
 
 /// An open file of the operating system, with its calls so far.
 #[derive(Drop)]
 pub struct SystemFile {
     file: File,
+    pub is_locked: bool,
     pub record: Record,
 }
 
 impl SystemFile {
-    /// Brings an open file to the disk, and reads all that it has. It is new if its opening made it.
-    pub fn settle(alloc: Global, file: File, is_new: bool) -> io::Result<(SystemFile, Vec<u8>)>
-        ensures { IfOk result (λ it. it.0.record.events ≡ opened is_new it.1.items ∷ []) }
+    /// Brings an open file to the disk, and reads all that it has.
+    pub fn settle(alloc: Global, found: OpenFile) -> io::Result<(SystemFile, Vec<u8>)>
+        ensures opened { IfOk result (λ it. it.0.record.events ≡ opened found.is_new it.1.items ∷ []) }
+        ensures locked { IfOk result (λ it. it.0.is_locked ≡ found.is_locked) }
     {
+        let OpenFile {
+            file,
+            is_new,
+            is_locked,
+        } = found;
         file.sync_all()?;
         let bytes = whole(alloc, &file)?;
         let record = Record::new().and(&Call::Opened(is_new, &bytes));
-        Ok((SystemFile { file, record }, bytes))
+        let system = SystemFile {
+            file,
+            is_locked,
+            record,
+        };
+        Ok((system, bytes))
     }
 
     /// Writes all of the bytes at a place.
@@ -58,6 +126,15 @@ impl SystemFile {
         ensures { self.new.record.events ≡ event_of call.now ∷ self.old.record.events }
     {
         self.record = self.record.and(call);
+    }
+}
+
+// What is meant for a standard stream that was closed must not land in a store.
+fn off_streams(file: File) -> io::Result<File> {
+    if file.as_raw_fd() <= 2 {
+        file.try_clone()
+    } else {
+        Ok(file)
     }
 }
 

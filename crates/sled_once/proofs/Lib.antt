@@ -1,3 +1,4 @@
+pub mod Blocks
 pub mod Ending
 pub mod Reading
 pub mod Going

@@ -8,15 +8,31 @@ ghost use Rattle.sled_once.specs.Stages.{IsBlock, EndsAs, EndsIn};
 
 use crate::stage::End;
 use sled_disk::Result;
-use sled_log::{block_of, read_log};
+use sled_log::{digest_of, read_log};
 use std::alloc::Global;
 
 const CLOSED: u8 = 0;
 
 const OPENED: u8 = 255;
 
-// How many bytes of a block behind its gate are no payload: two numbers, and the closed gate behind it.
-const AROUND: usize = 17;
+// Whether bytes are those of a block behind its gate and a closed gate.
+fn is_block(bytes: &[u8]) -> bool
+    ensures { result ≡ true → IsBlock bytes.now }
+{
+    let Some((count, behind)) = bytes.split_first_chunk::<8>() else {
+        return false;
+    };
+    let Some((told, behind)) = behind.split_first_chunk::<8>() else {
+        return false;
+    };
+    let Some((gate, payload)) = behind.split_last() else {
+        return false;
+    };
+    if *gate != CLOSED || u64::from_le_bytes(*count) != payload.len() as u64 {
+        return false;
+    }
+    u64::from_le_bytes(*told) == digest_of(payload)
+}
 
 /// A copy of the bytes, if they are those of a block behind its gate and a closed gate.
 pub fn block_in(alloc: Global, bytes: &[u8]) -> Result<Option<Vec<u8>>>
@@ -24,12 +40,8 @@ pub fn block_in(alloc: Global, bytes: &[u8]) -> Result<Option<Vec<u8>>>
     ensures same { IfOk result (λ o. IfSome o (λ block. block.items ≡ bytes.now)) }
     ensures err { IfErr result (λ e. e ≡ NoMemory) }
 {
-    if bytes.len() < AROUND {
-        return Ok(None);
-    }
-    let block = block_of(alloc, &bytes[AROUND - 1..bytes.len() - 1])?;
-    if block.as_slice() == bytes {
-        Ok(Some(block))
+    if is_block(bytes) {
+        Ok(Some(bytes.to_vec(alloc)?))
     } else {
         Ok(None)
     }

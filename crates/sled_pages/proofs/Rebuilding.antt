@@ -16,17 +16,16 @@ use Rattle.sled_store.specs.declared.page.Page.{Page}
 use Rattle.sled_pages.specs.declared.memory.slots.Slot.{Slot}
 use Rattle.sled_pages.specs.Joined.{joined}
 use Rattle.sled_pages.specs.Rows.{lies_in, has_in}
-use Rattle.sled_pages.specs.Parts.{Parts, node_of, linked}
+use Rattle.sled_pages.specs.Parts.{Parts, node_of}
 use Rattle.sled_pages.specs.Table.{page_of, pages_of, slot_given}
 use Rattle.sled_pages.specs.Numbered.{numbered}
 use Rattle.sled_pages.specs.Memory.{meaning}
 use Rattle.sled_pages.specs.Rebuild.{Rebuilt, with_page, with_link, without_page, rebuilt_store}
 use Rattle.sled_pages.specs.theory.Table.{table}
 use Rattle.sled_pages.specs.declared.memory.undo.Undo.{Undo}
-use Rattle.sled_pages.specs.theory.Table.{slot_linked}
+use Rattle.sled_pages.specs.theory.Table.{slot_settled}
 use Rattle.sled_pages.specs.Building.{IsUnused, IsBuilding}
 use Rattle.sled_pages.proofs.Places.{one_place}
-use Rattle.sled_pages.proofs.Linked.{node_linked, out_in}
 
 -- a slot that lies at a place has that place
 pub lies_there : (rows : ℕ → List (Option Slot)) (i : ℕ) (o : Option Slot) → o ≡ lies_in rows i → is_some o ≡ true → has_in rows i ≡ true
@@ -39,14 +38,6 @@ lies_there rows i (Some slot) e f = lt-ltb (i % 64) _ (slice_get_within (rows (i
 
 abbrev slot_at : ℕ → Parts → Option Slot
 slot_at version page = Some (record { version = version; page = page })
-
-pub links_at : (link : Link) (i version : ℕ) (s t u : ℕ → Option Slot) (o : Option Slot) (slot : Slot) (page : Parts) → o ≡ s i → o ≡ Some slot → t ≡ put_at s i None → u ≡ put_at t i (slot_at version page) →
-    page ≡ linked link slot.page → u ≡ put_at s i (slot_linked link version (s i))
-links_at link i version s t u o slot page was is out inn e =
-    out_in s t u i (slot_at version page) out inn ∙ (ap (λ n. put_at s i (slot_at version n)) e ∙ ap (λ x. put_at s i (slot_linked link version x)) (sym is ∙ was))
-
-pub links_none : (link : Link) (i version : ℕ) (s t : ℕ → Option Slot) (o : Option Slot) → o ≡ s i → o ≡ None → t ≡ put_at s i None → t ≡ put_at s i (slot_linked link version (s i))
-links_none link i version s t o was is out = out ∙ ap (λ x. put_at s i (slot_linked link version x)) (sym is ∙ was)
 
 -- the pages by number
 pub page_put : (own new : ℕ → Option Slot) (i pid : ℕ) (slot : Option Slot) → 0 < pid → i ≡ pid - 1 → new ≡ put_at own i slot → pages_of (numbered new) ≡ put_at (pages_of (numbered own)) pid (option_map page_of slot)
@@ -69,9 +60,9 @@ page_put own new i pid slot h e p = one_place (pages_of (numbered new)) (pages_o
     other q k false f = ap (λ g. g (q - 1)) p ∙ put_elsewhere own i (q - 1) slot (apart q k f)
 
 -- a page with one link more
-linked_page : (version : ℕ) (link : Link) (o : Option Slot) → option_map page_of (slot_linked link version o) ≡ option_map (λ (p : Page). record { version = version; node = after_link link p.node }) (option_map page_of o)
-linked_page version link None = refl
-linked_page version link (Some s) = ap (λ n. Some (record { version = version; node = n })) (node_linked link s.page)
+settled_page : (version : ℕ) (link : Link) (o : Option Slot) → option_map page_of (slot_settled link version o) ≡ option_map (λ (p : Page). record { version = version; node = after_link link p.node }) (option_map page_of o)
+settled_page version link None = refl
+settled_page version link (Some s) = refl
 
 at_number : (own : ℕ → Option Slot) (i pid : ℕ) → 0 < pid → i ≡ pid - 1 → own i ≡ numbered own pid
 at_number own i pid h e = by (nat_eq pid 0) refl
@@ -83,11 +74,11 @@ at_number own i pid h e = by (nat_eq pid 0) refl
     by true f = absurd (positive f)
     by false f = ap own e
 
-pub page_linked : (link : Link) (own new : ℕ → Option Slot) (i pid version : ℕ) → 0 < pid → i ≡ pid - 1 → new ≡ put_at own i (slot_linked link version (own i)) →
+pub page_settled : (link : Link) (own new : ℕ → Option Slot) (i pid version : ℕ) → 0 < pid → i ≡ pid - 1 → new ≡ put_at own i (slot_settled link version (own i)) →
     pages_of (numbered new) ≡ put_at (pages_of (numbered own)) pid (option_map (λ (p : Page). record { version = version; node = after_link link p.node }) (pages_of (numbered own) pid))
-page_linked link own new i pid version h e p =
-    page_put own new i pid (slot_linked link version (own i)) h e p
-    ∙ (ap (put_at (pages_of (numbered own)) pid) (linked_page version link (own i))
+page_settled link own new i pid version h e p =
+    page_put own new i pid (slot_settled link version (own i)) h e p
+    ∙ (ap (put_at (pages_of (numbered own)) pid) (settled_page version link (own i))
     ∙ ap (λ o. put_at (pages_of (numbered own)) pid (option_map (λ (p : Page). record { version = version; node = after_link link p.node }) (option_map page_of o))) (at_number own i pid h e))
 
 -- what holds of a store in the making, after a call
@@ -132,11 +123,11 @@ put_builds own new roots i pid last last' next next' version page h e p l n b = 
     a3 : (x y z : ℕ) → z ≡ max x (y + 1) → nat_lt y z ≡ true
     a3 x y z k = grind (arith, nat_tests)
 
-pub link_builds : (link : Link) (own new : ℕ → Option Slot) (roots : List (Key × ℕ)) (i last next next' version : ℕ) → new ≡ put_at own i (slot_linked link version (own i)) → next' ≡ max next (version + 1) →
+pub link_builds : (link : Link) (own new : ℕ → Option Slot) (roots : List (Key × ℕ)) (i last next next' version : ℕ) → new ≡ put_at own i (slot_settled link version (own i)) → next' ≡ max next (version + 1) →
     IsBuilding own roots last next → IsBuilding new roots last next'
 link_builds link own new roots i last next next' version p n b = record {
-  unused = put_unused own new i last last (slot_linked link version (own i)) p (same last) (there (own i) refl) b.unused;
-  below = put_below own new i next next' (slot_linked link version (own i)) p (a1 next (version + 1) next' n) (given (own i)) b.below;
+  unused = put_unused own new i last last (slot_settled link version (own i)) p (same last) (there (own i) refl) b.unused;
+  below = put_below own new i next next' (slot_settled link version (own i)) p (a1 next (version + 1) next' n) (given (own i)) b.below;
   ascends = b.ascends;
 }
   where
@@ -149,7 +140,7 @@ link_builds link own new roots i last next next' version p n b = record {
     a3 : (x y z : ℕ) → z ≡ max x (y + 1) → nat_lt y z ≡ true
     a3 x y z k = grind (arith, nat_tests)
 
-    given : (o : Option Slot) → slot_given next' (slot_linked link version o) ≡ true
+    given : (o : Option Slot) → slot_given next' (slot_settled link version o) ≡ true
     given None = refl
     given (Some s) = a3 next version next' n
 
@@ -162,7 +153,7 @@ link_builds link own new roots i last next next' version p n b = record {
     none_some : (s : Slot) → None ≡ Some s → ⊥
     none_some s k = cc
 
-    there : (o : Option Slot) → own i ≡ o → (i < last ⊎ (slot_linked link version o ≡ None))
+    there : (o : Option Slot) → own i ≡ o → (i < last ⊎ (slot_settled link version o ≡ None))
     there None k = inr refl
     there (Some s) k = inl (by (nat_lt i last) refl)
       where
@@ -199,10 +190,10 @@ pub put_is : (own new : ℕ → Option Slot) (roots : Key → Option ℕ) (i pid
 put_is own new roots i pid last last' next next' version page node h e p k l n = rw (l, n, ← k) (
     ap (λ f. record (built own roots (max last pid) (max next (version + 1))) { pages = f }) (page_put own new i pid (slot_at version page) h e p))
 
-pub link_is : (link : Link) (own new : ℕ → Option Slot) (roots : Key → Option ℕ) (i pid last next next' version : ℕ) → 0 < pid → i ≡ pid - 1 → new ≡ put_at own i (slot_linked link version (own i)) → next' ≡ max next (version + 1) →
+pub link_is : (link : Link) (own new : ℕ → Option Slot) (roots : Key → Option ℕ) (i pid last next next' version : ℕ) → 0 < pid → i ≡ pid - 1 → new ≡ put_at own i (slot_settled link version (own i)) → next' ≡ max next (version + 1) →
     built new roots last next' ≡ with_link pid version link (built own roots last next)
 link_is link own new roots i pid last next next' version h e p n = rw n (
-    ap (λ f. record (built own roots last (max next (version + 1))) { pages = f }) (page_linked link own new i pid version h e p))
+    ap (λ f. record (built own roots last (max next (version + 1))) { pages = f }) (page_settled link own new i pid version h e p))
 
 pub free_is : (own mid new : ℕ → Option Slot) (roots : Key → Option ℕ) (i pid last next : ℕ) → 0 < pid → i ≡ pid - 1 → mid ≡ put_at own i None → new ≡ mid → built new roots last next ≡ without_page pid (built own roots last next)
 free_is own mid new roots i pid last next h e p s = ap (λ f. record (built own roots last next) { pages = f }) (page_put own new i pid None h e (s ∙ p))

@@ -1,5 +1,5 @@
 -- The outcome of opening a database in a folder.
-use Rattle.std.specs.Prelude.{◌≡◌, ◌⊎◌, true}
+use Rattle.std.specs.Prelude.{◌≡◌, ◌⊎◌, Bool, true}
 use Rattle.sled_nodes.specs.Order.{Key}
 use Rattle.sled_nodes.specs.declared.error.Error.{Error}
 use Rattle.sled_nodes.specs.declared.error.Error.TheVariants as error
@@ -9,7 +9,7 @@ use Rattle.sled_files.specs.Stored.{Stored, stored_as}
 use Rattle.sled_files.specs.Opening.{OpensTo, is_why_unopened, is_fault}
 use Rattle.sled_files.specs.declared.found.OpenError as file
 use Rattle.sled_host.specs.Host.{bytes_of, outcomes_of}
-use Rattle.sled_host.specs.Pair.{AreFound, is_why_unpaired}
+use Rattle.sled_host.specs.Pair.{OpensPair, is_why_unpaired}
 use Rattle.sled_host.specs.declared.host.HostFile.{HostFile}
 use Rattle.sled_host.specs.declared.pair.HostError.{HostError}
 use Rattle.sled_host.specs.declared.pair.Opening.{Opening}
@@ -20,26 +20,27 @@ use Rattle.sled.specs.Checked.{RefusesChecked, IsFit}
 use Rattle.sled_path.specs.declared.error.OpenError.{OpenError}
 use Rattle.sled_path.specs.declared.error.OpenError.TheVariants.{NotAStore, OtherFormat, Decayed, Locked, Io, Disk, Database}
 
--- the store that two files of an opening stand for, or a new one if both are blank. If no file was to be made, both were there
-pub record StoreIn (opening : Opening) (files : Files HostFile) (store : Store) : Type 0 where
+-- the store that two files stand for as they were found, or a new one if both are blank
+pub record StoreIn (opening : Opening) (is_locked : Bool) (files : Files HostFile) (store : Store) : Type 0 where
   pub first : HostFile
   pub second : HostFile
-  pub found : AreFound opening first second
+  pub pair : OpensPair opening first second is_locked
   pub opens : OpensTo bytes_of outcomes_of (bytes_of first) (bytes_of second) files store
 
 -- a database of this name was opened over it. Its pages are those of a database
-pub record OpensIn {M : Type 0} (opening : Opening) (name : Key) (db : DbValue (Stored HostFile) M) : Type 0 where
+pub record OpensIn {M : Type 0} (opening : Opening) (is_locked : Bool) (name : Key) (db : DbValue (Stored HostFile) M) : Type 0 where
   pub files : Files HostFile
   pub store : Store
-  pub is : StoreIn opening files store
+  pub is : StoreIn opening is_locked files store
   pub fit : IsFit (now store)
   pub opens : Opens stored_as store name db
 
--- two files of an opening are refused for this, the first thing that is wrong with what was read of them
+-- two files are refused for this, the first thing that is wrong with them as they were found
 pub record AreRefused (opening : Opening) (e : file.OpenError) : Type 0 where
   pub first : HostFile
   pub second : HostFile
-  pub found : AreFound opening first second
+  pub is_locked : Bool
+  pub pair : OpensPair opening first second is_locked
   pub why : is_why_unopened e (bytes_of first) (bytes_of second)
 
 -- the store that was opened is refused by a database for this
@@ -47,7 +48,8 @@ pub record IsUnfit (opening : Opening) (e : Error) : Type 0 where
   pub files : Files HostFile
   pub store : Store
   pub left : Store
-  pub is : StoreIn opening files store
+  pub is_locked : Bool
+  pub is : StoreIn opening is_locked files store
   pub why : RefusesChecked store e left
 
 -- What the operating system refused: want of memory, and a database that is open elsewhere, have names of their own. That there are no

@@ -1,10 +1,12 @@
 //! Why a database is not opened in a folder.
+ghost use Rattle.std.specs.Prelude.{Bool};
 ghost use Rattle.sled_files.specs.Opening.{is_why_closed as is_why_unfiled};
 ghost use Rattle.sled_host.specs.Host.{bytes_of};
-ghost use Rattle.sled_host.specs.Pair.{AreFound, is_why_unpaired};
+ghost use Rattle.sled_host.specs.Pair.{OpensPair, is_why_unpaired};
 ghost use Rattle.sled_host.specs.declared.host.HostFile.{HostFile};
 ghost use Rattle.sled_host.specs.declared.pair.Opening.{Opening};
 ghost use Rattle.sled_path.specs.Path.{is_why_closed};
+ghost use Rattle.sled_path.specs.Once.{AreWhole, is_why_closed_once};
 
 use sled_disk::DiskError;
 use sled_host::HostError;
@@ -32,7 +34,8 @@ pub enum OpenError {
 
 // Why the files of a folder were not opened.
 pub(crate) fn of_host(e: HostError) -> OpenError
-    ensures { (opening : Opening) → is_why_unpaired opening e → is_why_closed opening result }
+    ensures why { (opening : Opening) → is_why_unpaired opening e → is_why_closed opening result }
+    ensures why_once { (opening : Opening) → is_why_unpaired opening e → is_why_closed_once opening result }
 {
     match e {
         HostError::NoMemory => OpenError::Database(Error::NoMemory),
@@ -43,7 +46,8 @@ pub(crate) fn of_host(e: HostError) -> OpenError
 
 // Why no store was opened in them.
 pub(crate) fn of_files(e: sled_files::OpenError) -> OpenError
-    ensures { (opening : Opening) (first second : HostFile) → AreFound opening first second → is_why_unfiled e (bytes_of first) (bytes_of second) → is_why_closed opening result }
+    ensures why { (opening : Opening) (is_locked : Bool) (first second : HostFile) → OpensPair opening first second is_locked → is_why_unfiled e (bytes_of first) (bytes_of second) → is_why_closed opening result }
+    ensures why_once { (opening : Opening) (is_locked : Bool) (first second : HostFile) → AreWhole opening is_locked first second → is_why_unfiled e (bytes_of first) (bytes_of second) → is_why_closed_once opening result }
 {
     match e {
         sled_files::OpenError::NoMemory => OpenError::Database(Error::NoMemory),
@@ -51,6 +55,16 @@ pub(crate) fn of_files(e: sled_files::OpenError) -> OpenError
         sled_files::OpenError::OtherFormat(format) => OpenError::OtherFormat(format),
         sled_files::OpenError::Decayed(place) => OpenError::Decayed(place as u64),
         sled_files::OpenError::Disk(e) => OpenError::Disk(e),
+    }
+}
+
+// Why files were not mended.
+pub(crate) fn of_disk(e: DiskError) -> OpenError
+    ensures { (opening : Opening) → is_why_closed_once opening result }
+{
+    match e {
+        DiskError::NoMemory => OpenError::Database(Error::NoMemory),
+        e => OpenError::Disk(e),
     }
 }
 

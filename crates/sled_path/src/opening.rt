@@ -23,7 +23,7 @@ pub fn open<M: MergeOperator>(
     path: &str,
     name: &[u8],
 ) -> Result<Db<FilePages<HostFile>, M>, OpenError>
-    ensures ok { IfOk result (OpensIn usual name.now) }
+    ensures ok { IfOk result (OpensIn usual true name.now) }
     ensures err { IfErr result (is_why_closed usual) }
 {
     let opening = Opening {
@@ -50,7 +50,7 @@ pub fn open_with<M: MergeOperator>(
     name: &[u8],
     opening: Opening,
 ) -> Result<(Db<FilePages<HostFile>, M>, bool), OpenError>
-    ensures ok { IfOk result (λ opened. OpensIn opening name.now opened.0) }
+    ensures ok { IfOk result (λ opened. OpensIn opening opened.1 name.now opened.0) }
     ensures locked { IfOk result (λ opened. opening.needs_lock ≡ true → opened.1 ≡ true) }
     ensures err { IfErr result (is_why_closed opening) }
 {

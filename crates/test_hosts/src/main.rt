@@ -1,10 +1,13 @@
 //! The two files of a store, as the operating system keeps them. What was written is read at the next opening, and a file is read until it
-//! is changed. A store is opened once, and what is no store is refused. It prints the outcome of each; `stdout` has the expected ones.
+//! is changed. A store is opened once, and what is no store is refused. So it is with the database in them, whose files are also refused
+//! if they are in another format or have decayed. It prints the outcome of each; `stdout` has the expected ones.
 #![tactic(auto)]
 
 mod act;
+mod databases;
 
 use act::Act;
+use databases::{make_format_2, spoil, tell_database};
 use sled_host::{HostError, Opening, Pair, open_pair};
 use std::fs;
 use std::io::{self, ErrorKind};
@@ -18,6 +21,11 @@ const USUAL: Opening = Opening {
 const AS_IS: Opening = Opening {
     creates: false,
     needs_lock: true,
+};
+
+const UNLOCKED: Opening = Opening {
+    creates: true,
+    needs_lock: false,
 };
 
 // How an opening came out.
@@ -111,9 +119,61 @@ fn tell_other(rt: &HostRuntime) -> io::Result<()> {
     Ok(())
 }
 
+// A database is opened again with what was brought to the disk, and once as long as one of its files is held, locked if that can be.
+fn tell_databases(rt: &HostRuntime) {
+    tell_database(rt, "people", AS_IS);
+    tell_database(rt, "people", USUAL);
+    tell_database(rt, "people", AS_IS);
+    tell_database(rt, "people", UNLOCKED);
+    match open_pair(rt, "people", UNLOCKED) {
+        Ok(Pair { first, second, .. }) => {
+            drop(first);
+            tell_database(rt, "people", USUAL);
+            tell_database(rt, "people", UNLOCKED);
+            drop(second);
+        }
+        Err(error) => drop(error),
+    }
+}
+
+// A byte is another one: of a later block, of the first one, and of what says whose file it is.
+fn tell_decayed(rt: &HostRuntime) {
+    tell_database(rt, "decayed", USUAL);
+    for at in [38, 9, 17] {
+        if spoil(rt, "decayed", USUAL, at).is_err() {
+            let _ = println!(rt; "decayed: refused");
+        }
+        tell_database(rt, "decayed", USUAL);
+    }
+}
+
+// A store in another format.
+fn tell_format(rt: &HostRuntime) {
+    if make_format_2(rt, "format", USUAL).is_err() {
+        let _ = println!(rt; "format: refused");
+    }
+    tell_database(rt, "format", USUAL);
+}
+
+// Files that are not there are not made if they are not to be, also where one of the two is there. Two that have nothing are a new store.
+fn tell_as_is(rt: &HostRuntime) -> io::Result<()> {
+    fs::create_dir(rt, "half")?;
+    fs::write(rt, "half/log.0", b"".as_slice())?;
+    tell_database(rt, "half", AS_IS);
+    tell_database(rt, "half", AS_IS);
+    fs::write(rt, "half/log.1", b"".as_slice())?;
+    tell_database(rt, "half", AS_IS);
+    tell_database(rt, "half", AS_IS);
+    Ok(())
+}
+
 fn main(rt: HostRuntime) -> io::Result<()> {
     tell_written(&rt);
     tell_changed(&rt);
     tell_once(&rt);
-    tell_other(&rt)
+    tell_other(&rt)?;
+    tell_databases(&rt);
+    tell_decayed(&rt);
+    tell_format(&rt);
+    tell_as_is(&rt)
 }

@@ -79,7 +79,6 @@ fn check_bounds(node: &Node, lo: &[u8]) -> Result<()>
 // Tests a page of a chain that has reached this key: that it goes on there, that it is merging only as a merging child of the level above,
 // and the page itself. Then notes its level, if it was not found before.
 fn check_chained(
-    alloc: Global,
     node: &Node,
     pid: Pid,
     lo: &[u8],
@@ -101,7 +100,7 @@ fn check_chained(
     if node.merging && !is_child {
         return Err(corruption(WRONG_MERGE));
     }
-    match check_page(alloc, node, level.height) {
+    match check_page(node, level.height) {
         Ok(()) => set_level(levels, pid, level),
         Err(e) => Err(e),
     }
@@ -125,7 +124,7 @@ fn read_next<P: Pages>(
         Err(e) => return Err(e),
     };
     let is_child = children.contains(&pid.0);
-    if let Err(e) = check_chained(alloc, &view.node, pid, lo, level, is_child, levels) {
+    if let Err(e) = check_chained(&view.node, pid, lo, level, is_child, levels) {
         drop(view);
         return Err(e);
     }

@@ -1,10 +1,11 @@
 //! Pages one by one: how they are read, and what is asked of each by itself.
-ghost use Rattle.std.specs.Prelude.{ℕ, ◌≡◌, ◌<◌, ◌≤◌, true, false, Some, None, IfOk, IfErr, OnOk};
+ghost use Rattle.std.specs.Prelude.{ℕ, ◌≡◌, ◌<◌, ◌≤◌, ◌⊎◌, ◌++◌, [], true, false, Some, None, IfOk, IfErr, OnOk};
 ghost use Rattle.std.specs.FinMap.{is_sorted};
 ghost use Rattle.std.specs.List.{All};
 ghost use Rattle.std.specs.Cmp.Lexicographic.{slice_cmp};
 ghost use Rattle.std.specs.Ordering.{nat_cmp};
-ghost use Rattle.sled_nodes.specs.Order.{Key};
+ghost use Rattle.sled_nodes.specs.Order.{Key, Below, UpTo};
+ghost use Rattle.sled_nodes.specs.Prefix.{behind};
 ghost use Rattle.sled_nodes.specs.Node.{count as count_of, Within, pointers as pointers_in};
 ghost use Rattle.sled_nodes.specs.declared.error.Error.TheVariants.{NoMemory};
 ghost use Rattle.sled_store.specs.In.{In};
@@ -17,9 +18,10 @@ ghost use Rattle.tree_check.specs.theory.Walk.{RefusesPage, IsRead};
 use crate::findings::{
     MIXED_PAGES, TOO_MANY_ENTRIES, WRONG_ENTRIES, WRONG_MERGE, WRONG_POINTER_KEY, corruption,
 };
-use sled_nodes::{Data, Fault, IVec, Node, Pid, Result};
+use sled_nodes::{Data, Fault, IVec, Index, Leaf, Node, Pid, Result};
 use sled_store::{Pages, View};
 use std::alloc::Global;
+use std::cmp::Ordering;
 
 // A page has at most so many entries, and a merging child so many.
 const MOST: usize = 33;
@@ -39,12 +41,35 @@ pub fn page_at<P: Pages>(alloc: Global, pages: &P, pid: Pid, fault: Fault) -> Re
     }
 }
 
-// Whether a key is within the bounds.
-#[tactic(auto, unfolding(sled_nodes::specs::Order::key_cmp))]
-fn is_within(key: &IVec, lo: &IVec, hi: &IVec) -> bool
-    ensures { result ≡ true → Within lo.now hi.now key.now }
+// How a key compares to another one, of the bytes that it begins with and those behind them.
+fn compare_whole(front: &[u8], rest: &[u8], key: &[u8]) -> Ordering
+    ensures { result ≡ slice_cmp nat_cmp (front.now ++ rest.now) key.now }
 {
-    *lo <= *key && (hi.len() == 0 || *key < *hi)
+    let count = front.len();
+    if key.len() < count {
+        return front.cmp(key);
+    }
+    let first = front.cmp(&key[..count]);
+    if first.is_eq() {
+        return rest.cmp(&key[count..]);
+    }
+    first
+}
+
+// Whether a key is at or above a bound, of the bytes that it begins with and those behind them.
+#[tactic(auto, unfolding(sled_nodes::specs::Order::key_cmp))]
+fn is_from(front: &[u8], rest: &IVec, lo: &IVec) -> bool
+    ensures { result ≡ true → UpTo lo.now (front.now ++ rest.now) }
+{
+    !compare_whole(front, rest.as_ref(), lo.as_ref()).is_lt()
+}
+
+// Whether a key is below a bound, of the bytes that it begins with and those behind them. The empty bound is none.
+#[tactic(auto, unfolding(sled_nodes::specs::Order::key_cmp))]
+fn is_below(front: &[u8], rest: &IVec, hi: &IVec) -> bool
+    ensures { result ≡ true → (hi.now ≡ []) ⊎ Below (front.now ++ rest.now) hi.now }
+{
+    hi.len() == 0 || compare_whole(front, rest.as_ref(), hi.as_ref()).is_lt()
 }
 
 // Whether the keys ascend.
@@ -59,16 +84,23 @@ fn ascends<V>(entries: &[(IVec, V)]) -> bool
     true
 }
 
-// Whether all keys are within the bounds.
-fn are_within<V>(entries: &[(IVec, V)], lo: &IVec, hi: &IVec) -> bool
-    ensures { result ≡ true → All (λ e. Within lo.now hi.now e.0) entries.now }
+// Whether the keys of entries ascend and are within the bounds, of the bytes that all begin with and the entries behind them. Where the keys
+// ascend the first and the last of them tell of all.
+fn are_sound<V>(front: &[u8], rests: &[(IVec, V)], lo: &IVec, hi: &IVec) -> bool
+    ensures sorted { result ≡ true → is_sorted (slice_cmp nat_cmp) (behind front.now rests.now) ≡ true }
+    ensures within { result ≡ true → All (λ e. Within lo.now hi.now e.0) (behind front.now rests.now) }
 {
-    for entry in entries {
-        if !is_within(&entry.0, lo, hi) {
-            return false;
-        }
+    if rests.is_empty() {
+        return true;
     }
-    true
+    let (first, last) = (&rests[0].0, &rests[rests.len() - 1].0);
+    if !ascends(rests) {
+        return false;
+    }
+    if !is_from(front, first, lo) {
+        return false;
+    }
+    is_below(front, last, hi)
 }
 
 // Whether a pointer but the first leads to the page.
@@ -121,25 +153,43 @@ pub fn first_child(alloc: Global, node: &Node) -> Result<Option<Pid>>
     Ok(child)
 }
 
+// Whether an index begins at a key.
+fn begins_at(index: &Index, lo: &IVec) -> bool
+    ensures { result ≡ true → first_key index.now ≡ Some lo.now }
+{
+    let rests = index.rests();
+    if rests.len() == 0 {
+        return false;
+    }
+    compare_whole(index.prefix(), rests[0].0.as_ref(), lo.as_ref()).is_eq()
+}
+
+// Whether a pointer of an index but the first leads to the page.
+fn leads_later(index: &Index, child: Pid) -> bool
+    ensures { result ≡ true → (k : Key) × In (k, child) (later index.now) }
+{
+    is_later(index.rests(), child)
+}
+
 // Tests an index by itself.
-fn check_index(node: &Node, pointers: &[(IVec, Pid)]) -> Result<()>
-    ensures sorted { OnOk result (is_sorted (slice_cmp nat_cmp) pointers.now ≡ true) }
-    ensures within { OnOk result (All (λ e. Within node.now.lo node.now.hi e.0) pointers.now) }
-    ensures first { OnOk result (first_key pointers.now ≡ Some node.now.lo) }
-    ensures child { OnOk result ((c : ℕ) → node.now.merging_child ≡ Some c → (k : Key) × In (k, c) (later pointers.now)) }
+fn check_index(node: &Node, index: &Index) -> Result<()>
+    ensures sorted { OnOk result (is_sorted (slice_cmp nat_cmp) index.now ≡ true) }
+    ensures within { OnOk result (All (λ e. Within node.now.lo node.now.hi e.0) index.now) }
+    ensures first { OnOk result (first_key index.now ≡ Some node.now.lo) }
+    ensures child { OnOk result ((c : ℕ) → node.now.merging_child ≡ Some c → (k : Key) × In (k, c) (later index.now)) }
     ensures err { IfErr result RefusesPage }
 {
-    let Some(first) = pointers.first() else {
+    if index.len() == 0 {
         return Err(corruption(WRONG_ENTRIES));
-    };
-    if first.0 != node.lo {
+    }
+    if !begins_at(index, &node.lo) {
         return Err(corruption(WRONG_POINTER_KEY));
     }
-    if !ascends(pointers) || !are_within(pointers, &node.lo, &node.hi) {
+    if !are_sound(index.prefix(), index.rests(), &node.lo, &node.hi) {
         return Err(corruption(WRONG_ENTRIES));
     }
     if let Some(child) = node.merging_child {
-        if !is_later(pointers, child) {
+        if !leads_later(index, child) {
             return Err(corruption(WRONG_MERGE));
         }
     }
@@ -147,23 +197,23 @@ fn check_index(node: &Node, pointers: &[(IVec, Pid)]) -> Result<()>
 }
 
 // Tests a leaf by itself.
-fn check_leaf(node: &Node, pairs: &[(IVec, IVec)]) -> Result<()>
-    ensures sorted { OnOk result (is_sorted (slice_cmp nat_cmp) pairs.now ≡ true) }
-    ensures within { OnOk result (All (λ e. Within node.now.lo node.now.hi e.0) pairs.now) }
+fn check_leaf(node: &Node, leaf: &Leaf) -> Result<()>
+    ensures sorted { OnOk result (is_sorted (slice_cmp nat_cmp) leaf.now ≡ true) }
+    ensures within { OnOk result (All (λ e. Within node.now.lo node.now.hi e.0) leaf.now) }
     ensures child { OnOk result (node.now.merging_child ≡ None) }
     ensures err { IfErr result RefusesPage }
 {
     if node.merging_child.is_some() {
         return Err(corruption(WRONG_MERGE));
     }
-    if !ascends(pairs) || !are_within(pairs, &node.lo, &node.hi) {
+    if !are_sound(leaf.prefix(), leaf.rests(), &node.lo, &node.hi) {
         return Err(corruption(WRONG_ENTRIES));
     }
     Ok(())
 }
 
 // Tests what a page of this height has.
-fn check_content(alloc: Global, node: &Node, height: u64) -> Result<()>
+fn check_content(node: &Node, height: u64) -> Result<()>
     ensures sound { OnOk result (IsNodeAt height node.now) }
     ensures child { OnOk result ((c : ℕ) → node.now.merging_child ≡ Some c → (k : Key) × In (k, c) (later (pointers_in node.now.content))) }
     ensures err { IfErr result RefusesPage }
@@ -173,25 +223,13 @@ fn check_content(alloc: Global, node: &Node, height: u64) -> Result<()>
             if height != 0 {
                 return Err(corruption(MIXED_PAGES));
             }
-            let pairs = match leaf.pairs(alloc) {
-                Ok(pairs) => pairs,
-                Err(e) => return Err(e),
-            };
-            let done = check_leaf(node, pairs.as_slice());
-            drop(pairs);
-            match done {
-                Ok(()) => Ok(()),
-                Err(e) => Err(e),
+            if let Err(e) = check_leaf(node, leaf) {
+                return Err(e);
             }
+            Ok(())
         }
         Data::Index(index) => {
-            let pointers = match index.pairs(alloc) {
-                Ok(pointers) => pointers,
-                Err(e) => return Err(e),
-            };
-            let done = check_index(node, pointers.as_slice());
-            drop(pointers);
-            if let Err(e) = done {
+            if let Err(e) = check_index(node, index) {
                 return Err(e);
             }
             if height == 0 {
@@ -203,7 +241,7 @@ fn check_content(alloc: Global, node: &Node, height: u64) -> Result<()>
 }
 
 /// Tests a page of this height by itself.
-pub fn check_page(alloc: Global, node: &Node, height: u64) -> Result<()>
+pub fn check_page(node: &Node, height: u64) -> Result<()>
     ensures ok { OnOk result (IsPage height node.now) }
     ensures err { IfErr result RefusesPage }
 {
@@ -213,7 +251,7 @@ pub fn check_page(alloc: Global, node: &Node, height: u64) -> Result<()>
     if node.merging && node.merging_child.is_some() {
         return Err(corruption(WRONG_MERGE));
     }
-    check_content(alloc, node, height)
+    check_content(node, height)
 }
 
 /// Tests the number of entries of a merging child.

@@ -17,7 +17,7 @@ use std::alloc::Global;
 use std::collections::BTreeMap;
 
 // Tests a page that a pointer leads to and that is in no chain: it is to be merging, and so was received.
-fn check_received(alloc: Global, node: &Node, height: u64) -> Result<()>
+fn check_received(node: &Node, height: u64) -> Result<()>
     ensures page { OnOk result (IsPage height node.now) }
     ensures merging { OnOk result (node.now.merging ≡ true) }
     ensures err { IfErr result RefusesPage }
@@ -25,7 +25,7 @@ fn check_received(alloc: Global, node: &Node, height: u64) -> Result<()>
     if !node.merging {
         return Err(corruption(DANGLING_POINTER));
     }
-    check_page(alloc, node, height)
+    check_page(node, height)
 }
 
 // Tests that a pointer at this key fits the page that it leads to, which may be the merging child of the pointer's page.
@@ -56,12 +56,7 @@ fn merges(node: &Node, child: Pid) -> bool
 
 // Tests that a page that a pointer leads to was found on this level. One that was not found is to have been received, and is
 // noted then.
-fn check_level_of(
-    alloc: Global,
-    found: &View,
-    level: Level,
-    levels: &mut BTreeMap<u64, Level>,
-) -> Result<()>
+fn check_level_of(found: &View, level: Level, levels: &mut BTreeMap<u64, Level>) -> Result<()>
     ensures here { OnOk result (level_of levels.new found.now.pid ≡ Some level) }
     ensures kept { OnOk result ((q : ℕ) (z : LevelValue) → level_of levels.old q ≡ Some z → level_of levels.new q ≡ Some z) }
     ensures adds { OnOk result ((q : ℕ) (z : LevelValue) → level_of levels.new q ≡ Some z → (level_of levels.old q ≡ Some z) ⊎ ((z ≡ level) × (q ≡ found.now.pid) × IsPage level.height found.now.node × (found.now.node.merging ≡ true))) }
@@ -78,7 +73,7 @@ fn check_level_of(
                 Err(found_twice(old, level))
             }
         }
-        None => match check_received(alloc, &found.node, level.height) {
+        None => match check_received(&found.node, level.height) {
             Ok(()) => set_level(levels, found.pid, level),
             Err(e) => Err(e),
         },
@@ -107,7 +102,7 @@ fn check_pointer<P: Pages>(
         drop(found);
         return Err(e);
     }
-    let done = check_level_of(alloc, &found, level, levels);
+    let done = check_level_of(&found, level, levels);
     drop(found);
     match done {
         Ok(()) => Ok(()),

@@ -1,5 +1,5 @@
 -- Of Notes, for proofs. A call with copies of it, until they are noted.
-use Rattle.std.specs.Prelude.{◌≡◌, ℕ, List, [], ◌++◌, Option, Some}
+use Rattle.std.specs.Prelude.{◌≡◌, ℕ, List, [], ◌++◌, Option, Some, Ok}
 use Rattle.sled_store.specs.Store.{Store}
 use Rattle.sled_model.specs.Maps.{Merge}
 use Rattle.sled_model.specs.declared.call.Call.{Call}
@@ -8,7 +8,7 @@ use Rattle.sled_model.specs.declared.outcome.Outcome.{Outcome}
 use Rattle.sled_tree.specs.declared.flight.Job.{Job}
 use Rattle.machine_shared.specs.Made.{MadeValue}
 use Rattle.machine_shared.specs.Notes.{IsEnd, noted_of}
-use Rattle.machine_shared.specs.UnderLock.{EndsUnderLock}
+use Rattle.machine_shared.specs.UnderLock.{BeginsCall, EndsUnderLock, UnderLock}
 use Rattle.machine_shared.specs.Values.{CallerValue}
 use Rattle.machine_shared.specs.declared.called.Stepped.{Stepped}
 use Rattle.machine_shared.specs.declared.called.Stepped.TheVariants.{Ended, On}
@@ -32,3 +32,13 @@ AddsStepped tree call (On slot jobs) made more = AreCopies tree call jobs × (mo
 abbrev pub EndsStepped : {P M : Type 0} → (P → Store) → (P → ℕ) → (M → Merge) → Tree → Call → Stepped → CallerValue → CallerValue → Type 0
 EndsStepped store flush_number meant tree call (Ended o) me more = EndsUnderLock store flush_number meant tree call o me more
 EndsStepped store flush_number meant tree call (On slot jobs) me more = Unit {0}
+
+-- a call that goes on does so in this slot
+abbrev pub StaysIn : ℕ → Stepped → Type 0
+StaysIn slot (Ended o) = Unit {0}
+StaysIn slot (On s jobs) = s ≡ slot
+
+-- .. in which it had begun under the lock
+abbrev pub BeganStepped : {P M : Type 0} → (P → Store) → (P → ℕ) → (M → Merge) → Tree → Call → Stepped → Type 0
+BeganStepped store flush_number meant tree call (Ended o) = Unit {0}
+BeganStepped store flush_number meant tree call (On slot jobs) = UnderLock store (BeginsCall store flush_number meant tree call (Ok slot))

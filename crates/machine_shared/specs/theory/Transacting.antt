@@ -1,12 +1,15 @@
 -- Of Transactions, for proofs. What is noted of each part of a transaction.
-use Rattle.std.specs.Prelude.{◌≡◌, ◌⊎◌, ℕ, Bool, true, List, [], ◌∷◌, ◌++◌, Result, Ok, Err}
+use Rattle.std.specs.Prelude.{◌≡◌, ◌⊎◌, ℕ, Bool, true, false, List, [], ◌∷◌, ◌++◌, Option, Some, None, Result, Ok, Err}
 use Rattle.std.specs.Global.{Vec}
+use Rattle.sled_nodes.specs.declared.error.Error.{Error}
+use Rattle.sled_nodes.specs.declared.error.Error.TheVariants.{Unsupported}
 use Rattle.sled_batch.specs.Batch.{Writes}
 use Rattle.sled_store.specs.Store.{Store}
 use Rattle.sled_model.specs.Maps.{Merge}
+use Rattle.sled_model.specs.Refusal.{MustRefuse, IsForeign}
 use Rattle.sled_model.specs.declared.call.Whole.TheVariants.{Group}
 use Rattle.sled_model.specs.declared.outcome.Outcome.{Outcome}
-use Rattle.sled_model.specs.declared.outcome.Outcome.TheVariants.{Decided}
+use Rattle.sled_model.specs.declared.outcome.Outcome.TheVariants.{Decided, Refused}
 use Rattle.sled_model.specs.declared.outcome.Step.TheVariants as step
 use Rattle.sled_model.specs.declared.reply.Reply.{Reply}
 use Rattle.sled_model.specs.declared.reply.Reply.TheVariants.{Number}
@@ -16,7 +19,9 @@ use Rattle.tree_transactions.specs.declared.errors.TransactionError.TheVariants.
 use Rattle.machine_alone.specs.Step.{MachineStepContract}
 use Rattle.machine_alone.specs.Values.{MachineValue}
 use Rattle.machine_shared.specs.Made.{MadeValue, WholeMade}
+use Rattle.machine_shared.specs.Transacted.{CannotNote, DoesNothing, RefusesGroup}
 use Rattle.machine_shared.specs.Transactions.{flush_noted}
+use Rattle.machine_shared.specs.Values.{CallerValue, StateValue}
 use Rattle.machine_shared.specs.Wholes as value
 
 -- a whole call was decided, or it was not
@@ -28,11 +33,27 @@ abbrev pub is_undecided : Outcome → Type 0
 is_undecided (Decided reply) = ⊥
 is_undecided o = Unit {0}
 
--- a closure was run to this end; if it was refused the refusal may be another's
-abbrev pub ran_as : {E W : Type 0} → (Result W (TransactionError E) → Type 0) → Result W (TransactionError E) → Type 0
-ran_as reaches (Ok commit) = reaches (Ok commit)
-ran_as reaches (Err (Abort e)) = reaches (Err (Abort e))
-ran_as reaches (Err (Storage e)) = Unit {0}
+-- .. and if it was refused, with this error
+abbrev pub is_refused_as : Outcome → Error → Type 0
+is_refused_as (Decided reply) e = ⊥
+is_refused_as (Refused x) e = e ≡ x
+is_refused_as o e = Unit {0}
+
+-- something is not supported
+abbrev pub is_unsupported : Error → Bool
+is_unsupported (Unsupported text) = true
+is_unsupported e = false
+
+-- what the test comes to that trees are of this database
+abbrev pub foreign_if : Bool → Option MustRefuse
+foreign_if true = Some IsForeign
+foreign_if false = None
+
+-- a closure was run to this end, or a test refused that
+abbrev pub ran_as : {E W : Type 0} → (Error → Type 0) → (Result W (TransactionError E) → Type 0) → Result W (TransactionError E) → Type 0
+ran_as tests reaches (Ok commit) = reaches (Ok commit)
+ran_as tests reaches (Err (Abort e)) = reaches (Err (Abort e))
+ran_as tests reaches (Err (Storage e)) = tests e ⊎ reaches (Err (Storage e))
 
 module _ {P M : Type 0} (store : P → Store) (flush_number : P → ℕ) (meant : M → Merge) (old : MachineValue P M) (group : Vec (Tree × Writes)) (new : MachineValue P M) where
   -- a group was made
@@ -41,14 +62,12 @@ module _ {P M : Type 0} (store : P → Store) (flush_number : P → ℕ) (meant 
     pub step : MachineStepContract store flush_number meant old (step.Whole (Group group)) (Decided reply) new
 
   -- .. or it was refused
-  pub record GroupRefused : Type 0 where
-    pub outcome : Outcome
-    pub undecided : is_undecided outcome
-    pub step : MachineStepContract store flush_number meant old (step.Whole (Group group)) outcome new
+  pub record GroupRefused (e : Error) : Type 0 where
+    pub step : MachineStepContract store flush_number meant old (step.Whole (Group group)) (Refused e) new
 
-  -- .. or it was not tried
-  abbrev pub GroupUnmade : Type 0
-  GroupUnmade = (new ≡ old) ⊎ GroupRefused
+  -- .. or it was not tried, since it could not be noted
+  abbrev pub GroupUnmade : Error → Type 0
+  GroupUnmade e = ((new ≡ old) × CannotNote store meant old.db group.items e) ⊎ GroupRefused e
 
 -- a flush was added to a list, with its number
 abbrev pub AddsFlush : List MadeValue → List MadeValue → Type 0
@@ -63,3 +82,8 @@ pub record AddsCommit (group : MadeValue) (flushes : Bool) (made more : List Mad
 -- .. or nothing was, or only the flush was refused
 pub record StopsCommit (group : MadeValue) (flushes : Bool) (made more : List MadeValue) : Type 0 where
   pub is : (more ≡ made) ⊎ ((flushes ≡ true) × (more ≡ made ++ group ∷ []))
+
+-- a group that was not made could not be noted, or it was refused, and nothing is noted
+abbrev pub StopsGroup : {P M : Type 0} → (P → Store) → (P → ℕ) → (M → Merge) → List (Tree × Writes) → Error → CallerValue → CallerValue → StateValue P M → StateValue P M → Type 0
+StopsGroup store flush_number meant batches e me more old new =
+    (CannotNote store meant old.machine.db batches e × DoesNothing me more old new) ⊎ (RefusesGroup store flush_number meant batches e old new × (more ≡ me))

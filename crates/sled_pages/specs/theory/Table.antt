@@ -3,7 +3,8 @@ use Rattle.std.specs.Prelude.{◌≡◌, ℕ, ◌<◌, ◌≤◌, true, false, B
 use mathlib.Core.List.{reverse}
 use Rattle.sled_nodes.specs.Order.{Key}
 use Rattle.sled_nodes.specs.declared.link.Link.{Link}
-use Rattle.sled_pages.specs.Parts.{linked}
+use Rattle.sled_nodes.specs.Node.{after_link}
+use Rattle.sled_pages.specs.Parts.{alone, linked, node_of}
 use Rattle.sled_pages.specs.declared.memory.slots.Slot.{Slot}
 use Rattle.sled_pages.specs.declared.memory.undo.Undo.{Undo}
 use Rattle.sled_store.specs.State.{State, after_all}
@@ -13,6 +14,11 @@ use Rattle.sled_pages.specs.Table.{Table, state_of, base_of, recent_of}
 abbrev pub slot_linked : Link → ℕ → Option Slot → Option Slot
 slot_linked link version None = None
 slot_linked link version (Some s) = Some (record { version = version; page = linked link s.page })
+
+-- the slot after a link, at this version, without a link
+abbrev pub slot_settled : Link → ℕ → Option Slot → Option Slot
+slot_settled link version None = None
+slot_settled link version (Some s) = Some (record { version = version; page = alone (after_link link (node_of s.page)) })
 
 abbrev pub table : (ℕ → Option Slot) → (Key → Option ℕ) → Bool → Table
 table slots roots in_group = record { slots = slots; roots = roots; in_group = in_group }

@@ -7,10 +7,10 @@ ghost use Rattle.sled_nodes.specs.declared.error.Error.TheVariants.{NoMemory};
 ghost use Rattle.sled_store.specs.Update.{put_at};
 ghost use Rattle.sled_pages.specs.Joined.{joined};
 ghost use Rattle.sled_pages.specs.Rows.{rows_of};
-ghost use Rattle.sled_pages.specs.theory.Table.{slot_linked};
+ghost use Rattle.sled_pages.specs.theory.Table.{slot_linked, slot_settled};
 ghost use Rattle.sled_pages.specs.theory.Linking.{undo_of};
 
-use super::slots::{Slot, link_slot};
+use super::slots::{Slot, link_slot, settle_slot};
 use super::undo::Undo;
 use sled_nodes::{Link, Pid, Result, Version};
 use std::alloc::Global;
@@ -91,6 +91,24 @@ fn link_in(
     link_slot(alloc, &mut block[i], pid, version, link)
 }
 
+// Changes the page of a slot at a place of a block by a link of which the node alone stays, if there is the slot. Refused with `NoMemory`
+// alone, and then unchanged.
+#[inline(always)]
+fn settle_in(
+    alloc: Global,
+    block: &mut Vec<Option<Slot>>,
+    i: usize,
+    version: Version,
+    link: &Link,
+) -> Result<()>
+    requires { i < length block.old.items }
+    ensures ok { OnOk result (block.new.items ≡ slice_set block.old.items i (slot_settled link.now version (joined (slice_get block.old.items i)))) }
+    ensures err { OnErr result (block.new.items ≡ block.old.items) }
+    ensures cause { IfErr result (λ e. e ≡ NoMemory) }
+{
+    settle_slot(alloc, &mut block[i], version, link)
+}
+
 impl Blocks {
     ghost use Rattle.sled_pages.specs.Blocks.{lies_of, has_of};
 
@@ -148,6 +166,37 @@ impl Blocks {
     {
         let block = &mut self.blocks[place / PLACES];
         link_in(alloc, block, place % PLACES, pid, version, link)
+    }
+
+    // Whether a place is there.
+    #[inline(always)]
+    fn has(&self, place: usize) -> bool
+        ensures { result ≡ has_of self.now place }
+    {
+        match self.blocks.get(place / PLACES) {
+            Some(block) => place % PLACES < block.len(),
+            None => false,
+        }
+    }
+
+    /// Changes the page of a slot in place by a link of which the node alone stays, if there is the slot, and gives it a version. Refused
+    /// with `NoMemory` alone, and then unchanged.
+    pub fn settle(
+        &mut self,
+        alloc: Global,
+        place: usize,
+        version: Version,
+        link: &Link,
+    ) -> Result<()>
+        ensures ok { OnOk result (lies_of self.new ≡ put_at (lies_of self.old) place (slot_settled link.now version (lies_of self.old place))) }
+        ensures err { OnErr result (lies_of self.new ≡ lies_of self.old) }
+        ensures cause { IfErr result (λ e. e ≡ NoMemory) }
+    {
+        if !self.has(place) {
+            return Ok(());
+        }
+        let block = &mut self.blocks[place / PLACES];
+        settle_in(alloc, block, place % PLACES, version, link)
     }
 
     /// Sees to it that a place is there. Refused with `NoMemory` alone.

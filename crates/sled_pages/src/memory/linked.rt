@@ -3,7 +3,7 @@ ghost use Rattle.std.specs.Prelude.{◌≡◌, ◌<◌, ◌≤◌, ◌++◌, ◌
 ghost use Rattle.std.specs.Vec.{vec_len, vec_capacity};
 ghost use Rattle.sled_nodes.specs.declared.error.Error.TheVariants.{NoMemory};
 ghost use Rattle.sled_pages.specs.declared.memory.linked.Below.TheVariants.{Nothing};
-ghost use Rattle.sled_pages.specs.Parts.{node_of, linked, unlinked, is_full};
+ghost use Rattle.sled_pages.specs.Parts.{node_of, alone, linked, unlinked, is_full};
 ghost use Rattle.sled_pages.specs.theory.Parts.{IsJoined, IsReady, parts_under};
 ghost use Rattle.sled_nodes.specs.Node.{after_link};
 
@@ -262,6 +262,20 @@ fn link_ready(
     Ok(None)
 }
 
+// A link of a page that is joined, of which the node alone stays. Refused with `NoMemory` alone, and then unchanged.
+fn settle_ready(alloc: Global, node: &mut Shared, below: &mut Below, link: &Link) -> Result<()>
+    requires { IsReady node.old below.old }
+    ensures ok { OnOk result (parts_under node.new below.new ≡ alone (after_link link.now (node_of (parts_under node.old below.old)))) }
+    ensures err { OnErr result (parts_under node.new below.new ≡ parts_under node.old below.old) }
+    ensures joined { IsJoined node.new below.new }
+    ensures cause { IfErr result (λ e. e ≡ NoMemory) }
+{
+    node.apply(alloc, link)?;
+    let before = std::mem::replace(below, Below::Nothing);
+    drop(before);
+    Ok(())
+}
+
 /// A base node and at most 8 links. Contracts see these two.
 pub struct Linked {
     node: Shared,
@@ -370,6 +384,16 @@ impl Linked {
     {
         make_ready(alloc, &mut self.node, &mut self.below)?;
         link_ready(alloc, &mut self.node, &mut self.below, link)
+    }
+
+    /// The base becomes the node after all links and this one, and no link is left. Refused with `NoMemory` alone, and then unchanged.
+    pub fn settle(&mut self, alloc: Global, link: &Link) -> Result<()>
+        ensures ok { OnOk result (self.new ≡ alone (after_link link.now (node_of self.old))) }
+        ensures err { OnErr result (self.new ≡ self.old) }
+        ensures cause { IfErr result (λ e. e ≡ NoMemory) }
+    {
+        make_ready(alloc, &mut self.node, &mut self.below)?;
+        settle_ready(alloc, &mut self.node, &mut self.below, link)
     }
 
     /// One link less, if there is one. It takes no memory.

@@ -3,7 +3,6 @@ ghost use Rattle.std.specs.Prelude.{◌≡◌, ◌+◌, ◌-◌, ◌^◌, ◌<�
 ghost use Rattle.sled_nodes.specs.declared.error.Error.TheVariants.{NoMemory};
 ghost use Rattle.sled_store.specs.Update.{put_at};
 ghost use Rattle.sled_pages.specs.Blocks.{lies_of, has_of};
-ghost use Rattle.sled_pages.specs.theory.Table.{slot_linked};
 ghost use Rattle.sled_pages.specs.Building.{IsBuilding};
 
 use super::MemPages;
@@ -51,51 +50,6 @@ fn take_at(pages: &mut Blocks, place: usize) -> Option<Slot>
         pages.put(place, None)
     } else {
         None
-    }
-}
-
-// Changes the page at a place by a link, if there is one. Refused with `NoMemory` alone, and then unchanged.
-fn link_at(
-    pages: &mut Blocks,
-    alloc: Global,
-    place: usize,
-    version: Version,
-    link: Link,
-) -> Result<()>
-    ensures ok { OnOk result (lies_of pages.new ≡ put_at (lies_of pages.old) place (slot_linked link version (lies_of pages.old place))) }
-    ensures err { OnErr result (lies_of pages.new ≡ lies_of pages.old) }
-    ensures cause { IfErr result (λ e. e ≡ NoMemory) }
-{
-    match take_at(pages, place) {
-        Some(slot) => {
-            let Slot {
-                version: before,
-                mut page,
-            } = slot;
-            match page.link(alloc, link) {
-                Ok(folded) => {
-                    drop(folded);
-                    let none = pages.put(place, Some(Slot { version, page }));
-                    drop(none);
-                    Ok(())
-                }
-                Err(e) => {
-                    let none = pages.put(
-                        place,
-                        Some(Slot {
-                            version: before,
-                            page,
-                        }),
-                    );
-                    drop(none);
-                    Err(e)
-                }
-            }
-        }
-        None => {
-            drop(link);
-            Ok(())
-        }
     }
 }
 
@@ -159,7 +113,10 @@ impl Rebuild {
         ensures err { OnErr result (rebuilt_of self.new ≡ rebuilt_of self.old) }
         ensures cause { IfErr result (λ e. e ≡ NoMemory) }
     {
-        if let Err(e) = link_at(&mut self.pages, self.alloc, place_of(pid), version, link) {
+        // Nothing is taken back behind an opening, so no base and no links are kept beside the node.
+        let done = self.pages.settle(self.alloc, place_of(pid), version, &link);
+        drop(link);
+        if let Err(e) = done {
             return Err(e);
         }
         self.next_version = self.next_version.max(version.0 + 1);

@@ -7,7 +7,7 @@ ghost use Rattle.sled_store.specs.Update.{put_at};
 ghost use Rattle.sled_pages.specs.Blocks.{lies_of};
 ghost use Rattle.sled_pages.specs.theory.Known.{IsKnown};
 ghost use Rattle.sled_pages.specs.Building.{IsUnused};
-ghost use Rattle.sled_pages.specs.theory.Table.{slot_linked};
+ghost use Rattle.sled_pages.specs.theory.Table.{slot_linked, slot_settled};
 ghost use Rattle.sled_pages.specs.Table.{slot_unlinked};
 ghost use Rattle.sled_pages.specs.theory.Linking.{Relinked, undo_of};
 ghost use Rattle.sled_pages.specs.Parts.{linked};
@@ -70,6 +70,25 @@ pub fn link_slot(
             Err(Error::NoMemory)
         }
     }
+}
+
+/// Changes the page of a slot by a link of which the node alone stays, if there is the slot, and gives it a version. Refused with
+/// `NoMemory` alone, and then unchanged.
+pub fn settle_slot(
+    alloc: Global,
+    slot: &mut Option<Slot>,
+    version: Version,
+    link: &Link,
+) -> Result<()>
+    ensures ok { OnOk result (slot.new ≡ slot_settled link.now version slot.old) }
+    ensures err { OnErr result (slot.new ≡ slot.old) }
+    ensures cause { IfErr result (λ e. e ≡ NoMemory) }
+{
+    if let Some(slot) = slot {
+        slot.page.settle(alloc, link)?;
+        slot.version = version;
+    }
+    Ok(())
 }
 
 /// Slots by number. Those of an image have any numbers up to `last`; those that were added since are in order behind. Numbers whose

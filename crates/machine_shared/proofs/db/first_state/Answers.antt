@@ -1,4 +1,4 @@
-use Rattle.std.proofs.Common.{◌≤◌, ap, subst, sym, length, arith}
+use Rattle.std.proofs.Common.{ap, subst, sym, length, arith}
 use Rattle.sled_model.specs.Collections.{contents_of}
 use Rattle.machine_shared.specs.Made.{entry_values}
 use Rattle.machine_shared.specs.Scans.{AreInOrder, NoneMore}

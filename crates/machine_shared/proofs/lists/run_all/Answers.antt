@@ -3,7 +3,7 @@ use Rattle.lent_pages.specs.Lent.{RunsLent, store_lent}
 use Rattle.sled.specs.Transactions.{trees_of_list}
 use Rattle.sled.specs.Values.{DbValue}
 use Rattle.tree_transactions.specs.Transactions.{TransactsAll}
-use Rattle.machine_shared.specs.Transactions.{RunsAllIn}
+use Rattle.machine_shared.specs.Transactions.{RunsAllIn, fails_tests_of_list}
 use Rattle.machine_shared.proofs.Transacting.{ran}
 use Rattle.machine_shared.proofs.lists.run_all.Goals as goal
 
@@ -12,14 +12,12 @@ returns g c =
     let store = g.P.Pages.store in
     let result_of = g.R.TransactionAnswer.result_of in
     let pages = c.pages-pages.ensures ∙ ap (λ (d : DbValue _ _). d.pages) c.db.ensures in
-    ran (RunsAllIn store g.M.MergeOperator.meant g.F.Fn result_of c.args.f (trees_of_list c.args.trees.now) c.args.machine.now.db) c.run_on_list-ended.result
+    ran (fails_tests_of_list store g.M.MergeOperator.meant (trees_of_list c.args.trees.now) c.args.machine.now.db) (RunsAllIn store g.M.MergeOperator.meant g.F.Fn result_of c.args.f (trees_of_list c.args.trees.now) c.args.machine.now.db) c.run_on_list-ended.result
     (record {
       sound = c.audit.ensures.sound;
       tested = c.in-Ok.ensures.tested;
       roots = c.in-Ok.roots.items;
       roots_are = c.in-Ok.ensures.are;
-      next = c.run_on_list-ended.new.greatest_id;
-      runs = subst (λ p. RunsLent (TransactsAll (store_lent store) g.F.Fn result_of c.args.f c.in-Ok.roots.items) (store p) (store p).mark c.run_on_list-ended.result c.run_on_list-ended.new.greatest_id) pages
-          (subst (λ m. RunsLent (TransactsAll (store_lent store) g.F.Fn result_of c.args.f c.in-Ok.roots.items) (store c.pages-pages.result.now) m c.run_on_list-ended.result c.run_on_list-ended.new.greatest_id) c.mark-greatest_id.ensures
-          (subst (λ rs. RunsLent (TransactsAll (store_lent store) g.F.Fn result_of c.args.f rs) (store c.pages-pages.result.now) c.mark-greatest_id.result c.run_on_list-ended.result c.run_on_list-ended.new.greatest_id) c.as_slice.ensures.value c.run_on_list-ended.ensures));
+      runs = subst (λ p. RunsLent (TransactsAll (store_lent store) g.F.Fn result_of c.args.f c.in-Ok.roots.items) (store p) c.run_on_list-ended.result) pages
+          (subst (λ rs. RunsLent (TransactsAll (store_lent store) g.F.Fn result_of c.args.f rs) (store c.pages-pages.result.now) c.run_on_list-ended.result) c.as_slice.ensures.value c.run_on_list-ended.ensures);
     })

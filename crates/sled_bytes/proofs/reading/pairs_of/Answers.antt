@@ -6,7 +6,7 @@ use Rattle.sled_bytes.proofs.reading.pairs_of.Goals as goal
 
 pub returns-in_err-pair-clause-gives : goal.returns-in_err-pair-clause-gives
 returns-in_err-pair-clause-gives c =
-    let is = err_from_is_err_and c.from_residual.result c.from_residual.ensures.1 in
+    let is = err_from_is_err_and c.from_residual-in_err-pair.result c.from_residual-in_err-pair.ensures.1 in
     rw (is.1, is.2) (ends pair_at c.in_err-pair.field-0.0 c.pairs.pairs.items c.args.count c.pairs.counter (drop c.pairs.at c.args.bytes.now) (each_at pair_at c.args.count (drop c.args.from c.args.bytes.now)) c.pairs-test.true c.in_err-pair.ensures.gives c.pairs.invariant.read)
 
 pub pairs-preserved : goal.pairs-preserved

@@ -6,7 +6,7 @@ use Rattle.sled_bytes.proofs.reading.pointers_of.Goals as goal
 
 pub returns-in_err-pointer-clause-gives : goal.returns-in_err-pointer-clause-gives
 returns-in_err-pointer-clause-gives c =
-    let is = err_from_is_err_and c.from_residual.result c.from_residual.ensures.1 in
+    let is = err_from_is_err_and c.from_residual-in_err-pointer.result c.from_residual-in_err-pointer.ensures.1 in
     rw (is.1, is.2) (ends pointer_at c.in_err-pointer.field-0.0 c.pointers.pointers.items c.args.count c.pointers.counter (drop c.pointers.at c.args.bytes.now) (each_at pointer_at c.args.count (drop c.args.from c.args.bytes.now)) c.pointers-test.true c.in_err-pointer.ensures.gives c.pointers.invariant.read)
 
 pub pointers-preserved : goal.pointers-preserved

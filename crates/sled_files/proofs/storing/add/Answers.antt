@@ -37,11 +37,11 @@ returns-then-is_empty-clause-any_moment g c = λ d changes ready spells added.
 
 pub returns-then-is_empty-clause-grown : goal.returns-then-is_empty-clause-grown
 returns-then-is_empty-clause-grown g c = let none : length c.args.payload.now ≡ 0 = grind (arith, nat_tests) in
-    record { same = refl; snapshot = refl; generation = refl; bytes = no_more (length c.args.payload.now) c.args.files.now.gate none; nothing = λ is. refl; other = λ some. absurd (omega (arith, some, none)) }
+    record { same = refl; snapshot = refl; generation = refl; bytes = no_more (length c.args.payload.now) c.args.files.now.gate none; nothing = λ is. refl; calm = refl; other = λ some. absurd (omega (arith, some, none)) }
 
 pub returns-in-Ok-clause-grown : goal.returns-in-Ok-clause-grown
 returns-in-Ok-clause-grown g c = let some : 0 < length c.args.payload.now = grind (arith, nat_tests) in
-    record { same = c.append.ensures.same; snapshot = c.append.ensures.snapshot; generation = c.append.ensures.generation; bytes = c.in-Ok.ensures.bytes ∙ more (length c.args.payload.now) c.args.files.now.gate some; nothing = λ is. absurd (omega (arith, is, some)); other = λ s. c.in-Ok.ensures.emptied }
+    record { same = c.append.ensures.same; snapshot = c.append.ensures.snapshot; generation = c.append.ensures.generation; bytes = c.in-Ok.ensures.bytes ∙ more (length c.args.payload.now) c.args.files.now.gate some; nothing = λ is. absurd (omega (arith, is, some)); calm = c.in-Ok.ensures.up.1 ∙ sym c.in-Ok.ensures.up.0; other = λ s. c.in-Ok.ensures.emptied }
 
 pub returns-then-failed-clause-cause : goal.returns-then-failed-clause-cause
 returns-then-failed-clause-cause g c = unstored_over c.args.files.now c.args.faults.now c.fault.result (search rules) c.fault.ensures.is

@@ -8,16 +8,16 @@ returns-in-Ok-open_checked-clause-ok g c = let pages = c.in-Ok-open.pages in
     rw c.with_operators.ensures (record {
       files = pages.files;
       store = stored_as pages;
-      is = record { first = c.in-Ok.pair.first; second = c.in-Ok.pair.second; found = c.in-Ok.ensures.found; opens = c.in-Ok-open.ensures.opens };
+      is = record { first = c.in-Ok.pair.first; second = c.in-Ok.pair.second; pair = c.in-Ok.ensures.pair; opens = c.in-Ok-open.ensures.opens };
       fit = c.in-Ok-open_checked.ensures.fit;
       opens = opens_alike stored_as (stored_as pages) c.args.name.now c.in-Ok-open_checked.db c.in-Ok-open_checked.ensures.ok;
     })
 
 pub returns-in-Err-clause-err : goal.returns-in-Err-clause-err
-returns-in-Err-clause-err g c = c.of_host.ensures c.args.opening c.in-Err.ensures.err
+returns-in-Err-clause-err g c = c.of_host.ensures.why c.args.opening c.in-Err.ensures.err
 
 pub returns-in-Err-open-clause-err : goal.returns-in-Err-open-clause-err
-returns-in-Err-open-clause-err g c = c.of_files-why.ensures c.args.opening c.in-Ok.pair.first c.in-Ok.pair.second c.in-Ok.ensures.found c.in-Err-open.ensures.err
+returns-in-Err-open-clause-err g c = c.of_files-why.ensures.why c.args.opening c.in-Ok.pair.is_locked c.in-Ok.pair.first c.in-Ok.pair.second c.in-Ok.ensures.pair c.in-Err-open.ensures.err
 
 pub returns-in-Err-open_checked-clause-err : goal.returns-in-Err-open_checked-clause-err
 returns-in-Err-open_checked-clause-err g c = let pages = c.in-Ok-open.pages in
@@ -25,6 +25,7 @@ returns-in-Err-open_checked-clause-err g c = let pages = c.in-Ok-open.pages in
       files = pages.files;
       store = stored_as pages;
       left = stored_as c.in-Err-open_checked.pages;
-      is = record { first = c.in-Ok.pair.first; second = c.in-Ok.pair.second; found = c.in-Ok.ensures.found; opens = c.in-Ok-open.ensures.opens };
+      is_locked = c.in-Ok.pair.is_locked;
+      is = record { first = c.in-Ok.pair.first; second = c.in-Ok.pair.second; pair = c.in-Ok.ensures.pair; opens = c.in-Ok-open.ensures.opens };
       why = c.in-Err-open_checked.ensures.err;
     })

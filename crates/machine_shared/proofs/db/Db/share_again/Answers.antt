@@ -1,8 +1,6 @@
 use Rattle.std.proofs.Common.{◌≡◌, ◌∙◌, ℕ, ◌+◌, ◌≤◌, ◌<◌, All, List, refl, sym, ap, subst, arith}
 use Rattle.std.proofs.lemmas.List.{get_or-map, length-map}
 use Rattle.std.proofs.lemmas.List.Elements.{All-map}
-use Rattle.std.specs.Global.{Vec}
-use Rattle.sled_nodes.specs.Order.{Key}
 use Rattle.sled_model.specs.Collections.{contents_of}
 use Rattle.machine_shared.specs.Again.{NoneAbove}
 use Rattle.machine_shared.specs.Made.{EntryValue, entry_value, entry_values}

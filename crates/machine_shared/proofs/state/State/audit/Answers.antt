@@ -1,4 +1,4 @@
-use Rattle.std.proofs.Common.{length, sym, subst}
+use Rattle.std.proofs.Common.{sym, subst}
 use Rattle.std.proofs.lemmas.List.{length-map}
 use Rattle.sled_model.specs.Collections.{contents_of}
 use Rattle.machine_shared.specs.Made.{entry_value, entry_values}

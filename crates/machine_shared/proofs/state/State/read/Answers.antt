@@ -1,12 +1,10 @@
-use Rattle.std.proofs.Common.{◌∙◌, ◌++◌, refl, ap}
+use Rattle.std.proofs.Common.{◌∙◌, refl}
 use Rattle.std.proofs.lemmas.List.{length-map}
 use Rattle.sled_model.specs.Collections.{contents_of}
 use Rattle.machine_shared.specs.Made.{entry_value, entry_values, made_values}
-use Rattle.machine_shared.specs.Notes.{entries_of}
-use Rattle.machine_shared.specs.theory.Noting.{first_noted}
 use Rattle.machine_shared.specs.UnderLock.{read_made}
 use Rattle.machine_shared.specs.declared.read.Read.TheVariants as read
-use Rattle.machine_shared.proofs.UnderLocks.{looked, read_noted}
+use Rattle.machine_shared.proofs.UnderLocks.{looked}
 use Rattle.machine_shared.proofs.ReadMakes.{read_state}
 use Rattle.machine_shared.proofs.ScanStates.{after_none, no_shorter}
 use Rattle.machine_shared.proofs.Scanning.{longer_in_order}
@@ -14,21 +12,18 @@ use Rattle.machine_shared.proofs.state.State.read.Goals as goal
 
 pub invariant_of-self : goal.invariant_of-self
 invariant_of-self g c =
-    let longer = c.note_and_count.ensures.history ∙ ap (λ es. entry_values es ++ entries_of c.me.inside.number (first_noted c.answer_noting-answer.result.1)) c.answer_noting-answer.ensures.history in
+    let longer = c.answer_noting.ensures.history in
     let after = read_state g.P.Pages.store g.P.Pages.flush_number g.M.MergeOperator.meant c.self.inside.machine (contents_of c.self.inside.opening.value.items)
-    (entry_values c.self.inside.history.items) (entry_values c.note_and_count.new.history.items) c.self.inside.calls.total c.note_and_count.new.calls.total c.self.invariant.0
-    (length-map c.note_and_count.new.history.items entry_value ∙ c.note_and_count.ensures.counted)
-    c.me.inside.number (first_noted c.answer_noting-answer.result.1) c.answer_noting-answer.ensures.notes
+    (entry_values c.self.inside.history.items) (entry_values c.answer_noting.new.history.items) c.self.inside.calls.total c.answer_noting.new.calls.total c.self.invariant.0
+    (length-map c.answer_noting.new.history.items entry_value ∙ c.answer_noting.ensures.counted)
+    c.me.inside.number (read_made (λ answer. read.Tree c.args.tree.now c.args.question answer) c.answer_noting.result) c.answer_noting.ensures.notes
     longer in (
       after.0,
-      longer_in_order c.self.inside.scans.notes c.self.inside.history.items c.note_and_count.new.history.items _ longer c.self.invariant.1,
-      after_none g.P.Pages.store g.P.Pages.flush_number g.M.MergeOperator.meant c.self.inside.machine c.self.inside.machine (contents_of c.self.inside.opening.value.items) (entry_values c.self.inside.history.items) (entry_values c.note_and_count.new.history.items) c.self.invariant.0.crashes after.0.crashes after.1 (no_shorter _ _ _ longer) c.self.inside.scans c.self.invariant.2 c.audit.ensures.ascend.is refl,
+      longer_in_order c.self.inside.scans.notes c.self.inside.history.items c.answer_noting.new.history.items _ longer c.self.invariant.1,
+      after_none g.P.Pages.store g.P.Pages.flush_number g.M.MergeOperator.meant c.self.inside.machine c.self.inside.machine (contents_of c.self.inside.opening.value.items) (entry_values c.self.inside.history.items) (entry_values c.answer_noting.new.history.items) c.self.invariant.0.crashes after.0.crashes after.1 (no_shorter _ _ _ longer) c.self.inside.scans c.self.invariant.2 c.audit.ensures.ascend.is refl,
     )
 
 pub returns-clause-looks : goal.returns-clause-looks
 returns-clause-looks g c =
-    let noted = read_noted (λ answer. read.Tree c.args.tree.now c.args.question answer) c.answer_noting-answer.result.0 (first_noted c.answer_noting-answer.result.1) c.answer_noting-answer.ensures.ok c.answer_noting-answer.ensures.err in
-    looked c.self.inside.machine (contents_of c.self.inside.opening.value.items) c.self.inside.scans (entry_values c.self.inside.history.items) (entry_values c.note_and_count.new.history.items) c.me.inside.number (made_values c.me.inside.made.items) (made_values c.note_and_count.new.made.items) (read_made (λ answer. read.Tree c.args.tree.now c.args.question answer) c.answer_noting-answer.result.0)
-    _ c.self.view_is _ c.me.view_is
-    (c.note_and_count.ensures.history ∙ ap (λ es. entry_values es ++ entries_of c.me.inside.number (first_noted c.answer_noting-answer.result.1)) c.answer_noting-answer.ensures.history ∙ ap (λ m. entry_values c.self.inside.history.items ++ entries_of c.me.inside.number m) noted)
-    (c.note_and_count.ensures.made ∙ ap (λ ms. made_values ms ++ first_noted c.answer_noting-answer.result.1) c.answer_noting-answer.ensures.made ∙ ap (λ m. made_values c.me.inside.made.items ++ m) noted)
+    looked c.self.inside.machine (contents_of c.self.inside.opening.value.items) c.self.inside.scans (entry_values c.self.inside.history.items) (entry_values c.answer_noting.new.history.items) c.me.inside.number (made_values c.me.inside.made.items) (made_values c.answer_noting.new.made.items) (read_made (λ answer. read.Tree c.args.tree.now c.args.question answer) c.answer_noting.result)
+    _ c.self.view_is _ c.me.view_is c.answer_noting.ensures.history c.answer_noting.ensures.made

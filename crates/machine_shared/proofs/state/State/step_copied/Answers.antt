@@ -1,9 +1,7 @@
-use Rattle.std.proofs.Common.{◌≡◌, ◌∙◌, ◌++◌, Some, option_map, sym, ap, subst}
+use Rattle.std.proofs.Common.{◌≡◌, ◌∙◌, Some, option_map, sym, subst}
 use Rattle.std.proofs.lemmas.List.{length-map}
 use Rattle.machine_shared.specs.Made.{entry_value, entry_values}
-use Rattle.machine_shared.specs.Notes.{entries_of}
 use Rattle.machine_shared.specs.Sound.{IsState}
-use Rattle.machine_shared.specs.theory.Noting.{first_noted}
 use Rattle.sled_model.specs.Collections.{contents_of}
 use Rattle.machine_shared.proofs.Ids.{step_risen}
 use Rattle.machine_shared.proofs.Leading.{step_leaves, legal_of, leads_of}
@@ -16,17 +14,17 @@ use Rattle.machine_shared.proofs.state.State.step_copied.Goals as goal
 
 pub invariant_of-self : goal.invariant_of-self
 invariant_of-self g c =
-    let longer = c.note_and_count.ensures.history ∙ ap (λ es. entry_values es ++ entries_of c.me.inside.number (first_noted c.step_noting_jobs-outcome.result.1)) c.step_noting_jobs-outcome.ensures.history ∙ ap (λ m. entry_values c.self.inside.history.items ++ entries_of c.me.inside.number m) c.step_noting_jobs-outcome.ensures.noted in
-    let crashes = step_leaves g.P.Pages.store g.P.Pages.flush_number g.M.MergeOperator.meant c.self.inside.machine c.step_noting_jobs-outcome.new.machine (contents_of c.self.inside.opening.value.items) (entry_values c.self.inside.history.items) c.self.invariant.0.crashes c.me.inside.number c.args.slot _ _ c.step_noting_jobs-outcome.ensures.step.step longer in
-    let now : IsState g.P.Pages.store c.step_noting_jobs-outcome.new.machine (contents_of c.self.inside.opening.value.items) (entry_values c.note_and_count.new.history.items) c.note_and_count.new.calls.total = record {
+    let longer = c.step_noting_jobs.ensures.history in
+    let crashes = step_leaves g.P.Pages.store g.P.Pages.flush_number g.M.MergeOperator.meant c.self.inside.machine c.step_noting_jobs.new.machine (contents_of c.self.inside.opening.value.items) (entry_values c.self.inside.history.items) c.self.invariant.0.crashes c.me.inside.number c.args.slot _ _ c.step_noting_jobs.ensures.step.step longer in
+    let now : IsState g.P.Pages.store c.step_noting_jobs.new.machine (contents_of c.self.inside.opening.value.items) (entry_values c.step_noting_jobs.new.history.items) c.step_noting_jobs.new.calls.total = record {
       legal = legal_of crashes.0;
       leads = leads_of crashes.0;
       crashes = crashes.0;
-      ids = step_risen g.P.Pages.store g.P.Pages.flush_number g.M.MergeOperator.meant c.self.inside.machine c.step_noting_jobs-outcome.new.machine c.me.inside.number _ _ _ _ _ c.step_noting_jobs-outcome.ensures.step.step.step.is longer c.self.invariant.0.ids;
-      counted = length-map c.note_and_count.new.history.items entry_value ∙ c.note_and_count.ensures.counted;
+      ids = step_risen g.P.Pages.store g.P.Pages.flush_number g.M.MergeOperator.meant c.self.inside.machine c.step_noting_jobs.new.machine c.me.inside.number _ _ _ _ _ c.step_noting_jobs.ensures.step.step.step.is longer c.self.invariant.0.ids;
+      counted = length-map c.step_noting_jobs.new.history.items entry_value ∙ c.step_noting_jobs.ensures.counted;
     } in (
       now,
-      longer_in_order c.self.inside.scans.notes c.self.inside.history.items c.note_and_count.new.history.items _ longer c.self.invariant.1,
-      after_key_step g.P.Pages.store g.P.Pages.flush_number g.M.MergeOperator.meant c.self.inside.machine c.step_noting_jobs-outcome.new.machine (contents_of c.self.inside.opening.value.items) (entry_values c.self.inside.history.items) (entry_values c.note_and_count.new.history.items) c.self.invariant.0.crashes crashes.0 crashes.2 (no_shorter _ _ _ longer) c.self.inside.scans c.self.invariant.2 c.audit.ensures.ascend.is
-          c.args.slot _ c.step_noting_jobs-outcome.ensures.step.step _ _ (subst (λ (s : StateValue _ _). option_map job_of_call (slots_of s.machine.flights c.args.slot) ≡ Some (job_pair c.args.jobs.0.tree c.args.jobs.0.call)) (sym c.self.view_is) c.requires.here) c.requires.key,
+      longer_in_order c.self.inside.scans.notes c.self.inside.history.items c.step_noting_jobs.new.history.items _ longer c.self.invariant.1,
+      after_key_step g.P.Pages.store g.P.Pages.flush_number g.M.MergeOperator.meant c.self.inside.machine c.step_noting_jobs.new.machine (contents_of c.self.inside.opening.value.items) (entry_values c.self.inside.history.items) (entry_values c.step_noting_jobs.new.history.items) c.self.invariant.0.crashes crashes.0 crashes.2 (no_shorter _ _ _ longer) c.self.inside.scans c.self.invariant.2 c.audit.ensures.ascend.is
+          c.args.slot _ c.step_noting_jobs.ensures.step.step _ _ (subst (λ (s : StateValue _ _). option_map job_of_call (slots_of s.machine.flights c.args.slot) ≡ Some (job_pair c.args.jobs.0.tree c.args.jobs.0.call)) (sym c.self.view_is) c.requires.here) c.requires.key,
     )

@@ -1,5 +1,5 @@
 use Rattle.machine_shared.specs.UnderLock.{EndsBySteps}
-use Rattle.machine_shared.proofs.UnderLocks.{caller_is, ends_stepped}
+use Rattle.machine_shared.proofs.UnderLocks.{caller_is, ends_stepped, stays_in}
 use Rattle.machine_shared.proofs.state.State.step_on.Goals as goal
 
 pub returns-clause-ends : goal.returns-clause-ends
@@ -15,3 +15,6 @@ returns-clause-ends g c = ends_stepped g.P.Pages.store g.P.Pages.flush_number g.
     scans = c.step_copied-outcome.ensures.scans;
   };
 }))
+
+pub returns-clause-stays : goal.returns-clause-stays
+returns-clause-stays g c = stays_in c.step_copied-outcome.result.0 c.args.slot c.step_copied-outcome.result.1 c.taken_on.result c.taken_on.ensures

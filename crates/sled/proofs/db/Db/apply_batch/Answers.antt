@@ -1,5 +1,6 @@
-use Rattle.std.proofs.Common.{[], ◌∷◌}
+use Rattle.std.proofs.Common.{[], ◌∷◌, Err}
 use Rattle.sled.proofs.Grouping.{group_untested, group_short}
+use Rattle.sled.proofs.Keeping.{group_refuses, group_leaves}
 use Rattle.sled.proofs.db.Db.apply_batch.Goals as goal
 
 pub returns-in-Err-clause-err : goal.returns-in-Err-clause-err
@@ -7,3 +8,15 @@ returns-in-Err-clause-err g c = group_untested g.P.Pages.store g.M.MergeOperator
 
 pub returns-in-Err-clone-clause-err : goal.returns-in-Err-clone-clause-err
 returns-in-Err-clone-clause-err g c = group_short g.P.Pages.store g.M.MergeOperator.meant c.args.self.now ((c.args.tree.now, c.args.batch) ∷ []) c.in_default.ensures.ok c.in-Err-clone.e c.in-Err-clone.ensures.err
+
+pub returns-in-Err-clause-refuses : goal.returns-in-Err-clause-refuses
+returns-in-Err-clause-refuses g c = group_refuses g.P.Pages.store g.M.MergeOperator.meant _ _ _ {A = Unit {0}} (Err _) (returns-in-Err-clause-err g c)
+
+pub returns-in-Err-clause-leaves : goal.returns-in-Err-clause-leaves
+returns-in-Err-clause-leaves g c = group_leaves g.P.Pages.store g.M.MergeOperator.meant _ _ ((c.args.tree.now, c.args.batch) ∷ []) {A = Unit {0}} (Err _) tt (returns-in-Err-clause-err g c)
+
+pub returns-in-Err-clone-clause-refuses : goal.returns-in-Err-clone-clause-refuses
+returns-in-Err-clone-clause-refuses g c = group_refuses g.P.Pages.store g.M.MergeOperator.meant _ _ _ {A = Unit {0}} (Err _) (returns-in-Err-clone-clause-err g c)
+
+pub returns-in-Err-clone-clause-leaves : goal.returns-in-Err-clone-clause-leaves
+returns-in-Err-clone-clause-leaves g c = group_leaves g.P.Pages.store g.M.MergeOperator.meant _ _ ((c.args.tree.now, c.args.batch) ∷ []) {A = Unit {0}} (Err _) tt (returns-in-Err-clone-clause-err g c)

@@ -1,5 +1,7 @@
+use Rattle.std.proofs.Common.{Err}
 use Rattle.sled.proofs.Grouping.{group_untested, group_unread, group_ok, group_err, group_db, group_quiet}
 use Rattle.sled.proofs.Mapping.{group_changes}
+use Rattle.sled.proofs.Keeping.{group_refuses, group_leaves}
 use Rattle.sled.proofs.db.Db.apply_group.Goals as goal
 
 pub returns-in-Err-clause-err : goal.returns-in-Err-clause-err
@@ -22,3 +24,21 @@ returns-clause-quiet g c = group_quiet g.P.Pages.store g.M.MergeOperator.meant _
 
 pub returns-clause-changes : goal.returns-clause-changes
 returns-clause-changes g c = group_changes g.P.Pages.store g.M.MergeOperator.meant _ _ _ _ (returns-clause-ok g c)
+
+pub returns-in-Err-clause-refuses : goal.returns-in-Err-clause-refuses
+returns-in-Err-clause-refuses g c = group_refuses g.P.Pages.store g.M.MergeOperator.meant _ _ _ {A = Unit {0}} (Err _) (returns-in-Err-clause-err g c)
+
+pub returns-in-Err-clause-leaves : goal.returns-in-Err-clause-leaves
+returns-in-Err-clause-leaves g c = group_leaves g.P.Pages.store g.M.MergeOperator.meant _ _ c.args.batches.now {A = Unit {0}} (Err _) tt (returns-in-Err-clause-err g c)
+
+pub returns-in-Err-changes-clause-refuses : goal.returns-in-Err-changes-clause-refuses
+returns-in-Err-changes-clause-refuses g c = group_refuses g.P.Pages.store g.M.MergeOperator.meant _ _ _ {A = Unit {0}} (Err _) (returns-in-Err-changes-clause-err g c)
+
+pub returns-in-Err-changes-clause-leaves : goal.returns-in-Err-changes-clause-leaves
+returns-in-Err-changes-clause-leaves g c = group_leaves g.P.Pages.store g.M.MergeOperator.meant _ _ c.args.batches.now {A = Unit {0}} (Err _) tt (returns-in-Err-changes-clause-err g c)
+
+pub returns-clause-refuses : goal.returns-clause-refuses
+returns-clause-refuses g c = group_refuses g.P.Pages.store g.M.MergeOperator.meant _ _ _ c.make_group-made.result (returns-clause-err g c)
+
+pub returns-clause-leaves : goal.returns-clause-leaves
+returns-clause-leaves g c = group_leaves g.P.Pages.store g.M.MergeOperator.meant _ _ c.args.batches.now c.make_group-made.result (returns-clause-ok g c) (returns-clause-err g c)

@@ -1,6 +1,8 @@
-use Rattle.std.proofs.Common.{sym, refl, ◌∙◌}
+use Rattle.std.proofs.Common.{[], sym, refl, ◌∙◌}
+use Rattle.sled.proofs.Conducting.{leaves_none}
 use Rattle.sled.proofs.Removing.{not_default, is_default, numbered_as, open_as, untouched_as, refused_drop_as, dropped_as, dropped_db_as}
 use Rattle.sled.proofs.Mapping.{drops_map}
+use Rattle.sled.proofs.Keeping.{dropped_refuses, dropped_leaves}
 use Rattle.sled.proofs.db.Db.drop_tree.Goals as goal
 
 pub returns-then-in_group-clause-err : goal.returns-then-in_group-clause-err
@@ -26,3 +28,27 @@ returns-clause-ok g c = dropped_as g.P.Pages.store g.M.MergeOperator.meant _ _ c
 
 pub returns-clause-changes : goal.returns-clause-changes
 returns-clause-changes g c = drops_map g.P.Pages.store g.M.MergeOperator.meant _ _ _ _ (returns-clause-ok g c)
+
+pub returns-then-in_group-clause-refuses : goal.returns-then-in_group-clause-refuses
+returns-then-in_group-clause-refuses g c = dropped_refuses g.P.Pages.store g.M.MergeOperator.meant _ _ _ _ (returns-then-in_group-clause-err g c)
+
+pub returns-then-in_group-clause-stays : goal.returns-then-in_group-clause-stays
+returns-then-in_group-clause-stays g c = (returns-then-in_group-clause-err g c).leaves
+
+pub returns-then-eq-clause-refuses : goal.returns-then-eq-clause-refuses
+returns-then-eq-clause-refuses g c = dropped_refuses g.P.Pages.store g.M.MergeOperator.meant _ _ _ _ (returns-then-eq-clause-err g c)
+
+pub returns-then-eq-clause-stays : goal.returns-then-eq-clause-stays
+returns-then-eq-clause-stays g c = (returns-then-eq-clause-err g c).leaves
+
+pub returns-in-Err-clause-refuses : goal.returns-in-Err-clause-refuses
+returns-in-Err-clause-refuses g c = dropped_refuses g.P.Pages.store g.M.MergeOperator.meant _ _ _ _ (returns-in-Err-clause-err g c)
+
+pub returns-in-Err-clause-stays : goal.returns-in-Err-clause-stays
+returns-in-Err-clause-stays g c = (returns-in-Err-clause-err g c).leaves
+
+pub returns-clause-leaves : goal.returns-clause-leaves
+returns-clause-leaves g c = dropped_leaves g.P.Pages.store g.M.MergeOperator.meant _ _ _ _ (returns-clause-ok g c)
+
+pub returns-in_default-clause-leaves : goal.returns-in_default-clause-leaves
+returns-in_default-clause-leaves g c = record { maps = []; each = λ m i. absurd i; leaves = leaves_none g.P.Pages.store g.M.MergeOperator.meant _ }

@@ -1,9 +1,10 @@
-use Rattle.std.proofs.Common.{rules, ◌≡◌, false, Some, subst}
+use Rattle.std.proofs.Common.{rules, ◌≡◌, false, Some, Err, subst}
 use Rattle.sled_store.specs.Store.{now}
 use Rattle.sled.specs.Sound.{IsDb}
 use Rattle.sled.specs.Values.{numbers_of}
 use Rattle.sled.proofs.Planting.{opens_closed, all_known, all_short}
 use Rattle.sled.proofs.Mapping.{opens_all}
+use Rattle.sled.proofs.Keeping.{opened_refuses, opened_leaves}
 use Rattle.sled.proofs.db.Db.open_tree.Goals as goal
 
 pub returns-then-in_group-clause-err : goal.returns-then-in_group-clause-err
@@ -25,3 +26,21 @@ returns-in-Some-clause-changes g c = opens_all g.P.Pages.store g.M.MergeOperator
 
 pub returns-in-None-clause-changes : goal.returns-in-None-clause-changes
 returns-in-None-clause-changes g c = opens_all g.P.Pages.store g.M.MergeOperator.meant _ _ _ c.add_tree.result c.add_tree.ensures.ok
+
+pub returns-then-in_group-clause-refuses : goal.returns-then-in_group-clause-refuses
+returns-then-in_group-clause-refuses g c = opened_refuses g.P.Pages.store g.M.MergeOperator.meant _ _ _ (Err _) (returns-then-in_group-clause-err g c)
+
+pub returns-then-in_group-clause-leaves : goal.returns-then-in_group-clause-leaves
+returns-then-in_group-clause-leaves g c = opened_leaves g.P.Pages.store g.M.MergeOperator.meant _ _ _ (Err _) tt (returns-then-in_group-clause-err g c)
+
+pub returns-in-Some-clause-refuses : goal.returns-in-Some-clause-refuses
+returns-in-Some-clause-refuses g c = opened_refuses g.P.Pages.store g.M.MergeOperator.meant _ _ _ c.handle_of.result (returns-in-Some-clause-err g c)
+
+pub returns-in-Some-clause-leaves : goal.returns-in-Some-clause-leaves
+returns-in-Some-clause-leaves g c = opened_leaves g.P.Pages.store g.M.MergeOperator.meant _ _ _ c.handle_of.result (returns-in-Some-clause-ok g c) (returns-in-Some-clause-err g c)
+
+pub returns-in-None-clause-refuses : goal.returns-in-None-clause-refuses
+returns-in-None-clause-refuses g c = opened_refuses g.P.Pages.store g.M.MergeOperator.meant _ _ _ c.add_tree.result c.add_tree.ensures.err
+
+pub returns-in-None-clause-leaves : goal.returns-in-None-clause-leaves
+returns-in-None-clause-leaves g c = opened_leaves g.P.Pages.store g.M.MergeOperator.meant _ _ _ c.add_tree.result c.add_tree.ensures.ok c.add_tree.ensures.err

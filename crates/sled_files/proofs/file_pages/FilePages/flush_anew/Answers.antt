@@ -4,6 +4,7 @@ use Rattle.sled_pages.specs.Memory.{store_of}
 use Rattle.sled_files.specs.Stored.{Stored, stored_as}
 use Rattle.sled_files.specs.Lasting.{Limits, AreNoLower}
 use Rattle.sled_files.specs.theory.Snapshot.{Makes}
+use Rattle.sled_files.proofs.Coding.{stops_unstored}
 use Rattle.sled_files.proofs.Over.{own_fault}
 use Rattle.sled_files.proofs.Added.{sound_refused}
 use Rattle.sled_files.proofs.Anew.{whole_of, sound_anew, moments_anew, unchanged}
@@ -61,3 +62,6 @@ returns-clause-renewed g c =
       files = c.in_default.ensures.renewed;
       limits = subst (λ (v : Stored g.row.D.Denot). RaisesNear (stored_as v) v.limits raised) (sym c.self.view_is) near;
     })
+
+pub returns-in-Err-clause-stops : goal.returns-in-Err-clause-stops
+returns-in-Err-clause-stops g c = rw (← c.self.view_is) (stops_unstored _ _ c.in-Err.e c.in-Err.ensures.cause)

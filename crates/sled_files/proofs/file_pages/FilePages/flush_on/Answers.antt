@@ -8,7 +8,8 @@ use Rattle.sled_files.proofs.Over.{own_fault}
 use Rattle.sled_files.proofs.Added.{sound_refused}
 use Rattle.sled_files.proofs.Moments.{moments_none}
 use Rattle.sled_files.proofs.Raising.{sound_ahead, moments_ahead, taken_out, ahead_length, ahead_short}
-use Rattle.sled_files.proofs.Coding.{unstored_early, unstored_weaker}
+use Rattle.sled_files.proofs.Sound.{sound_faults}
+use Rattle.sled_files.proofs.Coding.{unstored_early, unstored_weaker, unstored_over, goes_on, stops_unstored}
 use Rattle.sled_files.specs.Raised.{RaisesNear}
 use Rattle.sled_files.proofs.Limits.{same_limits, grown_by, AreFlushed, flushed_limits}
 use Rattle.sled_files.proofs.file_pages.FilePages.flush_on.Goals as goal
@@ -84,3 +85,21 @@ returns-clause-grown g c =
       idle = subst (λ (v : Stored g.row.D.Denot). c.self.inside.pending.items ≡ [] → raised ≡ v.limits) (sym c.self.view_is) kept.idle;
       limits = subst (λ (v : Stored g.row.D.Denot). 0 < length c.self.inside.pending.items → RaisesNear (stored_as v) v.limits raised) (sym c.self.view_is) kept.busy;
     })
+
+pub returns-then-failed-clause-err : goal.returns-then-failed-clause-err
+returns-then-failed-clause-err g c = rw (← c.self.view_is) (own_fault (store_of c.self.inside.pages) c.fault.ensures.counted)
+
+pub returns-then-failed-clause-cause : goal.returns-then-failed-clause-cause
+returns-then-failed-clause-cause g c = rw (← c.self.view_is) (unstored_over c.self.inside.files c.self.inside.faults c.fault.result (search rules) c.fault.ensures.is)
+
+pub returns-in-Err-clause-stops : goal.returns-in-Err-clause-stops
+returns-in-Err-clause-stops g c = goes_on _ _ c.in-Err.e (search rules)
+
+pub returns-in-Err-add-clause-stops : goal.returns-in-Err-add-clause-stops
+returns-in-Err-add-clause-stops g c = rw (← c.self.view_is) (stops_unstored _ _ c.in-Err-add.e c.in-Err-add.ensures.cause)
+
+pub returns-then-failed-clause-any_moment : goal.returns-then-failed-clause-any_moment
+returns-then-failed-clause-any_moment g c = rw (← c.self.view_is) (moments_none c.law_time.ensures.first c.law_time.ensures.second refl c.self.invariant.lasts)
+
+pub invariant_of-self : goal.invariant_of-self
+invariant_of-self g c = sound_faults g.D.Disk.seen g.D.Disk.may_leave _ c.fault.new.faults c.self.invariant

@@ -2,6 +2,7 @@ use Rattle.std.proofs.Common.{◌≡◌, ◌<◌, ◌∙◌, refl, inl, sym, sub
 use Rattle.sled_store.specs.Store.{Store}
 use Rattle.sled_pages.specs.Memory.{store_of}
 use Rattle.sled_files.specs.Stored.{Stored, stored_as, over}
+use Rattle.sled_files.proofs.Coding.{stops_unreached, goes_on_err, reaches_calm, goes_on_ok}
 use Rattle.sled_files.proofs.Over.{if_ok, if_err, changes_over, refused_over}
 use Rattle.sled_files.proofs.Sound.{sound_spelled}
 use Rattle.sled_files.proofs.Ungiven.{ungiven_in_memory}
@@ -39,3 +40,12 @@ returns-in-Ok-clause-cause g c =
 
 pub returns-in-Err-clause-cause : goal.returns-in-Err-clause-cause
 returns-in-Err-clause-cause g c = inl c.in-Err.ensures.cause
+
+pub returns-in-Err-clause-stops : goal.returns-in-Err-clause-stops
+returns-in-Err-clause-stops g c = stops_unreached _ _ c.in-Err.e c.in-Err.ensures.cause
+
+pub returns-in-Ok-clause-stops : goal.returns-in-Ok-clause-stops
+returns-in-Ok-clause-stops g c = goes_on_err g.D.Disk.faults c.args.self.now _ c.link.result (ap (λ (v : Stored g.row.D.Denot). v.files.failed) c.self.view_is ∙ reaches_calm _ _ c.in-Ok.ensures.limits)
+
+pub returns-in-Ok-clause-goes_on : goal.returns-in-Ok-clause-goes_on
+returns-in-Ok-clause-goes_on g c = goes_on_ok c.link.result (ap (λ (v : Stored g.row.D.Denot). v.files.failed) c.self.view_is ∙ reaches_calm _ _ c.in-Ok.ensures.limits)

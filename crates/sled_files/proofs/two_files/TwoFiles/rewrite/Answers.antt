@@ -1,9 +1,10 @@
-use Rattle.std.proofs.Common.{◌≡◌, ◌<◌, sym, subst, ap, length, List, ℕ, true, false, arith}
+use Rattle.std.proofs.Common.{inr, refl, ◌≡◌, ◌<◌, sym, subst, ap, length, List, ℕ, true, false, arith}
 use Rattle.sled_files.specs.Change.{changed_all, nothing_yet}
 use Rattle.sled_files.specs.Files.{Files, IsReady, LeavesPairs, AreForEither, picked}
 use Rattle.sled_files.specs.Standing.{StandsWith}
 use Rattle.sled_files.specs.theory.Begun.{IsFirstBlock}
 use Rattle.sled_files.proofs.Pairs.{while_unasked, while_begun, once_begun}
+use Rattle.sled_files.proofs.Counted.{stopped}
 use Rattle.std.specs.Prelude.{not}
 use Rattle.sled_files.proofs.two_files.TwoFiles.rewrite.Goals as goal
 
@@ -23,8 +24,8 @@ returns-in_err-block-clause-any_moment g c d changes ready spells made =
     let before : IsReady disk.seen disk.may_leave old d = subst (λ (f : Files g.row.D.Denot). IsReady disk.seen disk.may_leave f d) (sym c.self.view_is) ready in
     subst (λ (f : Files g.row.D.Denot). LeavesPairs disk.moment disk.left_since disk.may_leave f f (AreForEither d (changed_all changes nothing_yet))) c.self.view_is (while_unasked disk.seen disk.moment disk.left_since disk.may_leave old d (changed_all changes nothing_yet) c.laws_of.ensures.first c.laws_of.ensures.second before)
 
-pub returns-in_err-begun-clause-any_moment : goal.returns-in_err-begun-clause-any_moment
-returns-in_err-begun-clause-any_moment g c d changes ready spells made =
+pub returns-in-Err-clause-any_moment : goal.returns-in-Err-clause-any_moment
+returns-in-Err-clause-any_moment g c d changes ready spells made =
     let disk = g.D.Disk in
     let inside = c.self.inside in
     let old : Files g.row.D.Denot = record { first = inside.first; second = inside.second; is_second = inside.is_second; gate = inside.gate; snapshot = inside.snapshot; generation = inside.generation; failed = inside.failed } in
@@ -57,8 +58,11 @@ returns-clause-ready g c d changes ready spells made =
     let first : IsFirstBlock c.deref.result.now c.args.payload.now c.in-Some.generation changes = subst (λ (l : List ℕ). IsFirstBlock l c.args.payload.now c.in-Some.generation changes) (sym c.deref.ensures.value) (c.in_ok-block.ensures.ok changes spells made) in
     let place : length c.deref.result.now ≡ c.len-self-inside.result = omega (arith, c.len-self-inside.ensures, ap length c.deref.ensures.value) in
     let begun : StandsWith (disk.seen (picked inside.is_second c.begin_other-begun.new.second c.begin_other-begun.new.first)) c.len-self-inside.result (length c.args.payload.now) c.in-Some.generation (changed_all changes nothing_yet) =
-    subst (λ (n : ℕ). StandsWith (disk.seen (picked inside.is_second c.begin_other-begun.new.second c.begin_other-begun.new.first)) n (length c.args.payload.now) c.in-Some.generation (changed_all changes nothing_yet)) place (c.in_ok-begun.ensures.stands c.args.payload.now c.in-Some.generation changes first) in
-    once_begun disk.seen disk.moment disk.left_since disk.may_leave old c.begin_other-begun.new.first c.begin_other-begun.new.second c.len-self-inside.result (length c.args.payload.now) c.in-Some.generation d (changed_all changes nothing_yet) before below c.begin_other-begun.ensures.one c.in_ok-begun.ensures.durable begun.at begun.snapshot_is
+    subst (λ (n : ℕ). StandsWith (disk.seen (picked inside.is_second c.begin_other-begun.new.second c.begin_other-begun.new.first)) n (length c.args.payload.now) c.in-Some.generation (changed_all changes nothing_yet)) place (c.in_default-begun.ensures.stands c.args.payload.now c.in-Some.generation changes first) in
+    once_begun disk.seen disk.moment disk.left_since disk.may_leave old c.begin_other-begun.new.first c.begin_other-begun.new.second c.len-self-inside.result (length c.args.payload.now) c.in-Some.generation d (changed_all changes nothing_yet) before below c.begin_other-begun.ensures.one c.in_default-begun.ensures.durable begun.at begun.snapshot_is
 
 pub returns-clause-bytes : goal.returns-clause-bytes
 returns-clause-bytes g c = omega (arith, c.len-self-inside.ensures, ap length c.deref.ensures.value, c.in_ok-block.ensures.len)
+
+pub returns-in-Err-clause-err : goal.returns-in-Err-clause-err
+returns-in-Err-clause-err g c = rw (← c.self.view_is) (inr (refl, stopped g.D.Disk.faults c.self.inside.is_second c.self.inside.first c.self.inside.second c.begin_other-begun.new.first c.begin_other-begun.new.second c.in-Err.e c.stop_of.result c.begin_other-begun.ensures.one c.in-Err.ensures.cause.is c.stop_of.ensures))
