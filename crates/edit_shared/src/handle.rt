@@ -4,7 +4,7 @@ ghost use Rattle.sled_model.specs.State.{IsOnKey};
 ghost use Rattle.machine_shared.specs.Made.{ReadMade};
 ghost use Rattle.machine_shared.specs.Notes.{AddsStep, IsEnd, noted_of};
 ghost use Rattle.machine_shared.specs.Reads.{IsAnswerTo};
-ghost use Rattle.machine_shared.specs.UnderLock.{StepsUnderLock};
+ghost use Rattle.machine_shared.specs.UnderLock.{ReadsUnderLock, StepsUnderLock};
 ghost use Rattle.machine_shared.specs.declared.read.Read.TheVariants as read;
 
 use machine_shared::{Answer, Gate, Handle, Question};
@@ -43,7 +43,7 @@ pub fn step_by_handle<P: Pages, L: Ledger, M: MergeOperator>(
     handle.step(rt, slot)
 }
 
-/// A read under one lock. It is noted with its answer.
+/// A read under one lock. It is noted with its answer, or it is refused for a cause.
 pub fn read<P: Pages, L: Ledger, M: MergeOperator>(
     handle: &mut Handle<P, L, M>,
     rt: &impl Wait,
@@ -54,6 +54,7 @@ pub fn read<P: Pages, L: Ledger, M: MergeOperator>(
     ensures ok { IfOk result (λ answer. handle.new.made ≡ handle.old.made ++ ReadMade (read.Tree tree.now question answer) ∷ []) }
     ensures err { OnErr result (handle.new.made ≡ handle.old.made) }
     ensures number { handle.new.number ≡ handle.old.number }
+    ensures looks { ReadsUnderLock P.store M.meant (tree.now ∷ []) (λ answer. read.Tree tree.now question answer) result handle.old handle.new }
 {
     handle.read(rt, tree, question)
 }

@@ -1,6 +1,5 @@
 -- What is kept of a whole call: copies of its reply beside the one that goes to the caller, and how many parts it did.
 use Rattle.std.specs.Prelude.{◌≡◌, ℕ, List, Option}
-use Rattle.std.specs.Option.{option_map}
 use Rattle.sled_store.specs.Store.{Store}
 use Rattle.sled_model.specs.Maps.{Merge}
 use Rattle.sled_model.specs.Collections.{Content, contents_of}
@@ -14,20 +13,14 @@ use Rattle.sled.specs.Values.{DbValue}
 use Rattle.tree_steps.specs.Outcomes.{kept_of}
 use Rattle.sled.specs.Parts.{ClearsParts, ImportsParts, ImportRefusedAfter}
 
+-- how a whole call came out that may be told again: of what a subscriber got next, which is given once, only that it was given
+abbrev pub told_again : Whole → Outcome → Outcome
+told_again (Next subscriber) (Decided reply) = Decided Done
+told_again whole o = o
+
 -- Of a whole call two copies of the reply are kept, as of a step; but what a subscriber got next is not: `Done` is in its place
 abbrev pub kept_of_whole : Whole → Outcome → Option (Reply × Reply)
-kept_of_whole Flush o = kept_of o
-kept_of_whole (PopMin tree) o = kept_of o
-kept_of_whole (PopMax tree) o = kept_of o
-kept_of_whole (Clear tree) o = kept_of o
-kept_of_whole (Group batches) o = kept_of o
-kept_of_whole (OpenTree name) o = kept_of o
-kept_of_whole (DropTree name) o = kept_of o
-kept_of_whole GenerateId o = kept_of o
-kept_of_whole (Import collections) o = kept_of o
-kept_of_whole (Watch tree prefix) o = kept_of o
-kept_of_whole (Next subscriber) o = option_map (λ both. (Done, Done)) (kept_of o)
-kept_of_whole (Unsubscribe subscriber) o = kept_of o
+kept_of_whole whole o = kept_of (told_again whole o)
 
 -- an import did all its parts, or it was refused after so many
 abbrev pub counts_import_as : {P M : Type 0} → (P → Store) → (M → Merge) → DbValue P M → List Content → Outcome → ℕ → DbValue P M → Type 0

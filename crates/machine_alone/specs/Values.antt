@@ -12,7 +12,7 @@ use Rattle.sled_model.specs.declared.call.Call.{Call}
 use Rattle.sled_model.specs.declared.tree.Tree.{Tree}
 use Rattle.sled_tree.specs.declared.flight.InFlight.{InFlight}
 use Rattle.sled_tree.specs.declared.flight.Job.{Job}
-use Rattle.sled.specs.Values.{DbValue, configuration_of as instant_of_db}
+use Rattle.sled.specs.Values.{DbValue, state_of}
 use Rattle.sled.specs.Flights.{call_in_flight_of}
 
 -- the database, the calls in flight by slot, and the last slot that was given
@@ -30,7 +30,7 @@ slots_of flights slot = option_map call_in_flight_of (kept_at flights slot)
 
 -- the state of the machine, its store, and the number that a flush would answer
 abbrev pub configuration_of : {P M : Type 0} → (P → Store) → (P → ℕ) → (M → Merge) → MachineValue P M → Configuration
-configuration_of store flush_number meant m = instant_of_db store meant m.db (slots_of m.flights) m.slots_given (flush_number m.db.pages)
+configuration_of store flush_number meant m = record { state = state_of store meant m.db (slots_of m.flights) m.slots_given; store = store m.db.pages; flush_number = flush_number m.db.pages }
 
 -- what a call in flight is to do: the call, and its tree; and the same of one that is lent
 abbrev pub job_of_call : CallInFlight → Tree × Call

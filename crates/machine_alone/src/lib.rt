@@ -9,7 +9,7 @@
 mod flights;
 mod laws;
 mod machine;
-mod whole_kept;
+mod whole;
 
 pub use laws::{law_extended, law_flushed, law_group, law_hears, law_scans, law_steps};
 pub use machine::Machine;

@@ -4,7 +4,6 @@ ghost use Rattle.std.specs.Option.{option_map, option_copied};
 ghost use Rattle.sled_nodes.specs.Order.{Key};
 ghost use Rattle.sled_nodes.specs.declared.error.Error.TheVariants.{NoMemory};
 ghost use Rattle.sled_model.specs.Refusal.{must_refuse, ToBegin};
-ghost use Rattle.sled_model.specs.declared.call.Whole.TheVariants.{Flush, PopMin, PopMax, Clear, Group, OpenTree, DropTree, GenerateId, Import, Watch, Next, Unsubscribe};
 ghost use Rattle.sled_model.specs.declared.call.Call.{Call};
 ghost use Rattle.sled_model.specs.declared.outcome.Outcome.TheVariants as outcome;
 ghost use Rattle.sled_model.specs.declared.outcome.Step.TheVariants as step;
@@ -14,10 +13,7 @@ use crate::flights::{
     add, finish_in, job_in, outcome_at_once, outcome_of, remove, step_in, turns_in,
 };
 use sled::{Db, TransactionAnswer, TransactionalTree, TransactionalTrees};
-use sled_batch::Batch;
-use sled_model::{
-    Call, Collection, MergeOperator, Outcome, Reply, Slot, Step, Subscriber, Tree, Whole,
-};
+use sled_model::{Call, MergeOperator, Outcome, Reply, Slot, Step, Tree};
 use sled_nodes::texts::NUMBERS_USED_UP;
 use sled_nodes::{Error, IVec, Result};
 use sled_store::Pages;
@@ -394,149 +390,6 @@ impl<P: Pages, M: MergeOperator> Machine<P, M> {
         ensures { result ≡ option_map (λ f. f.turns) (slots_of self.now.flights slot) }
     {
         turns_in(&self.flights, slot.0)
-    }
-
-    /// Does a whole call, in one step.
-    ///
-    /// ```
-    /// let outcome = machine.whole(Whole::Flush); // `Decided(Reply::Number(..))`, or why not.
-    /// ```
-    pub fn whole(&mut self, whole: Whole) -> Outcome
-        ensures { MachineStepContract P.store P.flush_number M.meant self.old (step.Whole whole) result self.new }
-    {
-        let outcome = self.whole_of(&whole);
-        drop(whole);
-        outcome
-    }
-
-    pub(crate) fn whole_of(&mut self, whole: &Whole) -> Outcome
-        ensures { MachineStepContract P.store P.flush_number M.meant self.old (step.Whole whole.now) result self.new }
-    {
-        match whole {
-            Whole::Flush => self.flush(),
-            Whole::PopMin(tree) => self.pop_min(tree),
-            Whole::PopMax(tree) => self.pop_max(tree),
-            Whole::Clear(tree) => self.clear(tree),
-            Whole::Group(batches) => self.group(batches),
-            Whole::OpenTree(name) => self.open_tree(name),
-            Whole::DropTree(name) => self.drop_tree(name),
-            Whole::GenerateId => self.generate_id(),
-            Whole::Import(collections) => self.import(collections),
-            Whole::Watch(tree, prefix) => self.watch(tree, prefix),
-            Whole::Next(subscriber) => self.next(subscriber),
-            Whole::Unsubscribe(subscriber) => self.unsubscribe(subscriber),
-        }
-    }
-
-    fn flush(&mut self) -> Outcome
-        ensures { MachineStepContract P.store P.flush_number M.meant self.old (step.Whole Flush) result self.new }
-    {
-        let count = match self.db.flush() {
-            Ok(count) => count,
-            Err(e) => return Outcome::Refused(e),
-        };
-        Outcome::Decided(Reply::Number(count as u64))
-    }
-
-    fn pop_min(&mut self, tree: &Tree) -> Outcome
-        ensures { MachineStepContract P.store P.flush_number M.meant self.old (step.Whole (PopMin tree.now)) result self.new }
-    {
-        let found = match self.db.pop_min(tree) {
-            Ok(found) => found,
-            Err(e) => return Outcome::Refused(e),
-        };
-        Outcome::Decided(Reply::Pair(found))
-    }
-
-    fn pop_max(&mut self, tree: &Tree) -> Outcome
-        ensures { MachineStepContract P.store P.flush_number M.meant self.old (step.Whole (PopMax tree.now)) result self.new }
-    {
-        let found = match self.db.pop_max(tree) {
-            Ok(found) => found,
-            Err(e) => return Outcome::Refused(e),
-        };
-        Outcome::Decided(Reply::Pair(found))
-    }
-
-    fn clear(&mut self, tree: &Tree) -> Outcome
-        ensures { MachineStepContract P.store P.flush_number M.meant self.old (step.Whole (Clear tree.now)) result self.new }
-    {
-        if let Err(e) = self.db.clear(tree) {
-            return Outcome::Refused(e);
-        }
-        Outcome::Decided(Reply::Done)
-    }
-
-    fn group(&mut self, batches: &Vec<(Tree, Batch)>) -> Outcome
-        ensures { MachineStepContract P.store P.flush_number M.meant self.old (step.Whole (Group batches.now)) result self.new }
-    {
-        if let Err(e) = self.db.apply_group(batches.as_slice()) {
-            return Outcome::Refused(e);
-        }
-        Outcome::Decided(Reply::Done)
-    }
-
-    fn open_tree(&mut self, name: &IVec) -> Outcome
-        ensures { MachineStepContract P.store P.flush_number M.meant self.old (step.Whole (OpenTree name.now)) result self.new }
-    {
-        let tree = match self.db.open_tree(name.as_ref()) {
-            Ok(tree) => tree,
-            Err(e) => return Outcome::Refused(e),
-        };
-        Outcome::Decided(Reply::Tree(tree))
-    }
-
-    fn drop_tree(&mut self, name: &IVec) -> Outcome
-        ensures { MachineStepContract P.store P.flush_number M.meant self.old (step.Whole (DropTree name.now)) result self.new }
-    {
-        let dropped = match self.db.drop_tree(name.as_ref()) {
-            Ok(dropped) => dropped,
-            Err(e) => return Outcome::Refused(e),
-        };
-        Outcome::Decided(Reply::Flag(dropped))
-    }
-
-    fn generate_id(&mut self) -> Outcome
-        ensures { MachineStepContract P.store P.flush_number M.meant self.old (step.Whole GenerateId) result self.new }
-    {
-        let id = match self.db.generate_id() {
-            Ok(id) => id,
-            Err(e) => return Outcome::Refused(e),
-        };
-        Outcome::Decided(Reply::Number(id))
-    }
-
-    fn import(&mut self, collections: &Vec<Collection>) -> Outcome
-        ensures { MachineStepContract P.store P.flush_number M.meant self.old (step.Whole (Import collections.now)) result self.new }
-    {
-        if let Err(e) = self.db.import(collections.as_slice()) {
-            return Outcome::Refused(e);
-        }
-        Outcome::Decided(Reply::Done)
-    }
-
-    fn watch(&mut self, tree: &Tree, prefix: &IVec) -> Outcome
-        ensures { MachineStepContract P.store P.flush_number M.meant self.old (step.Whole (Watch tree.now prefix.now)) result self.new }
-    {
-        let subscriber = match self.db.watch_prefix(tree, prefix.as_ref()) {
-            Ok(subscriber) => subscriber,
-            Err(e) => return Outcome::Refused(e),
-        };
-        Outcome::Decided(Reply::Subscriber(subscriber))
-    }
-
-    fn next(&mut self, subscriber: &Subscriber) -> Outcome
-        ensures { MachineStepContract P.store P.flush_number M.meant self.old (step.Whole (Next subscriber.now)) result self.new }
-    {
-        let next = self.db.next(subscriber);
-        Outcome::Decided(Reply::Next(next))
-    }
-
-    fn unsubscribe(&mut self, subscriber: &Subscriber) -> Outcome
-        ensures { MachineStepContract P.store P.flush_number M.meant self.old (step.Whole (Unsubscribe subscriber.now)) result self.new }
-    {
-        self.db.unsubscribe(subscriber);
-        Outcome::Decided(Reply::Done)
     }
 
     /// Does steps of the call in the slot until it ends; of a scan until it gives its next pair, or ends. There are no more than its

@@ -1,5 +1,5 @@
 -- A fetch keeps what holds of a state.
-use Rattle.std.proofs.Common.{◌≡◌, ◌∙◌, ℕ, List, [], ◌∷◌, ◌++◌, length, Option, Result, Ok, Err, IfOk, OnErr, sym, refl, ap, subst}
+use Rattle.std.proofs.Common.{◌≡◌, ◌∙◌, inl, inr, ℕ, List, [], ◌∷◌, ◌++◌, length, Option, Result, Ok, Err, IfOk, OnErr, sym, refl, ap, subst}
 use Rattle.sled_store.specs.Store.{Store}
 use Rattle.tree_laws.proofs.Crashing.{extends_same}
 use Rattle.sled_model.specs.Answer.{key_of, decision_of, answer_of}
@@ -17,6 +17,7 @@ use Rattle.sled_model.specs.declared.reply.Reply.{Reply}
 use Rattle.sled_model.specs.declared.reply.Reply.TheVariants.{Swapped}
 use Rattle.sled_model.specs.declared.tree.Tree.{Tree}
 use Rattle.sled.specs.Direct.{PointDecided}
+use Rattle.sled.specs.Fetch.{Closure, FetchRefused}
 use Rattle.sled.specs.Values.{DbValue, db_state}
 use Rattle.machine_alone.specs.Ids.{RiseBetween}
 use Rattle.machine_alone.specs.Values.{MachineValue}
@@ -25,7 +26,7 @@ use Rattle.machine_shared.specs.History.{MakesPoint, ids_made}
 use Rattle.machine_shared.specs.Made.{EntryValue, MadeValue, PointMade}
 use Rattle.machine_shared.specs.Notes.{entries_of}
 use Rattle.machine_shared.specs.Sound.{CrashLeaves, IsState}
-use Rattle.machine_shared.specs.Fetches.{SwapsNow, StaysStill, swap_made}
+use Rattle.machine_shared.specs.Fetches.{ByRead, BySwap, ForMemory, RefusesFetch, SwapsNow, StaysStill, swap_made}
 use Rattle.machine_alone.proofs.Rising.{at_most}
 use Rattle.machine_shared.proofs.Ids.{longer_rises}
 use Rattle.machine_shared.proofs.Moments.{GoesOn}
@@ -36,6 +37,17 @@ use Rattle.machine_shared.proofs.WholeMakes.{after_maps, there_map}
 -- where nothing is done no map changes
 pub nothing_done : {P M : Type 0} (store : P → Store) (meant : M → Merge) (m : MachineValue P M) → StaysStill store meant m m
 nothing_done store meant m = record { state = refl; extends = extends_same (store m.db.pages); ids = refl }
+
+-- a fetch that a machine refuses
+pub swap_refused : {P M F : Type 0} (store : P → Store) (meant : M → Merge) (closure : Closure F) (f : F) (old : DbValue P M) (tree : Tree) (key : Key) (e : Error) (new : DbValue P M) → FetchRefused store meant closure f old tree key e new
+    → RefusesFetch store meant old tree key e new
+swap_refused store meant closure f old tree key e new r = elim r.why [
+  | inl unread ↦ ByRead unread.refuses unread.gives_up unread.is
+  | inr other ↦ elim other [
+    | inl unmade ↦ ForMemory unmade.stands.tested unmade.told unmade.is
+    | inr unswapped ↦ BySwap unswapped.makes.stands unswapped.refused
+  ]
+]
 
 -- a call that is made at once
 pub point_made : (old : State) (tree : Tree) (call : Call) (reply : Reply) (new : State) → DecidesPoint old tree call reply new → MakesPoint (maps_of old) tree call reply (maps_of new)

@@ -3,6 +3,7 @@ pub mod Legal
 pub mod Noted
 pub mod Opening
 pub mod Once
+pub mod Refusing
 pub mod Equal
 pub mod WholeMakes
 pub mod WholeTests

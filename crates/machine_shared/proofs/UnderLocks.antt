@@ -23,7 +23,7 @@ use Rattle.sled_model.specs.declared.outcome.Outcome.{Outcome}
 use Rattle.sled_tree.specs.declared.flight.Job.{Job}
 use Rattle.machine_shared.specs.Made.{MadeValue, ReadMade, EntryValue}
 use Rattle.machine_shared.specs.Notes.{entries_of}
-use Rattle.machine_shared.specs.Fetches.{FetchesOnce, StaysStill, SwapsNow, swap_made}
+use Rattle.machine_shared.specs.Fetches.{FetchesOnce, RefusesFetch, StaysStill, SwapsNow, swap_made}
 use Rattle.machine_shared.specs.declared.called.Stepped.{Stepped}
 use Rattle.machine_shared.specs.declared.called.Stepped.TheVariants.{Ended, On}
 use Rattle.machine_shared.specs.Replies.{ended_as, ended_with}
@@ -37,7 +37,7 @@ use Rattle.machine_shared.specs.theory.Copied.{BeganStepped, EndsStepped, StaysI
 use Rattle.machine_shared.specs.theory.Replying.{IsGroupOf}
 use Rattle.machine_shared.specs.Scans.{ScansValue, NotesScan, AreNoted, AreNotKept, AreInOrder, begun_of, noted_at}
 use Rattle.machine_shared.specs.Sound.{IsState}
-use Rattle.machine_shared.specs.UnderLock.{IsHeld, AbandonsSlot, BeginsCall, BeginsUnderLock, EndsUnderLock, GroupsUnderLock, Looks, ReadsUnderLock, UnderLock, WholesUnderLock, read_made}
+use Rattle.machine_shared.specs.UnderLock.{AddsMade, IsHeld, AbandonsSlot, BeginsCall, BeginsUnderLock, EndsUnderLock, GroupsUnderLock, Looks, ReadsNow, ReadsUnderLock, RefusesNow, UnderLock, WholesUnderLock, read_made}
 use Rattle.machine_shared.specs.UnderWay.{MachineScans}
 use Rattle.machine_shared.specs.Values.{CallerValue, StateValue}
 use Rattle.machine_shared.proofs.ScanStates.{has_scans}
@@ -86,12 +86,20 @@ pub caller_is : (more : CallerValue) (number : ℕ) (made : List MadeValue) → 
 caller_is more number made n m = ap (λ k. record { number = k; made = more.made }) n ∙ ap (λ l. record { number = number; made = l }) m
 
 -- a begin, by how it came out
+pub begins_as : {P M : Type 0} (store : P → Store) (number : P → ℕ) (meant : M → Merge) (old new : StateValue P M) (tree : Tree) (call : Call) (r : Result ℕ Error)
+    → IfOk r (λ slot. MachineStepContract store number meant old.machine (step.Begin tree call) (outcome.Begun slot) new.machine) → IfErr r (λ e. MachineStepContract store number meant old.machine (step.Begin tree call) (outcome.Refused e) new.machine)
+    → new.history ≡ old.history → new.opening ≡ old.opening → IfOk r (λ slot. NotesScan old.scans (noted_at slot (length old.history) (begun_of tree call)) new.scans) → OnErr r (new.scans ≡ old.scans)
+    → BeginsCall store number meant tree call r old new
+begins_as store number meant old new tree call (Ok slot) ok err history opening scans same = record { step = ok; history = history; opening = opening; scans = scans }
+begins_as store number meant old new tree call (Err e) ok err history opening scans same = record { step = err; history = history; opening = opening; scans = quiet_scans old.scans new.scans same }
+
+-- .. under the lock
 pub begins : {P M : Type 0} (store : P → Store) (number : P → ℕ) (meant : M → Merge) (old new : StateValue P M) (tree : Tree) (call : Call) (r : Result ℕ Error) → IsHeld store old → IsHeld store new
     → IfOk r (λ slot. MachineStepContract store number meant old.machine (step.Begin tree call) (outcome.Begun slot) new.machine) → IfErr r (λ e. MachineStepContract store number meant old.machine (step.Begin tree call) (outcome.Refused e) new.machine)
     → new.history ≡ old.history → new.opening ≡ old.opening → IfOk r (λ slot. NotesScan old.scans (noted_at slot (length old.history) (begun_of tree call)) new.scans) → OnErr r (new.scans ≡ old.scans)
     → BeginsUnderLock store number meant tree call r
-begins store number meant old new tree call (Ok slot) before after ok err history opening scans same = inr (record { old = old; new = new; before = before; after = after; is = record { step = ok; history = history; opening = opening; scans = scans } })
-begins store number meant old new tree call (Err e) before after ok err history opening scans same = inr (record { old = old; new = new; before = before; after = after; is = record { step = err; history = history; opening = opening; scans = quiet_scans old.scans new.scans same } })
+begins store number meant old new tree call r before after ok err history opening scans same =
+    inr (record { old = old; new = new; before = before; after = after; is = begins_as store number meant old new tree call r ok err history opening scans same })
 
 -- where a call has ended it was stepped under the lock
 pub ends_stepped : {P M : Type 0} (store : P → Store) (number : P → ℕ) (meant : M → Merge) (tree : Tree) (call : Call) (me more : CallerValue) (o : Outcome) (slot : ℕ) (left : Option (Job × Job)) (r : Stepped) → TakesOn o slot left r
@@ -104,48 +112,63 @@ pub read_noted : {A : Type 0} (read_of : A → Read) (r : Result A Error) (noted
 read_noted read_of (Ok a) noted ok err = ok
 read_noted read_of (Err e) noted ok err = err
 
--- a read that was noted, with nothing else that changed
-pub looked : {P M : Type 0} (machine : MachineValue P M) (opening : List Content) (scans : ScansValue) (history longer : List EntryValue) (number : ℕ) (list more : List MadeValue) (noted : List MadeValue)
+-- a read, with nothing else that changed
+pub looked : {P M A : Type 0} (store : P → Store) (meant : M → Merge) (trees : List Tree) (read_of : A → Read) (r : Result A Error) (machine : MachineValue P M) (opening : List Content) (scans : ScansValue) (history longer : List EntryValue) (number : ℕ) (list more : List MadeValue)
     (s : StateValue P M) → record { machine = machine; opening = opening; history = history; scans = scans } ≡ s → (m : CallerValue) → record { number = number; made = list } ≡ m
-    → longer ≡ history ++ entries_of number noted → more ≡ list ++ noted → Looks noted m (record { number = number; made = more }) s (record { machine = machine; opening = opening; history = longer; scans = scans })
-looked machine opening scans history longer number list more noted s at_s m at_m grows grows_there =
-    subst (λ x. Looks noted m (record { number = number; made = more }) x (record { machine = machine; opening = opening; history = longer; scans = scans })) at_s
-    (subst (λ x. Looks noted x (record { number = number; made = more }) (record { machine = machine; opening = opening; history = history; scans = scans }) (record { machine = machine; opening = opening; history = longer; scans = scans })) at_m
-    (record { machine = refl; adds = record { history = grows; list = ap (λ l. record { number = number; made = l }) grows_there; opening = refl }; scans = refl }))
+    → IfOk r (λ a. ReadsNow store meant machine trees (read_of a)) → IfErr r (RefusesNow store meant machine trees) → longer ≡ history ++ entries_of number (read_made read_of r) → more ≡ list ++ read_made read_of r
+    → Looks store meant trees read_of r m (record { number = number; made = more }) s (record { machine = machine; opening = opening; history = longer; scans = scans })
+looked store meant trees read_of r machine opening scans history longer number list more s at_s m at_m reads refused grows grows_there =
+    subst (λ x. Looks store meant trees read_of r m (record { number = number; made = more }) x (record { machine = machine; opening = opening; history = longer; scans = scans })) at_s
+    (subst (λ x. Looks store meant trees read_of r x (record { number = number; made = more }) (record { machine = machine; opening = opening; history = history; scans = scans }) (record { machine = machine; opening = opening; history = longer; scans = scans })) at_m
+    (record { reads = reads; refused = refused; machine = refl; adds = record { history = grows; list = ap (λ l. record { number = number; made = l }) grows_there; opening = refl }; scans = refl }))
 
 -- a read whose answer is told as a value of its kind
-pub told_as : {P M A B : Type 0} (store : P → Store) (meant : M → Merge) (read_of : A → Read) (tell : B → A) (a : A) (b : B) (me more : CallerValue) → a ≡ tell b → ReadsUnderLock store meant read_of (Ok a) me more → ReadsUnderLock store meant (λ x. read_of (tell x)) (Ok b) me more
-told_as store meant read_of tell a b me more is reads = elim reads [
+pub told_as : {P M A B : Type 0} (store : P → Store) (meant : M → Merge) (trees : List Tree) (read_of : A → Read) (tell : B → A) (a : A) (b : B) (me more : CallerValue) → a ≡ tell b
+    → ReadsUnderLock store meant trees read_of (Ok a) me more → ReadsUnderLock store meant trees (λ x. read_of (tell x)) (Ok b) me more
+told_as store meant trees read_of tell a b me more is reads = elim reads [
   | inl x ↦ ok_err a x.cause (Ok a) refl x.refused
-  | inr u ↦ inr (record { old = u.old; new = u.new; before = u.before; after = u.after; is = subst (λ n. Looks n me more u.old u.new) (ap (λ x. ReadMade (read_of x) ∷ []) is) u.is })
+  | inr u ↦ inr (record {
+    old = u.old;
+    new = u.new;
+    before = u.before;
+    after = u.after;
+    is = record {
+      reads = subst (λ z. ReadsNow store meant u.old.machine trees (read_of z)) is u.is.reads;
+      refused = tt;
+      machine = u.is.machine;
+      adds = subst (λ z. AddsMade u.old me (ReadMade (read_of z) ∷ []) u.new more) is u.is.adds;
+      scans = u.is.scans;
+    };
+  })
 ]
 
 -- .. and a refusal of the one is one of the other
-pub refused_as : {P M A B : Type 0} (store : P → Store) (meant : M → Merge) (read_of : A → Read) (other : B → Read) (e : Error) (me more : CallerValue) → ReadsUnderLock store meant read_of (Err e) me more → ReadsUnderLock store meant other (Err e) me more
-refused_as store meant read_of other e me more reads = elim reads [
+pub refused_as : {P M A B : Type 0} (store : P → Store) (meant : M → Merge) (trees : List Tree) (read_of : A → Read) (other : B → Read) (e : Error) (me more : CallerValue)
+    → ReadsUnderLock store meant trees read_of (Err e) me more → ReadsUnderLock store meant trees other (Err e) me more
+refused_as store meant trees read_of other e me more reads = elim reads [
   | inl x ↦ inl (record { cause = x.cause; unmade = x.unmade; refused = ap (λ c. Err c) (err_is e x.cause (Err e) refl x.refused); same = x.same })
-  | inr u ↦ inr (record { old = u.old; new = u.new; before = u.before; after = u.after; is = u.is })
+  | inr u ↦ inr (record { old = u.old; new = u.new; before = u.before; after = u.after; is = record { reads = tt; refused = u.is.refused; machine = u.is.machine; adds = u.is.adds; scans = u.is.scans } })
 ]
 
 -- a read that there was no memory for
-pub unread : {P M A : Type 0} (store : P → Store) (meant : M → Merge) (read_of : A → Read) (r : Result A Error) (e cause : Error) (me : CallerValue) → r ≡ Err e → e ≡ cause → cause ≡ NoMemory → ReadsUnderLock store meant read_of r me me
-unread store meant read_of r e cause me is same lacks = inl (record { cause = NoMemory; unmade = tt; refused = is ∙ ap (λ c. Err c) (same ∙ lacks); same = refl })
+pub unread : {P M A : Type 0} (store : P → Store) (meant : M → Merge) (trees : List Tree) (read_of : A → Read) (r : Result A Error) (e cause : Error) (me : CallerValue) → r ≡ Err e → e ≡ cause → cause ≡ NoMemory → ReadsUnderLock store meant trees read_of r me me
+unread store meant trees read_of r e cause me is same lacks = inl (record { cause = NoMemory; unmade = tt; refused = is ∙ ap (λ c. Err c) (same ∙ lacks); same = refl })
 
 -- a fetch, by how it came out
 pub fetched : {P M : Type 0} (store : P → Store) (meant : M → Merge) (machine after : MachineValue P M) (opening : List Content) (scans : ScansValue) (history longer : List EntryValue) (number : ℕ) (list more : List MadeValue)
     (tree : Tree) (key : Key) (r : Result (Option Key × Option Key) Error) (noted : List MadeValue) (s : StateValue P M) → record { machine = machine; opening = opening; history = history; scans = scans } ≡ s → (m : CallerValue) → record { number = number; made = list } ≡ m
-    → IfOk r (λ both. SwapsNow store meant machine tree key both.0 both.1 after) → OnErr r (StaysStill store meant machine after) → IfOk r (λ both. noted ≡ swap_made tree key both.0 both.1 ∷ []) → OnErr r (noted ≡ [])
+    → IfOk r (λ both. SwapsNow store meant machine tree key both.0 both.1 after) → OnErr r (StaysStill store meant machine after) → IfErr r (λ e. RefusesFetch store meant machine.db tree key e after.db) → IfOk r (λ both. noted ≡ swap_made tree key both.0 both.1 ∷ []) → OnErr r (noted ≡ [])
     → after ≡ record machine { db = after.db } → longer ≡ history ++ entries_of number noted → more ≡ list ++ noted
     → FetchesOnce store meant tree key r m (record { number = number; made = more }) s (record { machine = after; opening = opening; history = longer; scans = scans })
-fetched {P} {M} store meant machine after opening scans history longer number list more tree key r noted s at_s m at_m swaps stays ok err same grows grows_there =
+fetched {P} {M} store meant machine after opening scans history longer number list more tree key r noted s at_s m at_m swaps stays causes ok err same grows grows_there =
     subst (λ x. FetchesOnce store meant tree key r m (record { number = number; made = more }) x (record { machine = after; opening = opening; history = longer; scans = scans })) at_s
     (subst (λ x. FetchesOnce store meant tree key r x (record { number = number; made = more }) (record { machine = machine; opening = opening; history = history; scans = scans }) (record { machine = after; opening = opening; history = longer; scans = scans })) at_m
-    (go r swaps stays ok err))
+    (go r swaps stays causes ok err))
   where
-    go : (r : Result (Option Key × Option Key) Error) → IfOk r (λ both. SwapsNow store meant machine tree key both.0 both.1 after) → OnErr r (StaysStill store meant machine after) → IfOk r (λ both. noted ≡ swap_made tree key both.0 both.1 ∷ []) → OnErr r (noted ≡ [])
+    go : (r : Result (Option Key × Option Key) Error) → IfOk r (λ both. SwapsNow store meant machine tree key both.0 both.1 after) → OnErr r (StaysStill store meant machine after) → IfErr r (λ e. RefusesFetch store meant machine.db tree key e after.db) → IfOk r (λ both. noted ≡ swap_made tree key both.0 both.1 ∷ []) → OnErr r (noted ≡ [])
         → FetchesOnce store meant tree key r (record { number = number; made = list }) (record { number = number; made = more }) (record { machine = machine; opening = opening; history = history; scans = scans }) (record { machine = after; opening = opening; history = longer; scans = scans })
-    go (Ok both) swaps stays ok err = record { changes = swaps; same = same; adds = record { history = grows ∙ ap (λ n. history ++ entries_of number n) ok; list = ap (λ l. record { number = number; made = l }) (grows_there ∙ ap (λ n. list ++ n) ok); opening = refl }; scans = refl }
-    go (Err e) swaps stays ok err = record { changes = stays; same = same; adds = record { history = grows ∙ ap (λ n. history ++ entries_of number n) err; list = ap (λ l. record { number = number; made = l }) (grows_there ∙ ap (λ n. list ++ n) err); opening = refl }; scans = refl }
+    go (Ok both) swaps stays causes ok err = record { changes = swaps; same = same; adds = record { history = grows ∙ ap (λ n. history ++ entries_of number n) ok; list = ap (λ l. record { number = number; made = l }) (grows_there ∙ ap (λ n. list ++ n) ok); opening = refl }; scans = refl }
+    go (Err e) swaps stays causes ok err = record { changes = (stays, causes); same = same; adds = record { history = grows ∙ ap (λ n. history ++ entries_of number n) err; list = ap (λ l. record { number = number; made = l }) (grows_there ∙ ap (λ n. list ++ n) err); opening = refl }; scans = refl }
 
 -- ---- whole calls, by what their short forms return
 
@@ -155,6 +178,10 @@ module _ {P M : Type 0} (store : P → Store) (number : P → ℕ) (meant : M �
   whole_told asked tell reply b same is w =
       subst (λ a. WholesUnderLock store number meant a (outcome.Decided (tell b)) me more) same
       (subst (λ r. WholesUnderLock store number meant asked (outcome.Decided r) me more) is w)
+
+  -- the same call may be said in two ways
+  pub whole_same : {B : Type 0} (asked : Whole) (tell : B → Reply) (r : Result B CallError) → asked ≡ whole → WholesUnderLock store number meant asked (ended_with tell r) me more → WholesUnderLock store number meant whole (ended_with tell r) me more
+  whole_same asked tell r same w = subst (λ a. WholesUnderLock store number meant a (ended_with tell r) me more) same w
 
   -- .. and one that was refused
   pub whole_refused : {B : Type 0} (asked : Whole) (tell : B → Reply) (e : CallError) → asked ≡ whole → WholesUnderLock store number meant asked (ended_as (Err e)) me more → WholesUnderLock store number meant whole (ended_with tell (Err e)) me more
@@ -167,20 +194,17 @@ lacks_call tell r e cause me is f g = inl (ap (λ x. ended_with tell x) is ∙ a
 
 -- a group, by what it has
 module _ {P M : Type 0} (store : P → Store) (number : P → ℕ) (meant : M → Merge) (batches : List (Tree × Writes)) (whole : Whole) (me more : CallerValue) (is : IsGroupOf batches whole) where
-  pub group_told : (tell : Unit {0} → Reply) (reply : Reply) → reply ≡ tell tt → WholesUnderLock store number meant whole (ended_as (Ok reply)) me more → GroupsUnderLock store number meant batches (ended_with tell (Ok tt)) me more
-  group_told tell reply told w = inr (is.group, is.holds, whole_told store number meant (Group is.group) me more whole tell reply tt is.is told w)
-
-  pub group_refused : (tell : Unit {0} → Reply) (e : CallError) → WholesUnderLock store number meant whole (ended_as (Err e)) me more → GroupsUnderLock store number meant batches (ended_with tell (Err e)) me more
-  group_refused tell e w = inr (is.group, is.holds, whole_refused store number meant (Group is.group) me more whole tell e is.is w)
+  pub group_same : (tell : Unit {0} → Reply) (r : Result (Unit {0}) CallError) → WholesUnderLock store number meant whole (ended_with tell r) me more → GroupsUnderLock store number meant batches (ended_with tell r) me more
+  group_same tell r w = inr (is.group, is.holds, whole_same store number meant (Group is.group) me more whole tell r is.is w)
 
 -- ---- reads of a tree, by what their short forms return
 
 module _ {P M B : Type 0} (store : P → Store) (meant : M → Merge) (tree : Tree) (question : Question) (tell : B → Answer) (me more : CallerValue) where
-  pub read_told : (asked : Question) (a : Answer) (b : B) → asked ≡ question → a ≡ tell b → ReadsUnderLock store meant (λ x. read.Tree tree asked x) (Ok a) me more → ReadsUnderLock store meant (λ x. read.Tree tree question (tell x)) (Ok b) me more
-  read_told asked a b same is reads = told_as store meant (λ x. read.Tree tree question x) tell a b me more is (subst (λ q. ReadsUnderLock store meant (λ x. read.Tree tree q x) (Ok a) me more) same reads)
+  pub read_told : (asked : Question) (a : Answer) (b : B) → asked ≡ question → a ≡ tell b → ReadsUnderLock store meant (tree ∷ []) (λ x. read.Tree tree asked x) (Ok a) me more → ReadsUnderLock store meant (tree ∷ []) (λ x. read.Tree tree question (tell x)) (Ok b) me more
+  read_told asked a b same is reads = told_as store meant (tree ∷ []) (λ x. read.Tree tree question x) tell a b me more is (subst (λ q. ReadsUnderLock store meant (tree ∷ []) (λ x. read.Tree tree q x) (Ok a) me more) same reads)
 
-  pub read_refused : (asked : Question) (e : Error) → ReadsUnderLock store meant (λ x. read.Tree tree asked x) (Err e) me more → ReadsUnderLock store meant (λ x. read.Tree tree question (tell x)) (Err e) me more
-  read_refused asked e reads = refused_as store meant (λ x. read.Tree tree asked x) (λ x. read.Tree tree question (tell x)) e me more reads
+  pub read_refused : (asked : Question) (e : Error) → ReadsUnderLock store meant (tree ∷ []) (λ x. read.Tree tree asked x) (Err e) me more → ReadsUnderLock store meant (tree ∷ []) (λ x. read.Tree tree question (tell x)) (Err e) me more
+  read_refused asked e reads = refused_as store meant (tree ∷ []) (λ x. read.Tree tree asked x) (λ x. read.Tree tree question (tell x)) e me more reads
 
 -- ---- calls on keys that go on
 

@@ -10,11 +10,12 @@ use Rattle.machine_shared.specs.Values.{SharedValue, StateValue}
 abbrev pub NoneAbove : List EntryValue → ℕ → Type 0
 NoneAbove history number = All (λ e. e.by ≤ number) history
 
--- so many callers share it, none of which has a handle yet, and their numbers follow all those in the history
+-- so many callers share it, none of which has a handle yet, and their numbers follow the greatest in the history
 pub record SharesAgain {P M : Type 0} (state : StateValue P M) (callers : ℕ) (shared : SharedValue) : Type 0 where
   pub callers_are : shared.callers ≡ callers
   pub none : shared.given ≡ 0
   pub behind : NoneAbove state.history shared.before
+  pub next : (number : ℕ) → NoneAbove state.history number → shared.before ≤ number
   pub opening : shared.opening ≡ state.opening
 
 -- there are not so many numbers left, or there is no memory

@@ -1,16 +1,21 @@
 -- Pages of a range, one after the other.
-use Rattle.std.specs.Prelude.{◌≡◌, ◌⊎◌, ℕ, ◌-◌, nat_lt, nat_eq, Bool, true, false, ◌||◌, List, [], ◌∷◌, ◌++◌, length, slice_get, Option, Some, None}
+use Rattle.std.specs.Prelude.{◌≡◌, ◌⊎◌, ℕ, ◌-◌, nat_lt, nat_eq, Bool, true, false, ◌||◌, List, [], ◌∷◌, ◌++◌, length, slice_get, Option, Some, None, Result, Ok, Err}
 use Rattle.std.specs.Option.{option_map}
 use Rattle.std.specs.declared.ops.Bound.{Bound}
 use Rattle.std.specs.declared.ops.Bound.TheVariants.{Excluded}
 use Rattle.sled_nodes.specs.Order.{Key}
 use Rattle.sled_nodes.specs.declared.error.Error.{Error}
 use Rattle.sled_nodes.specs.declared.error.Error.TheVariants.{NoMemory}
+use Rattle.sled_store.specs.Store.{Store}
+use Rattle.sled_model.specs.Maps.{Merge}
 use Rattle.machine_shared.specs.Made.{MadeValue, ReadMade}
 use Rattle.machine_shared.specs.Reads.{IsPart}
+use Rattle.machine_shared.specs.UnderLock.{ReadsUnderLock}
+use Rattle.machine_shared.specs.Values.{CallerValue}
 use Rattle.machine_shared.specs.declared.range_pages.RangePages.{RangePages}
 use Rattle.machine_shared.specs.declared.read.Answer.TheVariants as told
 use Rattle.machine_shared.specs.declared.read.Question.TheVariants as asks
+use Rattle.machine_shared.specs.declared.read.Read.{Read}
 use Rattle.machine_shared.specs.declared.read.Read.TheVariants as read
 
 -- the key of the last of these pairs, if there is one
@@ -36,9 +41,12 @@ is_last_page most count = nat_lt count most || nat_eq count 0
 abbrev pub behind : RangePages → List (Key × Key) → RangePages
 behind r pairs = record r { lo = lo_behind r.back (last_key pairs) r.lo; hi = hi_behind r.back (last_key pairs) r.hi; ended = is_last_page r.most (length pairs) }
 
--- the next page, as it is noted
+-- the next page, as it is read, and as it is noted
+abbrev pub page_read : RangePages → List (Key × Key) → Read
+page_read r pairs = read.Tree r.tree (asks.Page r.lo r.hi r.back r.most) (told.Pairs pairs)
+
 abbrev pub page_made : RangePages → List (Key × Key) → MadeValue
-page_made r pairs = ReadMade (read.Tree r.tree (asks.Page r.lo r.hi r.back r.most) (told.Pairs pairs))
+page_made r pairs = ReadMade (page_read r pairs)
 
 -- The next page is given, and added at the end of a list. It is a part of what was left of the range, and what is left is after it
 pub record GivesPage (old : RangePages) (pairs : List (Key × Key)) (new : RangePages) (made more : List MadeValue) : Type 0 where
@@ -59,3 +67,13 @@ pub record RefusesPage (old new : RangePages) (made more : List MadeValue) (e : 
   pub unended : old.ended ≡ false
   pub same : new ≡ old
   pub adds : (more ≡ made) ⊎ LacksMemory old made more e
+
+module _ {P M : Type 0} (store : P → Store) (meant : M → Merge) (r : RangePages) (me more : CallerValue) where
+  -- the next page came of a read under the lock
+  abbrev pub ReadsPage : Result (List (Key × Key)) Error → Type 0
+  ReadsPage result = ReadsUnderLock store meant (r.tree ∷ []) (page_read r) result me more
+
+  -- so did a page that is given; one that is refused was refused there, or it was read and there was no memory to go past it
+  abbrev pub PagesUnderLock : Result (List (Key × Key)) Error → Type 0
+  PagesUnderLock (Ok pairs) = ReadsPage (Ok pairs)
+  PagesUnderLock (Err e) = ReadsPage (Err e) ⊎ ((e ≡ NoMemory) × (pairs : List (Key × Key)) × ReadsPage (Ok pairs))

@@ -1,12 +1,18 @@
 -- What reads under one lock return.
-use Rattle.std.specs.Prelude.{◌≡◌, ◌↔◌, ℕ, ◌≤◌, Bool, true, ◌&&◌, IsTrue, All, List, [], length, take, Option, Some, is_some}
+use Rattle.std.specs.Prelude.{◌≡◌, ◌↔◌, ℕ, ◌≤◌, Bool, true, ◌&&◌, IsTrue, All, List, [], length, map, take, Option, Some, None, is_some}
 use Rattle.std.specs.FinMap.Entries.{find, is_sorted}
 use Rattle.std.specs.declared.ops.Bound.{Bound}
 use Rattle.std.specs.declared.ops.Bound.TheVariants.{Excluded, Unbounded}
 use Rattle.sled_nodes.specs.Among.{IsSuccessor, IsPredecessor, is_from, is_up_to}
 use Rattle.sled_nodes.specs.Order.{Key, key_cmp}
+use Rattle.sled_nodes.specs.declared.error.Error.{Error}
+use Rattle.sled_nodes.specs.declared.error.Error.TheVariants.{ReportableBug}
+use Rattle.sled_nodes.specs.declared.texts.TheConstants.{WALK_PASSED_TURNS}
 use Rattle.sled_store.specs.In.{In}
+use Rattle.sled_store.specs.Store.{Store, refuses_read_as}
+use Rattle.sled_model.specs.Collections.{Content, are_trees}
 use Rattle.sled_model.specs.Maps.{Map, Maps}
+use Rattle.sled_model.specs.Refusal.{MustRefuse, tells}
 use Rattle.sled_model.specs.declared.tree.Tree.{Tree}
 use Rattle.tree_reads.specs.Ranges.{pairs_within}
 use Rattle.sled.specs.Names.{Ascend}
@@ -51,11 +57,17 @@ pub record NamesIn (maps : Maps) (names : List Key) : Type 0 where
   pub each : (name : Key) → In name names → is_some (maps name) ≡ true
   pub all : (name : Key) → is_some (maps name) ≡ true → In name names
 
+-- these are the collections of all trees, in the order of their names, each with the pairs of its map
+pub record ExportIn (maps : Maps) (all : List Content) : Type 0 where
+  pub trees : are_trees all ≡ true
+  pub ascend : Ascend (map (λ c. c.1) all)
+  pub is : maps ≡ maps_from all
+
 -- what was read says what these maps are
 abbrev pub reads_as : Maps → Read → Type 0
 reads_as maps (read.Tree tree question answer) = AnswersIn maps tree question answer
 reads_as maps (read.Names names) = NamesIn maps names
-reads_as maps (read.Export all) = maps ≡ maps_from all
+reads_as maps (read.Export all) = ExportIn maps all
 
 -- the kinds of answers
 abbrev pub IsValue : Answer → Type 0
@@ -97,3 +109,13 @@ IsAnswerTo (GetGt key) answer = IsPair answer
 IsAnswerTo Len answer = IsCount answer
 IsAnswerTo IsEmpty answer = IsFlag answer
 IsAnswerTo (Page lo hi back most) answer = IsPageOf lo hi back most answer
+
+-- why a read stops: for want of memory, for a page that is not readable, or for as many pages looked at as may be
+abbrev pub stops_look : Store → Error → Type 0
+stops_look s (ReportableBug text) = text.now ≡ WALK_PASSED_TURNS.now
+stops_look s e = refuses_read_as s e
+
+-- .. or why it is refused before, by a test
+abbrev pub refuses_look_as : Store → Option MustRefuse → Error → Type 0
+refuses_look_as s (Some must) e = tells must e
+refuses_look_as s None e = stops_look s e

@@ -1,5 +1,5 @@
 -- What callers do under the lock.
-use Rattle.std.specs.Prelude.{◌≡◌, ◌≢◌, ◌⊎◌, ℕ, List, [], ◌∷◌, ◌++◌, length, Some, Result, Ok, Err}
+use Rattle.std.specs.Prelude.{◌≡◌, ◌≢◌, ◌⊎◌, ℕ, List, [], ◌∷◌, ◌++◌, length, Some, None, Result, Ok, Err, IfErr, IfOk}
 use Rattle.std.specs.Option.{option_map}
 use Rattle.std.specs.Global.{Vec}
 use Rattle.sled_store.specs.Store.{Store}
@@ -7,6 +7,7 @@ use Rattle.sled_nodes.specs.declared.error.Error.{Error}
 use Rattle.sled_nodes.specs.declared.error.Error.TheVariants.{Closed, NoMemory}
 use Rattle.sled_batch.specs.Batch.{Writes}
 use Rattle.sled_model.specs.Maps.{Merge}
+use Rattle.sled_model.specs.Refusal.{must_refuse_of}
 use Rattle.sled_model.specs.declared.call.Call.{Call}
 use Rattle.sled_model.specs.declared.call.Whole.{Whole}
 use Rattle.sled_model.specs.declared.call.Whole.TheVariants.{Group}
@@ -15,14 +16,15 @@ use Rattle.sled_model.specs.declared.outcome.Outcome.TheVariants.{Begun, Refused
 use Rattle.sled_model.specs.declared.outcome.Step.TheVariants as step
 use Rattle.sled_model.specs.declared.tree.Tree.{Tree}
 use Rattle.sled.specs.Sound.{IsDb}
-use Rattle.sled.specs.Values.{snapshot_of_db}
+use Rattle.sled.specs.Values.{db_state, snapshot_of_db}
 use Rattle.machine_alone.specs.Sound.{IsMachine}
 use Rattle.machine_alone.specs.Step.{MachineStepContract}
-use Rattle.machine_alone.specs.Values.{job_of_call, slots_of}
+use Rattle.machine_alone.specs.Values.{MachineValue, job_of_call, slots_of}
 use Rattle.machine_shared.specs.Made.{MadeValue, ReadMade}
 use Rattle.machine_shared.specs.Notes.{entries_of, noted_in, noted_of}
+use Rattle.machine_shared.specs.Reads.{reads_as, refuses_look_as}
 use Rattle.machine_shared.specs.Scans.{AreInOrder, NotesScan, begun_of, noted_at, scanned_of}
-use Rattle.machine_shared.specs.Sound.{HasCrashMaps, HasHistory, HasLegalHistory, HasRisingIds, HasScans}
+use Rattle.machine_shared.specs.Sound.{HasCrashMaps, HasHistory, HasLegalHistory, HasRisingIds, HasScans, maps_now}
 use Rattle.machine_shared.specs.Steps.{SlotStep}
 use Rattle.machine_shared.specs.Values.{CallerValue, StateValue}
 use Rattle.machine_shared.specs.WholeNotes.{NotesWhole}
@@ -124,11 +126,11 @@ pub record LacksCall {P M : Type 0} (tree : Tree) (call : Call) (slot : ℕ) (ol
   pub gone : option_map job_of_call (slots_of old.machine.flights slot) ≢ Some (tree, call)
   pub same : new ≡ old
 
--- How a call on a key ends that is made step by step. A step of its slot ends it, under the lock; or it does not begin. Or there was no
--- memory for it, the slot in which it had begun under the lock had it no more the next time, or the database was taken out of its lock: then
--- nothing is noted
+-- How a call on a key ends that is made step by step. A step of the slot in which it had begun ends it, under the lock; or it does not
+-- begin. Or there was no memory for it, that slot had it no more the next time, or the database was taken out of its lock: then nothing is
+-- noted
 pub data EndsUnderLock {P M : Type 0} (store : P → Store) (flush_number : P → ℕ) (meant : M → Merge) (tree : Tree) (call : Call) (o : Outcome) (me more : CallerValue) : Type 0 where
-  EndsBySteps : {slot : ℕ} → UnderLock store (EndsCall store flush_number meant tree call slot o me more) → EndsUnderLock store flush_number meant tree call o me more
+  EndsBySteps : {slot : ℕ} → UnderLock store (BeginsCall store flush_number meant tree call (Ok slot)) → UnderLock store (EndsCall store flush_number meant tree call slot o me more) → EndsUnderLock store flush_number meant tree call o me more
   IsNotBegun : {e : Error} → BeginsUnderLock store flush_number meant tree call (Err e) → o ≡ Refused e → more ≡ me → EndsUnderLock store flush_number meant tree call o me more
   LacksMemory : o ≡ Refused NoMemory → more ≡ me → EndsUnderLock store flush_number meant tree call o me more
   LostSlot : {slot : ℕ} → UnderLock store (BeginsCall store flush_number meant tree call (Ok slot)) → UnderLock {P = P} {M = M} store (LacksCall tree call slot) → o ≡ NoSuchSlot → more ≡ me → EndsUnderLock store flush_number meant tree call o me more
@@ -139,11 +141,24 @@ abbrev pub read_made : {A : Type 0} → (A → Read) → Result A Error → List
 read_made read_of (Ok answer) = ReadMade (read_of answer) ∷ []
 read_made read_of (Err e) = []
 
--- a read is noted as this caller's, and nothing else changes
-pub record Looks {P M : Type 0} (noted : List MadeValue) (me more : CallerValue) (old new : StateValue P M) : Type 0 where
-  pub machine : new.machine ≡ old.machine
-  pub adds : AddsMade old me noted new more
-  pub scans : new.scans ≡ old.scans
+module _ {P M : Type 0} (store : P → Store) (meant : M → Merge) where
+  -- what was read of a machine as it is: no test refuses a read of these trees, and it says what the maps are
+  pub record ReadsNow (m : MachineValue P M) (trees : List Tree) (read : Read) : Type 0 where
+    pub tested : must_refuse_of (db_state store meant m.db) trees ≡ None
+    pub tells : reads_as (maps_now store m) read
+
+  -- a read of these trees is refused: by the first test that fails; or if none fails for want of memory, for a page that is not readable,
+  -- or for as many pages looked at as may be
+  pub record RefusesNow (m : MachineValue P M) (trees : List Tree) (e : Error) : Type 0 where
+    pub is : refuses_look_as (store m.db.pages) (must_refuse_of (db_state store meant m.db) trees) e
+
+  -- a read of these trees is noted as this caller's, or it is refused; and nothing else changes
+  pub record Looks {A : Type 0} (trees : List Tree) (read_of : A → Read) (result : Result A Error) (me more : CallerValue) (old new : StateValue P M) : Type 0 where
+    pub reads : IfOk result (λ answer. ReadsNow old.machine trees (read_of answer))
+    pub refused : IfErr result (RefusesNow old.machine trees)
+    pub machine : new.machine ≡ old.machine
+    pub adds : AddsMade old me (read_made read_of result) new more
+    pub scans : new.scans ≡ old.scans
 
 -- for want of memory, or since the database was taken out of its lock
 abbrev pub is_unmade : Error → Type 0
@@ -159,5 +174,5 @@ pub record IsUnread {A : Type 0} (result : Result A Error) (me more : CallerValu
   pub same : more ≡ me
 
 -- .. or it was made under the lock
-abbrev pub ReadsUnderLock : {P M A : Type 0} → (P → Store) → (M → Merge) → (A → Read) → Result A Error → CallerValue → CallerValue → Type 0
-ReadsUnderLock {P} {M} store meant read_of result me more = IsUnread result me more ⊎ UnderLock {P = P} {M = M} store (Looks (read_made read_of result) me more)
+abbrev pub ReadsUnderLock : {P M A : Type 0} → (P → Store) → (M → Merge) → List Tree → (A → Read) → Result A Error → CallerValue → CallerValue → Type 0
+ReadsUnderLock store meant trees read_of result me more = IsUnread result me more ⊎ UnderLock store (Looks store meant trees read_of result me more)

@@ -84,6 +84,7 @@ impl<P: Pages, L: Ledger, M: MergeOperator> State<P, L, M> {
         requires here { option_map job_of_call (slots_of self.old.machine.flights slot) ≡ Some (job_pair jobs.0.tree jobs.0.call) }
         requires second { jobs.1 ≡ jobs.0 }
         requires key { IsOnKey jobs.0.call }
+        requires began { UnderLock P.store (BeginsCall P.store P.flush_number M.meant jobs.0.tree jobs.0.call (Ok slot)) }
         ensures made { AddsStepped jobs.0.tree jobs.0.call result me.old.made me.new.made }
         ensures number { me.new.number ≡ me.old.number }
         ensures ends { EndsStepped P.store P.flush_number M.meant jobs.0.tree jobs.0.call result me.old me.new }

@@ -1,11 +1,12 @@
 //! Fetches that are noted, over the parts of a state: the value at a key is read, a closure makes the new one from it, and the one is
 //! swapped for the other, all in one step.
-ghost use Rattle.std.specs.Prelude.{◌≡◌, ◌<◌, ◌∷◌, [], Ok, IfOk, OnOk, OnErr, IfSome, vec_len, vec_capacity};
+ghost use Rattle.std.specs.Prelude.{◌≡◌, ◌<◌, ◌∷◌, [], Ok, IfErr, IfOk, OnOk, OnErr, IfSome, vec_len, vec_capacity};
 ghost use Rattle.std.specs.Option.{option_copied, option_map};
+ghost use Rattle.sled_nodes.specs.declared.error.Error.TheVariants.{NoMemory};
 ghost use Rattle.sled_model.specs.declared.call.Call.TheVariants as call;
 ghost use Rattle.sled_model.specs.declared.reply.Reply.TheVariants as told;
 ghost use Rattle.sled.specs.Fetch.{Answers, Stands};
-ghost use Rattle.machine_shared.specs.Fetches.{MakesOf, StaysStill, SwapsNow, swap_made};
+ghost use Rattle.machine_shared.specs.Fetches.{MakesOf, RefusesFetch, StaysStill, SwapsNow, swap_made};
 ghost use Rattle.machine_shared.specs.Made.{PointMade, made_value};
 ghost use Rattle.machine_shared.specs.theory.Noting.{first_noted, second_noted};
 
@@ -22,7 +23,8 @@ fn ask<F>(stood: &Option<IVec>, mut f: F) -> Result<Option<Vec<u8>>>
 where
     F: FnMut(Option<&[u8]>) -> std::result::Result<Option<Vec<u8>>, AllocError>,
     requires { (shown : _) → F.pre f shown }
-    ensures { IfOk result (λ answer. Answers F.FnMut f stood.now (Ok answer)) }
+    ensures ok { IfOk result (λ answer. Answers F.FnMut f stood.now (Ok answer)) }
+    ensures err { IfErr result (λ e. e ≡ NoMemory) }
 {
     let answer = match stood {
         Some(value) => f(Some(value.as_ref())),
@@ -128,6 +130,7 @@ where
     requires { (shown : _) → F.pre f shown }
     ensures stands { IfOk result (λ both. Stands P.store M.meant machine.now.db tree.now key.now both.0) }
     ensures answers { IfOk result (λ both. Answers F.FnMut f both.0 (Ok both.1)) }
+    ensures err { IfErr result (λ e. RefusesFetch P.store M.meant machine.now.db tree.now key.now e machine.now.db) }
 {
     let stood = machine.db().get(tree, key)?;
     match ask(&stood, f) {
@@ -151,6 +154,7 @@ fn swap_now<P: Pages, M: MergeOperator>(
     ensures value { IfOk result (λ made. made ≡ option_map (λ v. v.items) new) }
     ensures ok { OnOk result (SwapsNow P.store M.meant machine.old tree.now key.now stood.now (option_map (λ v. v.items) new) machine.new) }
     ensures err { OnErr result (StaysStill P.store M.meant machine.old machine.new) }
+    ensures cause { IfErr result (λ e. RefusesFetch P.store M.meant machine.old.db tree.now key.now e machine.new.db) }
     ensures same { machine.new ≡ record (machine.old) { db = machine.new.db } }
 {
     let mut new = new;
@@ -180,6 +184,7 @@ where
     ensures ok { IfOk result.0 (λ both. SwapsNow P.store M.meant machine.old tree.now key.now both.0 both.1 machine.new) }
     ensures noted { IfOk result.0 (λ both. first_noted result.1 ≡ swap_made tree.now key.now both.0 both.1 ∷ []) }
     ensures err { OnErr result.0 (StaysStill P.store M.meant machine.old machine.new) }
+    ensures cause { IfErr result.0 (λ e. RefusesFetch P.store M.meant machine.old.db tree.now key.now e machine.new.db) }
     ensures same { machine.new ≡ record (machine.old) { db = machine.new.db } }
     ensures none { OnErr result.0 (first_noted result.1 ≡ []) }
     ensures again { second_noted result.1 ≡ first_noted result.1 }

@@ -111,7 +111,7 @@ impl<P: Pages, L: Ledger, M: MergeOperator> Handle<P, L, M> {
         ensures ok { IfOk result (λ answer. self.new.made ≡ self.old.made ++ ReadMade (read.Tree tree.now question answer) ∷ []) }
         ensures err { OnErr result (self.new.made ≡ self.old.made) }
         ensures number { self.new.number ≡ self.old.number }
-        ensures looks { ReadsUnderLock P.store M.meant (λ answer. read.Tree tree.now question answer) result self.old self.new }
+        ensures looks { ReadsUnderLock P.store M.meant (tree.now ∷ []) (λ answer. read.Tree tree.now question answer) result self.old self.new }
     {
         let mut guard = self.lock.lock(rt);
         let answer = read_in(&mut *guard, &mut self.me, tree, question);
@@ -134,7 +134,7 @@ impl<P: Pages, L: Ledger, M: MergeOperator> Handle<P, L, M> {
         ensures ok { IfOk result (λ it. self.new.made ≡ self.old.made ++ ReadMade (read.Tree tree.now (asks.Get key.now) (told.Value it)) ∷ []) }
         ensures err { OnErr result (self.new.made ≡ self.old.made) }
         ensures number { self.new.number ≡ self.old.number }
-        ensures looks { ReadsUnderLock P.store M.meant (λ it. read.Tree tree.now (asks.Get key.now) (told.Value it)) result self.old self.new }
+        ensures looks { ReadsUnderLock P.store M.meant (tree.now ∷ []) (λ it. read.Tree tree.now (asks.Get key.now) (told.Value it)) result self.old self.new }
     {
         let question = Question::Get(IVec::from_slice(alloc, key)?);
         match self.read(rt, tree, question) {
@@ -158,7 +158,7 @@ impl<P: Pages, L: Ledger, M: MergeOperator> Handle<P, L, M> {
         ensures ok { IfOk result (λ it. self.new.made ≡ self.old.made ++ ReadMade (read.Tree tree.now (asks.ContainsKey key.now) (told.Flag it)) ∷ []) }
         ensures err { OnErr result (self.new.made ≡ self.old.made) }
         ensures number { self.new.number ≡ self.old.number }
-        ensures looks { ReadsUnderLock P.store M.meant (λ it. read.Tree tree.now (asks.ContainsKey key.now) (told.Flag it)) result self.old self.new }
+        ensures looks { ReadsUnderLock P.store M.meant (tree.now ∷ []) (λ it. read.Tree tree.now (asks.ContainsKey key.now) (told.Flag it)) result self.old self.new }
     {
         let question = Question::ContainsKey(IVec::from_slice(alloc, key)?);
         match self.read(rt, tree, question) {
@@ -176,7 +176,7 @@ impl<P: Pages, L: Ledger, M: MergeOperator> Handle<P, L, M> {
         ensures ok { IfOk result (λ it. self.new.made ≡ self.old.made ++ ReadMade (read.Tree tree.now (asks.First) (told.Pair it)) ∷ []) }
         ensures err { OnErr result (self.new.made ≡ self.old.made) }
         ensures number { self.new.number ≡ self.old.number }
-        ensures looks { ReadsUnderLock P.store M.meant (λ it. read.Tree tree.now asks.First (told.Pair it)) result self.old self.new }
+        ensures looks { ReadsUnderLock P.store M.meant (tree.now ∷ []) (λ it. read.Tree tree.now asks.First (told.Pair it)) result self.old self.new }
     {
         let question = Question::First;
         match self.read(rt, tree, question) {
@@ -194,7 +194,7 @@ impl<P: Pages, L: Ledger, M: MergeOperator> Handle<P, L, M> {
         ensures ok { IfOk result (λ it. self.new.made ≡ self.old.made ++ ReadMade (read.Tree tree.now (asks.Last) (told.Pair it)) ∷ []) }
         ensures err { OnErr result (self.new.made ≡ self.old.made) }
         ensures number { self.new.number ≡ self.old.number }
-        ensures looks { ReadsUnderLock P.store M.meant (λ it. read.Tree tree.now asks.Last (told.Pair it)) result self.old self.new }
+        ensures looks { ReadsUnderLock P.store M.meant (tree.now ∷ []) (λ it. read.Tree tree.now asks.Last (told.Pair it)) result self.old self.new }
     {
         let question = Question::Last;
         match self.read(rt, tree, question) {
@@ -218,7 +218,7 @@ impl<P: Pages, L: Ledger, M: MergeOperator> Handle<P, L, M> {
         ensures ok { IfOk result (λ it. self.new.made ≡ self.old.made ++ ReadMade (read.Tree tree.now (asks.GetLt key.now) (told.Pair it)) ∷ []) }
         ensures err { OnErr result (self.new.made ≡ self.old.made) }
         ensures number { self.new.number ≡ self.old.number }
-        ensures looks { ReadsUnderLock P.store M.meant (λ it. read.Tree tree.now (asks.GetLt key.now) (told.Pair it)) result self.old self.new }
+        ensures looks { ReadsUnderLock P.store M.meant (tree.now ∷ []) (λ it. read.Tree tree.now (asks.GetLt key.now) (told.Pair it)) result self.old self.new }
     {
         let question = Question::GetLt(IVec::from_slice(alloc, key)?);
         match self.read(rt, tree, question) {
@@ -242,7 +242,7 @@ impl<P: Pages, L: Ledger, M: MergeOperator> Handle<P, L, M> {
         ensures ok { IfOk result (λ it. self.new.made ≡ self.old.made ++ ReadMade (read.Tree tree.now (asks.GetGt key.now) (told.Pair it)) ∷ []) }
         ensures err { OnErr result (self.new.made ≡ self.old.made) }
         ensures number { self.new.number ≡ self.old.number }
-        ensures looks { ReadsUnderLock P.store M.meant (λ it. read.Tree tree.now (asks.GetGt key.now) (told.Pair it)) result self.old self.new }
+        ensures looks { ReadsUnderLock P.store M.meant (tree.now ∷ []) (λ it. read.Tree tree.now (asks.GetGt key.now) (told.Pair it)) result self.old self.new }
     {
         let question = Question::GetGt(IVec::from_slice(alloc, key)?);
         match self.read(rt, tree, question) {
@@ -260,7 +260,7 @@ impl<P: Pages, L: Ledger, M: MergeOperator> Handle<P, L, M> {
         ensures ok { IfOk result (λ it. self.new.made ≡ self.old.made ++ ReadMade (read.Tree tree.now (asks.Len) (told.Count it)) ∷ []) }
         ensures err { OnErr result (self.new.made ≡ self.old.made) }
         ensures number { self.new.number ≡ self.old.number }
-        ensures looks { ReadsUnderLock P.store M.meant (λ it. read.Tree tree.now asks.Len (told.Count it)) result self.old self.new }
+        ensures looks { ReadsUnderLock P.store M.meant (tree.now ∷ []) (λ it. read.Tree tree.now asks.Len (told.Count it)) result self.old self.new }
     {
         let question = Question::Len;
         match self.read(rt, tree, question) {
@@ -278,7 +278,7 @@ impl<P: Pages, L: Ledger, M: MergeOperator> Handle<P, L, M> {
         ensures ok { IfOk result (λ it. self.new.made ≡ self.old.made ++ ReadMade (read.Tree tree.now (asks.IsEmpty) (told.Flag it)) ∷ []) }
         ensures err { OnErr result (self.new.made ≡ self.old.made) }
         ensures number { self.new.number ≡ self.old.number }
-        ensures looks { ReadsUnderLock P.store M.meant (λ it. read.Tree tree.now asks.IsEmpty (told.Flag it)) result self.old self.new }
+        ensures looks { ReadsUnderLock P.store M.meant (tree.now ∷ []) (λ it. read.Tree tree.now asks.IsEmpty (told.Flag it)) result self.old self.new }
     {
         let question = Question::IsEmpty;
         match self.read(rt, tree, question) {
@@ -308,7 +308,7 @@ impl<P: Pages, L: Ledger, M: MergeOperator> Handle<P, L, M> {
         ensures ok { IfOk result (λ it. self.new.made ≡ self.old.made ++ ReadMade (read.Tree tree.now (asks.Page (bound_of lo.entry) (bound_of hi.entry) back most) (told.Pairs it)) ∷ []) }
         ensures err { OnErr result (self.new.made ≡ self.old.made) }
         ensures number { self.new.number ≡ self.old.number }
-        ensures looks { ReadsUnderLock P.store M.meant (λ it. read.Tree tree.now (asks.Page (bound_of lo.entry) (bound_of hi.entry) back most) (told.Pairs it)) result self.old self.new }
+        ensures looks { ReadsUnderLock P.store M.meant (tree.now ∷ []) (λ it. read.Tree tree.now (asks.Page (bound_of lo.entry) (bound_of hi.entry) back most) (told.Pairs it)) result self.old self.new }
     {
         let question = page_between(alloc, lo, hi, back, most)?;
         match self.read(rt, tree, question) {
@@ -326,7 +326,7 @@ impl<P: Pages, L: Ledger, M: MergeOperator> Handle<P, L, M> {
         ensures ok { IfOk result (λ names. self.new.made ≡ self.old.made ++ ReadMade (read.Names names) ∷ []) }
         ensures err { OnErr result (self.new.made ≡ self.old.made) }
         ensures number { self.new.number ≡ self.old.number }
-        ensures looks { ReadsUnderLock P.store M.meant read.Names result self.old self.new }
+        ensures looks { ReadsUnderLock P.store M.meant [] read.Names result self.old self.new }
     {
         let mut guard = self.lock.lock(rt);
         let names = tree_names_in(&mut *guard, &mut self.me);
@@ -344,7 +344,7 @@ impl<P: Pages, L: Ledger, M: MergeOperator> Handle<P, L, M> {
         ensures ok { IfOk result (λ all. self.new.made ≡ self.old.made ++ ReadMade (read.Export all) ∷ []) }
         ensures err { OnErr result (self.new.made ≡ self.old.made) }
         ensures number { self.new.number ≡ self.old.number }
-        ensures looks { ReadsUnderLock P.store M.meant read.Export result self.old self.new }
+        ensures looks { ReadsUnderLock P.store M.meant [] read.Export result self.old self.new }
     {
         let mut guard = self.lock.lock(rt);
         let all = export_in(&mut *guard, &mut self.me);

@@ -5,6 +5,7 @@ ghost use Rattle.sled_model.specs.Collections.{contents_of};
 ghost use Rattle.sled_model.specs.Transition.{kind_of, InParts};
 ghost use Rattle.sled_model.specs.declared.call.Whole.TheVariants as wholes;
 ghost use Rattle.sled_model.specs.declared.outcome.Outcome.TheVariants as outcome;
+ghost use Rattle.sled_model.specs.declared.reply.Reply.{Reply};
 ghost use Rattle.sled_model.specs.declared.reply.Reply.TheVariants as told;
 ghost use Rattle.sled_nodes.specs.Order.{Key};
 ghost use Rattle.sled_nodes.specs.declared.error.Error.TheVariants.{NoMemory};
@@ -139,6 +140,57 @@ impl<P: Pages, L: Ledger, M: MergeOperator> Handle<P, L, M> {
         reply_of(self.whole(rt, whole))
     }
 
+    // Does a whole call of which nothing is told but that it was done.
+    fn do_whole(&mut self, rt: &impl Wait, whole: Whole) -> CallResult<()>
+        requires { (reply : Reply) → IsReplyTo whole reply → reply ≡ told.Done }
+        ensures ok { OnOk result (self.new.made ≡ self.old.made ++ noted_whole whole (outcome.Decided told.Done) 0) }
+        ensures err { IfErr result IsRefused }
+        ensures parts { OnErr result (AddsParts (whole_value whole) self.old.made self.new.made) }
+        ensures none { OnErr result (kind_of whole ≢ InParts → self.new.made ≡ self.old.made) }
+        ensures number { self.new.number ≡ self.old.number }
+        ensures under_lock { WholesUnderLock P.store P.flush_number M.meant whole (ended_with tell_done result) self.old self.new }
+    {
+        match self.reply_to(rt, whole) {
+            Ok(reply) => {
+                drop(reply);
+                Ok(())
+            }
+            Err(e) => Err(e),
+        }
+    }
+
+    // The pair that a whole call replies with.
+    fn whole_pair(&mut self, rt: &impl Wait, whole: Whole) -> CallResult<Option<(IVec, IVec)>>
+        requires { (reply : Reply) → IsReplyTo whole reply → TellsPair reply }
+        ensures ok { IfOk result (λ it. self.new.made ≡ self.old.made ++ noted_whole whole (outcome.Decided (told.Pair it)) 0) }
+        ensures err { IfErr result IsRefused }
+        ensures parts { OnErr result (AddsParts (whole_value whole) self.old.made self.new.made) }
+        ensures none { OnErr result (kind_of whole ≢ InParts → self.new.made ≡ self.old.made) }
+        ensures number { self.new.number ≡ self.old.number }
+        ensures under_lock { WholesUnderLock P.store P.flush_number M.meant whole (ended_with told.Pair result) self.old self.new }
+    {
+        match self.reply_to(rt, whole) {
+            Ok(reply) => Ok(pair_of(reply)),
+            Err(e) => Err(e),
+        }
+    }
+
+    // The number that a whole call replies with.
+    fn whole_number(&mut self, rt: &impl Wait, whole: Whole) -> CallResult<u64>
+        requires { (reply : Reply) → IsReplyTo whole reply → TellsNumber reply }
+        ensures ok { IfOk result (λ it. self.new.made ≡ self.old.made ++ noted_whole whole (outcome.Decided (told.Number it)) 0) }
+        ensures err { IfErr result IsRefused }
+        ensures parts { OnErr result (AddsParts (whole_value whole) self.old.made self.new.made) }
+        ensures none { OnErr result (kind_of whole ≢ InParts → self.new.made ≡ self.old.made) }
+        ensures number { self.new.number ≡ self.old.number }
+        ensures under_lock { WholesUnderLock P.store P.flush_number M.meant whole (ended_with told.Number result) self.old self.new }
+    {
+        match self.reply_to(rt, whole) {
+            Ok(reply) => Ok(number_of(reply)),
+            Err(e) => Err(e),
+        }
+    }
+
     /// Makes all that was decided durable, and returns the store's number. Refused as the same call of a machine is, as all that follow.
     ///
     /// ```
@@ -151,11 +203,7 @@ impl<P: Pages, L: Ledger, M: MergeOperator> Handle<P, L, M> {
         ensures number { self.new.number ≡ self.old.number }
         ensures under_lock { WholesUnderLock P.store P.flush_number M.meant wholes.Flush (ended_with told.Number result) self.old self.new }
     {
-        let whole = Whole::Flush;
-        match self.reply_to(rt, whole) {
-            Ok(reply) => Ok(number_of(reply)),
-            Err(e) => Err(e),
-        }
+        self.whole_number(rt, Whole::Flush)
     }
 
     /// Takes the pair with the least key out of a tree, if there is one, and returns it.
@@ -171,10 +219,7 @@ impl<P: Pages, L: Ledger, M: MergeOperator> Handle<P, L, M> {
         ensures under_lock { CallsUnderLock P.store P.flush_number M.meant (wholes.PopMin tree.now) (ended_with told.Pair result) self.old self.new }
     {
         let whole = Whole::PopMin(tree.clone()?);
-        match self.reply_to(rt, whole) {
-            Ok(reply) => Ok(pair_of(reply)),
-            Err(e) => Err(e),
-        }
+        self.whole_pair(rt, whole)
     }
 
     /// Takes the pair with the greatest key out of a tree, if there is one, and returns it.
@@ -190,10 +235,7 @@ impl<P: Pages, L: Ledger, M: MergeOperator> Handle<P, L, M> {
         ensures under_lock { CallsUnderLock P.store P.flush_number M.meant (wholes.PopMax tree.now) (ended_with told.Pair result) self.old self.new }
     {
         let whole = Whole::PopMax(tree.clone()?);
-        match self.reply_to(rt, whole) {
-            Ok(reply) => Ok(pair_of(reply)),
-            Err(e) => Err(e),
-        }
+        self.whole_pair(rt, whole)
     }
 
     /// Takes all keys out of a tree. If it is refused midway it is added to the list with the number of keys that it took out.
@@ -209,13 +251,7 @@ impl<P: Pages, L: Ledger, M: MergeOperator> Handle<P, L, M> {
         ensures under_lock { CallsUnderLock P.store P.flush_number M.meant (wholes.Clear tree.now) (ended_with tell_done result) self.old self.new }
     {
         let whole = Whole::Clear(tree.clone()?);
-        match self.reply_to(rt, whole) {
-            Ok(reply) => {
-                drop(reply);
-                Ok(())
-            }
-            Err(e) => Err(e),
-        }
+        self.do_whole(rt, whole)
     }
 
     /// Makes the writes of a batch in a tree, all or none. If it is refused midway the database is closed.
@@ -237,13 +273,7 @@ impl<P: Pages, L: Ledger, M: MergeOperator> Handle<P, L, M> {
         ensures under_lock { GroupsUnderLock P.store P.flush_number M.meant ((tree.now, batch) ∷ []) (ended_with tell_done result) self.old self.new }
     {
         let whole = group_of(alloc, tree, batch)?;
-        match self.reply_to(rt, whole) {
-            Ok(reply) => {
-                drop(reply);
-                Ok(())
-            }
-            Err(e) => Err(e),
-        }
+        self.do_whole(rt, whole)
     }
 
     /// Makes the writes of several batches, each in its tree, all or none.
@@ -261,14 +291,7 @@ impl<P: Pages, L: Ledger, M: MergeOperator> Handle<P, L, M> {
         ensures number { self.new.number ≡ self.old.number }
         ensures under_lock { WholesUnderLock P.store P.flush_number M.meant (wholes.Group batches) (ended_with tell_done result) self.old self.new }
     {
-        let whole = Whole::Group(batches);
-        match self.reply_to(rt, whole) {
-            Ok(reply) => {
-                drop(reply);
-                Ok(())
-            }
-            Err(e) => Err(e),
-        }
+        self.do_whole(rt, Whole::Group(batches))
     }
 
     /// Opens the tree of a name, which is made if the name has none.
@@ -322,11 +345,7 @@ impl<P: Pages, L: Ledger, M: MergeOperator> Handle<P, L, M> {
         ensures number { self.new.number ≡ self.old.number }
         ensures under_lock { WholesUnderLock P.store P.flush_number M.meant wholes.GenerateId (ended_with told.Number result) self.old self.new }
     {
-        let whole = Whole::GenerateId;
-        match self.reply_to(rt, whole) {
-            Ok(reply) => Ok(number_of(reply)),
-            Err(e) => Err(e),
-        }
+        self.whole_number(rt, Whole::GenerateId)
     }
 
     /// Opens the tree of each collection and puts its pairs into it. If it is refused midway, as at a key that is present, it is added to
@@ -342,14 +361,7 @@ impl<P: Pages, L: Ledger, M: MergeOperator> Handle<P, L, M> {
         ensures number { self.new.number ≡ self.old.number }
         ensures under_lock { WholesUnderLock P.store P.flush_number M.meant (wholes.Import collections) (ended_with tell_done result) self.old self.new }
     {
-        let whole = Whole::Import(collections);
-        match self.reply_to(rt, whole) {
-            Ok(reply) => {
-                drop(reply);
-                Ok(())
-            }
-            Err(e) => Err(e),
-        }
+        self.do_whole(rt, Whole::Import(collections))
     }
 
     /// Adds a subscriber to the keys of a tree that begin with a prefix.
@@ -410,12 +422,6 @@ impl<P: Pages, L: Ledger, M: MergeOperator> Handle<P, L, M> {
         ensures under_lock { WholesUnderLock P.store P.flush_number M.meant (wholes.Unsubscribe subscriber.now) (ended_with tell_done result) self.old self.new }
     {
         let whole = Whole::Unsubscribe(Subscriber(subscriber.0));
-        match self.reply_to(rt, whole) {
-            Ok(reply) => {
-                drop(reply);
-                Ok(())
-            }
-            Err(e) => Err(e),
-        }
+        self.do_whole(rt, whole)
     }
 }

@@ -1,6 +1,7 @@
 //! Pages of a range: its first pairs, from either end.
-ghost use Rattle.std.specs.Prelude.{◌≡◌, take, IfOk};
+ghost use Rattle.std.specs.Prelude.{◌≡◌, take, IfErr, IfOk};
 ghost use Rattle.machine_shared.specs.Orders.{in_order};
+ghost use Rattle.machine_shared.specs.Reads.{stops_look};
 ghost use Rattle.machine_shared.specs.theory.Orders.{Begun, Gives};
 
 use sled_nodes::{IVec, Result};
@@ -12,7 +13,7 @@ use tree_reads::Iter;
 #[tactic(auto, using(crate::proofs::Paging::first_gives, crate::proofs::Paging::last_gives))]
 fn next_of<P: Pages>(pairs: &mut Iter<'_, P>, back: bool) -> Option<Result<(IVec, IVec)>>
     requires { Begun pairs.old }
-    ensures { Gives back pairs.old result pairs.new }
+    ensures { Gives P.store back pairs.old result pairs.new }
 {
     if back {
         pairs.next_back()
@@ -29,7 +30,8 @@ pub(crate) fn taken<P: Pages>(
     most: usize,
 ) -> Result<Vec<(IVec, IVec)>>
     requires { Begun pairs.old }
-    ensures { IfOk result (λ page. page.items ≡ take most (in_order back pairs.old.pairs)) }
+    ensures ok { IfOk result (λ page. page.items ≡ take most (in_order back pairs.old.pairs)) }
+    ensures err { IfErr result (stops_look (P.store pairs.old.pages)) }
 {
     let mut page = Vec::new(alloc);
     for _place in 0..most {

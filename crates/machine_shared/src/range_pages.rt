@@ -31,7 +31,7 @@ pub struct RangePages {
 }
 
 impl RangePages {
-    ghost use Rattle.machine_shared.specs.RangePages.{GivesPage, RefusesPage, behind, hi_behind, is_last_page, last_key, lo_behind};
+    ghost use Rattle.machine_shared.specs.RangePages.{GivesPage, PagesUnderLock, RefusesPage, behind, hi_behind, is_last_page, last_key, lo_behind};
 
     /// The pages of a range, of so many pairs at the most each: from the least key up or, `back`, from the greatest down. It reads nothing.
     /// Refused with `NoMemory`.
@@ -78,7 +78,8 @@ impl RangePages {
 
     // The question for the next page.
     fn question(&self) -> Result<Question>
-        ensures { IfOk result (λ question. question ≡ asks.Page self.now.lo self.now.hi self.now.back self.now.most) }
+        ensures ok { IfOk result (λ question. question ≡ asks.Page self.now.lo self.now.hi self.now.back self.now.most) }
+        ensures err { IfErr result (λ e. e ≡ NoMemory) }
     {
         copied_page(&self.lo, &self.hi, self.back, self.most)
     }
@@ -131,6 +132,7 @@ impl RangePages {
         ensures ok { IfOk result (λ pairs. GivesPage self.old pairs self.new handle.old.made handle.new.made) }
         ensures err { IfErr result (RefusesPage self.old self.new handle.old.made handle.new.made) }
         ensures number { handle.new.number ≡ handle.old.number }
+        ensures looks { PagesUnderLock P.store M.meant self.old handle.old handle.new result }
     {
         let question = match self.question() {
             Ok(question) => question,
@@ -173,6 +175,7 @@ impl RangePages {
         ensures ok { IfSome result (λ page. IfOk page (λ pairs. GivesPage self.old pairs self.new handle.old.made handle.new.made)) }
         ensures err { IfSome result (λ page. IfErr page (RefusesPage self.old self.new handle.old.made handle.new.made)) }
         ensures number { handle.new.number ≡ handle.old.number }
+        ensures looks { IfSome result (λ page. PagesUnderLock P.store M.meant self.old handle.old handle.new page) }
     {
         if self.ended {
             return None;

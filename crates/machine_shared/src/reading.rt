@@ -1,12 +1,12 @@
 //! Reads that are noted, over the parts of a state.
-ghost use Rattle.std.specs.Prelude.{◌≡◌, ◌<◌, ◌+◌, ◌++◌, ◌∷◌, [], IfOk, OnErr, IfSome, length, vec_len, vec_capacity};
+ghost use Rattle.std.specs.Prelude.{◌≡◌, ◌<◌, ◌+◌, ◌++◌, ◌∷◌, [], IfErr, IfOk, OnErr, IfSome, length, vec_len, vec_capacity};
+ghost use Rattle.sled_nodes.specs.declared.error.Error.TheVariants.{NoMemory};
 ghost use Rattle.machine_shared.specs.Made.{ReadMade, entry_values, made_value, made_values};
 ghost use Rattle.machine_shared.specs.Notes.{entries_of};
 ghost use Rattle.machine_shared.specs.Reads.{IsAnswerTo};
 ghost use Rattle.machine_shared.specs.declared.read.Read.TheVariants as read;
 ghost use Rattle.machine_shared.specs.theory.Noting.{first_noted, second_noted};
-ghost use Rattle.machine_shared.specs.theory.Reading.{NotesRead, ReadsNow};
-ghost use Rattle.machine_shared.specs.UnderLock.{read_made};
+ghost use Rattle.machine_shared.specs.UnderLock.{ReadsNow, RefusesNow, read_made};
 
 use crate::answers::{answer_to, export_of, names_of};
 use crate::entry::{Entry, Made};
@@ -55,7 +55,8 @@ fn room_and_reads(
 
 // A question about a tree, with its answer.
 fn read_of(tree: &Tree, question: Question, answer: &Answer) -> Result<Read>
-    ensures { IfOk result (λ it. it ≡ read.Tree tree.now question answer.now) }
+    ensures ok { IfOk result (λ it. it ≡ read.Tree tree.now question answer.now) }
+    ensures err { IfErr result (λ e. e ≡ NoMemory) }
 {
     let tree = match tree.clone() {
         Ok(tree) => tree,
@@ -105,6 +106,7 @@ fn note_read<L: Ledger>(
     requires shared { share.old.amount ≡ length made.old.items }
     ensures history { entry_values history.new.items ≡ entry_values history.old.items ++ entries_of number (read_made (λ done. read) result) }
     ensures made { made_values made.new.items ≡ made_values made.old.items ++ read_made (λ done. read) result }
+    ensures err { IfErr result (λ e. e ≡ NoMemory) }
     ensures part { share.new.parts ≡ 1 }
     ensures counted { length history.new.items ≡ calls.new.total }
     ensures shared { share.new.amount ≡ length made.new.items }
@@ -134,13 +136,15 @@ fn answer_now<P: Pages, M: MergeOperator>(
     question: &Question,
 ) -> Result<Answer>
     ensures kind { IfOk result (IsAnswerTo question.now) }
-    ensures now { IfOk result (λ answer. ReadsNow P.store machine.now (read.Tree tree.now question.now answer)) }
+    ensures err { IfErr result (RefusesNow P.store M.meant machine.now (tree.now ∷ [])) }
+    ensures now { IfOk result (λ answer. ReadsNow P.store M.meant machine.now (tree.now ∷ []) (read.Tree tree.now question.now answer)) }
 {
     machine.audit();
     answer_to(machine, tree, question)
 }
 
 // A question about a tree. Its answer is added at the ends of both lists, and counted. Want of memory for that refuses it.
+#[tactic(auto, using(crate::proofs::Refusing::after_read))]
 pub(crate) fn answer_noting<P: Pages, L: Ledger, M: MergeOperator>(
     machine: &Machine<P, M>,
     history: &mut Vec<Entry>,
@@ -157,7 +161,8 @@ pub(crate) fn answer_noting<P: Pages, L: Ledger, M: MergeOperator>(
     ensures kind { IfOk result (IsAnswerTo question) }
     ensures ok { IfOk result (λ answer. made_values made.new.items ≡ made_values made.old.items ++ ReadMade (read.Tree tree.now question answer) ∷ []) }
     ensures err { OnErr result (made_values made.new.items ≡ made_values made.old.items) }
-    ensures notes { NotesRead P.store machine.now (read_made (λ answer. read.Tree tree.now question answer) result) }
+    ensures reads { IfOk result (λ answer. ReadsNow P.store M.meant machine.now (tree.now ∷ []) (read.Tree tree.now question answer)) }
+    ensures refused { IfErr result (RefusesNow P.store M.meant machine.now (tree.now ∷ [])) }
     ensures history { entry_values history.new.items ≡ entry_values history.old.items ++ entries_of number (read_made (λ answer. read.Tree tree.now question answer) result) }
     ensures made { made_values made.new.items ≡ made_values made.old.items ++ read_made (λ answer. read.Tree tree.now question answer) result }
     ensures part { share.new.parts ≡ 1 }
@@ -190,19 +195,22 @@ pub(crate) fn answer_noting<P: Pages, L: Ledger, M: MergeOperator>(
 // The names of all trees now.
 #[tactic(auto, using(crate::proofs::ReadMakes::named))]
 fn names_now<P: Pages, M: MergeOperator>(machine: &Machine<P, M>) -> Result<Names>
-    ensures { IfOk result (λ names. ReadsNow P.store machine.now (read.Names names)) }
+    ensures ok { IfOk result (λ names. ReadsNow P.store M.meant machine.now [] (read.Names names)) }
+    ensures err { IfErr result (RefusesNow P.store M.meant machine.now []) }
 {
     names_of(machine)
 }
 
 // The same names, as a read of them is noted.
 fn read_of_names(names: &Names) -> Result<Read>
-    ensures { IfOk result (λ it. it ≡ read.Names names.now) }
+    ensures ok { IfOk result (λ it. it ≡ read.Names names.now) }
+    ensures err { IfErr result (λ e. e ≡ NoMemory) }
 {
     Ok(Read::Names(names.clone()?))
 }
 
 // The names of all trees, and what is to be noted of it, as of a question.
+#[tactic(auto, using(crate::proofs::Refusing::after_read))]
 pub(crate) fn names_noting<P: Pages, M: MergeOperator>(
     machine: &Machine<P, M>,
     history: &mut Vec<Entry>,
@@ -210,7 +218,8 @@ pub(crate) fn names_noting<P: Pages, M: MergeOperator>(
 ) -> (Result<Names>, Option<(Made, Made)>)
     ensures ok { IfOk result.0 (λ names. first_noted result.1 ≡ ReadMade (read.Names names) ∷ []) }
     ensures err { OnErr result.0 (first_noted result.1 ≡ []) }
-    ensures notes { NotesRead P.store machine.now (first_noted result.1) }
+    ensures reads { IfOk result.0 (λ names. ReadsNow P.store M.meant machine.now [] (read.Names names)) }
+    ensures refused { IfErr result.0 (RefusesNow P.store M.meant machine.now []) }
     ensures again { second_noted result.1 ≡ first_noted result.1 }
     ensures history { history.new.items ≡ history.old.items }
     ensures made { made.new.items ≡ made.old.items }
@@ -238,9 +247,9 @@ pub(crate) fn names_noting<P: Pages, M: MergeOperator>(
 }
 
 // The collection of every tree now.
-#[tactic(auto, using(crate::proofs::ReadMakes::exported))]
 fn export_now<P: Pages, M: MergeOperator>(machine: &Machine<P, M>) -> Result<Collections>
-    ensures { IfOk result (λ all. ReadsNow P.store machine.now (read.Export all)) }
+    ensures ok { IfOk result (λ all. ReadsNow P.store M.meant machine.now [] (read.Export all)) }
+    ensures err { IfErr result (RefusesNow P.store M.meant machine.now []) }
 {
     machine.audit();
     export_of(machine)
@@ -248,12 +257,14 @@ fn export_now<P: Pages, M: MergeOperator>(machine: &Machine<P, M>) -> Result<Col
 
 // The same collections, as a read of them is noted.
 fn read_of_export(all: &Collections) -> Result<Read>
-    ensures { IfOk result (λ it. it ≡ read.Export all.now) }
+    ensures ok { IfOk result (λ it. it ≡ read.Export all.now) }
+    ensures err { IfErr result (λ e. e ≡ NoMemory) }
 {
     Ok(Read::Export(all.clone()?))
 }
 
 // The collection of every tree, and what is to be noted of it, as of a question. The collections are shared, and not copied.
+#[tactic(auto, using(crate::proofs::Refusing::after_read))]
 pub(crate) fn export_noting<P: Pages, M: MergeOperator>(
     machine: &Machine<P, M>,
     history: &mut Vec<Entry>,
@@ -261,7 +272,8 @@ pub(crate) fn export_noting<P: Pages, M: MergeOperator>(
 ) -> (Result<Collections>, Option<(Made, Made)>)
     ensures ok { IfOk result.0 (λ all. first_noted result.1 ≡ ReadMade (read.Export all) ∷ []) }
     ensures err { OnErr result.0 (first_noted result.1 ≡ []) }
-    ensures notes { NotesRead P.store machine.now (first_noted result.1) }
+    ensures reads { IfOk result.0 (λ all. ReadsNow P.store M.meant machine.now [] (read.Export all)) }
+    ensures refused { IfErr result.0 (RefusesNow P.store M.meant machine.now []) }
     ensures again { second_noted result.1 ≡ first_noted result.1 }
     ensures history { history.new.items ≡ history.old.items }
     ensures made { made.new.items ≡ made.old.items }

@@ -3,7 +3,7 @@ ghost use Rattle.std.specs.Prelude.{◌≡◌, ◌++◌, ◌∷◌, [], IfOk, On
 ghost use Rattle.machine_shared.specs.Made.{ReadMade};
 ghost use Rattle.machine_shared.specs.Reads.{IsAnswerTo};
 ghost use Rattle.machine_shared.specs.declared.read.Read.TheVariants as read;
-ghost use Rattle.machine_shared.specs.UnderLock.{Looks, ReadsUnderLock, read_made};
+ghost use Rattle.machine_shared.specs.UnderLock.{Looks, ReadsUnderLock};
 
 use crate::caller::Caller;
 use crate::noting::note_and_count;
@@ -25,7 +25,7 @@ impl<P: Pages, L: Ledger, M: MergeOperator> State<P, L, M> {
         ensures number { me.new.number ≡ me.old.number }
         ensures machine { self.new.machine ≡ self.old.machine }
         ensures scans { self.new.scans ≡ self.old.scans }
-        ensures looks { Looks (read_made (λ answer. read.Tree tree.now question answer) result) me.old me.new self.old self.new }
+        ensures looks { Looks P.store M.meant (tree.now ∷ []) (λ answer. read.Tree tree.now question answer) result me.old me.new self.old self.new }
     {
         self.machine.audit();
         let Caller {
@@ -52,7 +52,7 @@ impl<P: Pages, L: Ledger, M: MergeOperator> State<P, L, M> {
         ensures number { me.new.number ≡ me.old.number }
         ensures machine { self.new.machine ≡ self.old.machine }
         ensures scans { self.new.scans ≡ self.old.scans }
-        ensures looks { Looks (read_made read.Names result) me.old me.new self.old self.new }
+        ensures looks { Looks P.store M.meant [] read.Names result me.old me.new self.old self.new }
     {
         self.machine.audit();
         let Caller {
@@ -79,7 +79,7 @@ impl<P: Pages, L: Ledger, M: MergeOperator> State<P, L, M> {
         ensures number { me.new.number ≡ me.old.number }
         ensures machine { self.new.machine ≡ self.old.machine }
         ensures scans { self.new.scans ≡ self.old.scans }
-        ensures looks { Looks (read_made read.Export result) me.old me.new self.old self.new }
+        ensures looks { Looks P.store M.meant [] read.Export result me.old me.new self.old self.new }
     {
         self.machine.audit();
         let Caller {
@@ -113,7 +113,7 @@ pub(crate) fn read_in<P: Pages, L: Ledger, M: MergeOperator>(
     ensures ok { IfOk result (λ answer. me.new.made ≡ me.old.made ++ ReadMade (read.Tree tree.now question answer) ∷ []) }
     ensures err { OnErr result (me.new.made ≡ me.old.made) }
     ensures number { me.new.number ≡ me.old.number }
-    ensures looks { ReadsUnderLock P.store M.meant (λ answer. read.Tree tree.now question answer) result me.old me.new }
+    ensures looks { ReadsUnderLock P.store M.meant (tree.now ∷ []) (λ answer. read.Tree tree.now question answer) result me.old me.new }
 {
     match held {
         None => {
@@ -137,7 +137,7 @@ pub(crate) fn tree_names_in<P: Pages, L: Ledger, M: MergeOperator>(
     ensures ok { IfOk result (λ names. me.new.made ≡ me.old.made ++ ReadMade (read.Names names) ∷ []) }
     ensures err { OnErr result (me.new.made ≡ me.old.made) }
     ensures number { me.new.number ≡ me.old.number }
-    ensures looks { ReadsUnderLock P.store M.meant read.Names result me.old me.new }
+    ensures looks { ReadsUnderLock P.store M.meant [] read.Names result me.old me.new }
 {
     match held {
         None => Err(Error::Closed),
@@ -158,7 +158,7 @@ pub(crate) fn export_in<P: Pages, L: Ledger, M: MergeOperator>(
     ensures ok { IfOk result (λ all. me.new.made ≡ me.old.made ++ ReadMade (read.Export all) ∷ []) }
     ensures err { OnErr result (me.new.made ≡ me.old.made) }
     ensures number { me.new.number ≡ me.old.number }
-    ensures looks { ReadsUnderLock P.store M.meant read.Export result me.old me.new }
+    ensures looks { ReadsUnderLock P.store M.meant [] read.Export result me.old me.new }
 {
     match held {
         None => Err(Error::Closed),

@@ -21,6 +21,8 @@ use Rattle.sled_model.specs.declared.call.Call.TheVariants.{Insert}
 use Rattle.sled_model.specs.declared.call.Whole.TheVariants.{OpenTree, Import}
 use Rattle.sled_model.specs.declared.reply.Reply.{Reply}
 use Rattle.sled_model.specs.declared.reply.Reply.TheVariants as told
+use Rattle.sled_model.specs.declared.outcome.Outcome.{Outcome}
+use Rattle.sled_model.specs.declared.outcome.Outcome.TheVariants.{Decided}
 use Rattle.sled_model.specs.declared.tree.Tree.{Tree}
 use Rattle.tree_reads.specs.Walk.{once}
 use Rattle.sled.specs.Values.{DbValue, state_of, db_state}
@@ -219,9 +221,9 @@ module _ {P M : Type 0} (store : P → Store) (meant : M → Merge) where
       replied : tree ≡ record { database = old.name; name = name; number = number_opened ((db_state store meant old).trees name) (db_state store meant old) }
       replied = told_tree _ _ opens.replies
 
-      -- so is a copy that was made before of what names it
-      pub copy_opened : (number : ℕ) → number ≡ number_opened ((db_state store meant old).trees name) (db_state store meant old) → (copy : Tree) → copy ≡ record { database = old.name; name = name; number = number } → told.Tree copy ≡ told.Tree tree
-      copy_opened number ahead copy is = ap told.Tree (is ∙ ap (λ (n : ℕ). record { database = old.name; name = name; number = n }) ahead ∙ sym replied)
+      -- what was kept before of what names it is kept of the reply
+      pub opened_kept : {K : Type 0} (keeps : Outcome → K) (kept : K) → kept ≡ keeps (Decided (told.Tree (tree_at (db_state store meant old) name))) → kept ≡ keeps (Decided (told.Tree tree))
+      opened_kept keeps kept e = e ∙ ap (λ (t : Tree). keeps (Decided (told.Tree t))) (sym replied)
 
       pub opened_name : tree.name ≡ name
       opened_name = ap (λ (t : Tree). t.name) replied

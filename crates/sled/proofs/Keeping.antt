@@ -1,17 +1,19 @@
 -- What whole calls keep and leave, part by part.
-use Rattle.std.proofs.Common.{◌≡◌, ℕ, ◌+◌, ◌<◌, ◌≤◌, Bool, List, [], ◌∷◌, map, Option, Some, None, Result, Ok, Err, IfOk, IfErr, OnOk, sym, ap, ◌∙◌, subst, inl, inr, arith}
+use Rattle.std.proofs.Common.{◌≡◌, ℕ, ◌+◌, ◌<◌, ◌≤◌, Bool, List, [], ◌∷◌, map, Option, Some, None, option_map, Result, Ok, Err, IfOk, IfErr, OnOk, sym, ap, ◌∙◌, subst, inl, inr, arith}
 use Rattle.sled_nodes.specs.Order.{Key}
 use Rattle.sled_batch.specs.Batch.{Writes}
 use Rattle.sled_store.specs.In.{In}
 use Rattle.sled_store.specs.Store.{Store}
-use Rattle.sled_store.specs.theory.Facts.{put_here, put_elsewhere}
+use Rattle.sled_store.specs.theory.Facts.{put_here, put_elsewhere, put_name_here, put_name_elsewhere}
 use Rattle.sled_nodes.specs.declared.error.Error.{Error}
 use Rattle.sled_model.specs.Maps.{Maps, Merge}
 use Rattle.sled_model.specs.State.{State, NamedTree, Queue, maps_of}
 use Rattle.sled_model.specs.Backlog.{no_backlog}
+use Rattle.sled_model.specs.Queues.{next_in, without_next}
 use Rattle.sled_model.specs.Transition.{RefusesAtOnce}
-use Rattle.sled_model.specs.Whole.{OpensTree, DropsTreeOf, maps_opened, maps_dropped}
+use Rattle.sled_model.specs.Whole.{SetsOperator, OpensTree, DropsTreeOf, maps_opened, maps_dropped}
 use Rattle.sled_model.specs.declared.call.Whole.{Whole}
+use Rattle.sled_model.specs.declared.event.Next as event
 use Rattle.sled_model.specs.declared.call.Whole.TheVariants.{OpenTree, DropTree}
 use Rattle.sled_model.specs.declared.reply.Reply.TheVariants.{Flag}
 use Rattle.sled_model.specs.declared.reply.Reply.TheVariants as told
@@ -23,8 +25,9 @@ use Rattle.sled.specs.Drops.{DropsTree, RefusesDrop}
 use Rattle.sled.specs.Flush.{FlushesDb, RefusesFlush}
 use Rattle.sled.specs.Groups.{GroupDecided, GroupRefused}
 use Rattle.sled.specs.Ids.{GivesId, RefusesId}
+use Rattle.sled.specs.Operators.{OperatorSet, operator_of, operator_at, KeepsOperators}
 use Rattle.sled.specs.Promises.{RefusesCall}
-use Rattle.sled.specs.Watch.{WatchesDb, RefusesWatch}
+use Rattle.sled.specs.Watch.{WatchesDb, RefusesWatch, TakesFromDb, EndsSubscriber}
 use Rattle.sled.specs.Wholes.{KeepsMaps, KeepsOthers, queue_in, RefusesGroup, LeavesAfter, leaves_whole_as, leaves_flushed_as}
 use Rattle.sled.proofs.Flushing.{stays_state}
 use Rattle.sled.proofs.Removing.{drop_decided, drop_refused}
@@ -77,6 +80,56 @@ module _ {P M : Type 0} (store : P → Store) (meant : M → Merge) (old new : D
   pub watch_others : (tree : Tree) (prefix : Key) (r : Result ℕ Error) → IfOk r (λ n. WatchesDb store meant old tree prefix n new) → IfOk r (λ n. KeepsOthers store meant n old new)
   watch_others tree prefix (Ok n) w = λ other off. ap (λ (s : State). s.queues other) (w.watches (λ n. None) 0).is ∙ put_elsewhere (db_state store meant old).queues n other (Some (watcher tree prefix)) off
   watch_others tree prefix (Err e) w = tt
+
+  module _ (n : ℕ) (next : Option event.Next) (t : TakesFromDb store meant old n next new) where
+    pub next_keeps : KeepsMaps store meant old new
+    next_keeps = ap maps_of (t.takes (λ n. None) 0).is
+
+    pub next_gives : next ≡ next_in (queue_in store meant old n)
+    next_gives = (t.takes (λ n. None) 0).gives
+
+    pub next_queue : queue_in store meant new n ≡ option_map without_next (queue_in store meant old n)
+    next_queue = ap (λ (s : State). s.queues n) (t.takes (λ n. None) 0).is ∙ put_here (db_state store meant old).queues n (option_map without_next (queue_in store meant old n))
+
+    pub next_others : KeepsOthers store meant n old new
+    next_others = λ other off. ap (λ (s : State). s.queues other) (t.takes (λ n. None) 0).is ∙ put_elsewhere (db_state store meant old).queues n other (option_map without_next (queue_in store meant old n)) off
+
+  module _ (n : ℕ) (u : EndsSubscriber store meant old n new) where
+    pub end_keeps : KeepsMaps store meant old new
+    end_keeps = ap maps_of (u.gives_up (λ n. None) 0).is
+
+    pub end_queue : queue_in store meant new n ≡ None
+    end_queue = ap (λ (s : State). s.queues n) (u.gives_up (λ n. None) 0).is ∙ put_here (db_state store meant old).queues n None
+
+    pub end_others : KeepsOthers store meant n old new
+    end_others = λ other off. ap (λ (s : State). s.queues other) (u.gives_up (λ n. None) 0).is ∙ put_elsewhere (db_state store meant old).queues n other None off
+
+  -- ---- operators
+
+  module _ (tree : Tree) (merge : Merge) where
+    module _ (o : OperatorSet store meant old tree merge new) where
+      abbrev was : State
+      was = db_state store meant old
+
+      abbrev sets : SetsOperator was tree merge (db_state store meant new)
+      sets = o.sets (λ n. None) 0
+
+      abbrev operated : Option NamedTree
+      operated = Some (record sets.named { merge = Some merge })
+
+      operator_here : operator_at store meant new tree.name ≡ Some merge
+      operator_here = ap (λ (s : State). operator_of (s.trees tree.name)) sets.is ∙ ap operator_of (put_name_here was.trees tree.name operated)
+
+      operator_others : KeepsOperators store meant tree.name old new
+      operator_others = λ other off. ap (λ (s : State). operator_of (s.trees other)) sets.is ∙ ap operator_of (put_name_elsewhere was.trees tree.name other operated off)
+
+    pub set_here : (r : Result (Unit {0}) Error) → OnOk r (OperatorSet store meant old tree merge new) → OnOk r (operator_at store meant new tree.name ≡ Some merge)
+    set_here (Ok done) o = operator_here o
+    set_here (Err e) o = tt
+
+    pub set_others : (r : Result (Unit {0}) Error) → OnOk r (OperatorSet store meant old tree merge new) → OnOk r (KeepsOperators store meant tree.name old new)
+    set_others (Ok done) o = operator_others o
+    set_others (Err e) o = tt
 
   -- ---- calls that are refused at once
 

@@ -25,7 +25,7 @@ use Rattle.sled.specs.Sound.{IsDb}
 use Rattle.sled.specs.Direct.{Conducts, WholeDecided, WholeRefused}
 use Rattle.sled.specs.Groups.{GroupDecided}
 use Rattle.sled.specs.Drops.{DropsTree, drops_as}
-use Rattle.sled.specs.theory.Pops.{end_of, pop_of}
+use Rattle.sled.specs.Pops.{end_of, pop_of}
 use Rattle.sled.specs.Promises.{ChangesMap, RefusesCall, OpensMap, DropsMap, map_opened, without_found}
 use Rattle.sled.proofs.Promising.{remove_takes}
 use Rattle.sled.proofs.Trees.{maps_ascend}

@@ -37,10 +37,10 @@ use Rattle.sled.specs.Flights.{IsStepRefused}
 use Rattle.sled.specs.Reads.{ReadsMap, RefusesReading, refuses_reading_as, stops_reading}
 use Rattle.tree_groups.specs.Writes.{ActsOften, NoAction, OneAction}
 use Rattle.sled.specs.Direct.{Conducts, PointDecided, PointRefused, WholeDecided, WholeRefused, effect_of_whole, changes_only, lost_of, LeavesAll, changes_refused}
-use Rattle.sled.specs.Pops.{TakesOut, RefusesToTake, IsAtEnd, PopsBySteps, PopRefusedBySteps, GivesUpPop, ClearsBySteps, ClearsNone, ClearsMore, ClearRefusedBySteps}
+use Rattle.sled.specs.Pops.{end_of, pop_of, TakesOut, RefusesToTake, IsAtEnd, PopsBySteps, PopRefusedBySteps, GivesUpPop, ClearsBySteps, ClearsNone, ClearsMore, ClearRefusedBySteps}
 use Rattle.sled.specs.declared.whole.Side.{Side}
 use Rattle.sled.specs.declared.whole.Side.TheVariants.{Least, Greatest}
-use Rattle.sled.specs.theory.Pops.{reads_of, end_of, pop_of, takes_as, leaves_pair_as}
+use Rattle.sled.specs.theory.Pops.{reads_of, takes_as, leaves_pair_as}
 use Rattle.sled.specs.Parts.{most_parts, told_parts, ClearsParts}
 use Rattle.sled.proofs.Conducting.{conducts_then, conducts_none, conducts_refused}
 use Rattle.sled.proofs.Counting.{told_one}

@@ -5,18 +5,37 @@ use Rattle.sled_nodes.specs.Order.{Key}
 use Rattle.sled_store.specs.Store.{Store, now}
 use Rattle.sled_nodes.specs.declared.error.Error.{Error}
 use Rattle.sled_nodes.specs.declared.error.Error.TheVariants.{NoMemory}
-use Rattle.sled_model.specs.Maps.{Map, Merge, IsLeast}
+use Rattle.sled_model.specs.Maps.{Map, Merge, IsLeast, IsGreatest}
 use Rattle.sled_model.specs.State.{NamedTree}
 use Rattle.sled_model.specs.Refusal.{TellsTurns, turns_limit}
 use Rattle.sled_model.specs.declared.call.Call.TheVariants.{Remove}
+use Rattle.sled_model.specs.declared.call.Whole.{Whole}
+use Rattle.sled_model.specs.declared.call.Whole.TheVariants.{PopMin, PopMax}
 use Rattle.sled_model.specs.declared.reply.Reply.{Reply}
 use Rattle.sled_model.specs.declared.tree.Tree.{Tree}
 use Rattle.tree_laws.specs.Paths.{IsClean, tree_pages}
-use Rattle.tree_reads.specs.Walk.{once}
+use Rattle.tree_reads.specs.Walk.{once, for_each}
 use Rattle.tree_reads.specs.declared.TheConstants.{MOST_PAGES}
 use Rattle.sled.specs.Values.{DbValue, db_state}
 use Rattle.sled.specs.Reads.{RefusesReading}
 use Rattle.sled.specs.Direct.{PointDecided, PointRefused}
+use Rattle.sled.specs.declared.whole.Side.{Side}
+use Rattle.sled.specs.declared.whole.Side.TheVariants.{Least, Greatest}
+
+-- what the pair at an end of a tree is in its map
+abbrev pub end_of : Side → Map → Option (Key × Key) → Type 0
+end_of Least = IsLeast
+end_of Greatest = IsGreatest
+
+-- how many pages its read may look at, by those of the tree
+abbrev pub pages_of : Side → ℕ → ℕ
+pages_of Least = once
+pages_of Greatest = for_each
+
+-- the call that takes it out
+abbrev pub pop_of : Side → Tree → Whole
+pop_of Least = PopMin
+pop_of Greatest = PopMax
 
 module _ {P M : Type 0} (store : P → Store) (meant : M → Merge) (old : DbValue P M) (tree : Tree) where
   -- the pair was taken out, and is the answer

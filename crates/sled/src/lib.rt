@@ -53,6 +53,7 @@ pub use tree_transactions::{
     TransactionError, TransactionResult, TransactionalTree, TransactionalTrees,
     UnabortableTransactionError, UnabortableTransactionResult, abort,
 };
+pub use whole::Side;
 
 /// The name of the default tree, which every database has.
 pub const DEFAULT_TREE: &str = "__sled__default";

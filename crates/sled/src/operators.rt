@@ -1,5 +1,5 @@
 //! The merge operators of the trees.
-ghost use Rattle.std.specs.Prelude.{IfErr, OnOk};
+ghost use Rattle.std.specs.Prelude.{◌≡◌, IfErr, OnOk, Some};
 
 use crate::db::Db;
 use sled_model::{MergeOperator, Tree};
@@ -8,7 +8,8 @@ use sled_store::Pages;
 use tree_lists::set_operator;
 
 impl<P: Pages, M: MergeOperator> Db<P, M> {
-    ghost use Rattle.sled.specs.Operators.{OperatorSet, OperatorNotSet};
+    ghost use Rattle.sled.specs.Operators.{OperatorSet, OperatorNotSet, operator_at, KeepsOperators};
+    ghost use Rattle.sled.specs.Wholes.{KeepsMaps};
 
     /// Gives a tree a merge operator, in place of the one that it has. A merge is decided by the operator that its tree has at the
     /// step that decides it. A call that is refused drops the operator.
@@ -20,6 +21,9 @@ impl<P: Pages, M: MergeOperator> Db<P, M> {
     pub fn set_merge_operator(&mut self, tree: &Tree, operator: M) -> Result<()>
         ensures ok { OnOk result (OperatorSet P.store M.meant self.old tree.now (M.meant operator) self.new) }
         ensures err { IfErr result (λ e. OperatorNotSet P.store M.meant self.old tree.now e self.new) }
+        ensures keeps { KeepsMaps P.store M.meant self.old self.new }
+        ensures operator { OnOk result (operator_at P.store M.meant self.new tree.now.name ≡ Some (M.meant operator)) }
+        ensures others { OnOk result (KeepsOperators P.store M.meant tree.now.name self.old self.new) }
     {
         if let Err(e) = self.check(tree) {
             drop(operator);

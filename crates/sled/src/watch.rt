@@ -1,6 +1,7 @@
 //! Subscribers, each of which has a queue of the events of its tree, and a count of those that it missed.
-ghost use Rattle.std.specs.Prelude.{◌≡◌, IfOk, IfErr, Some};
+ghost use Rattle.std.specs.Prelude.{◌≡◌, IfOk, IfErr, Some, None, option_map};
 ghost use Rattle.sled_model.specs.Backlog.{no_backlog};
+ghost use Rattle.sled_model.specs.Queues.{next_in, without_next};
 
 use crate::db::Db;
 use sled_model::{MergeOperator, Next, Subscriber, Tree};
@@ -63,7 +64,12 @@ impl<P: Pages, M: MergeOperator> Db<P, M> {
     /// let has_to_copy_anew = missed > 0;
     /// ```
     pub fn next(&mut self, subscriber: &Subscriber) -> Option<Next>
-        ensures { TakesFromDb P.store M.meant self.old subscriber.now result self.new }
+        ensures takes { TakesFromDb P.store M.meant self.old subscriber.now result self.new }
+        ensures keeps { KeepsMaps P.store M.meant self.old self.new }
+        ensures gives { result ≡ next_in (queue_in P.store M.meant self.old subscriber.now) }
+        ensures queue { queue_in P.store M.meant self.new subscriber.now ≡ option_map without_next (queue_in P.store M.meant self.old subscriber.now) }
+        ensures others { KeepsOthers P.store M.meant subscriber.now self.old self.new }
+        ensures same { self.new ≡ record self.old { queues = self.new.queues } }
     {
         self.queues.next(subscriber)
     }
@@ -76,7 +82,11 @@ impl<P: Pages, M: MergeOperator> Db<P, M> {
     /// let next = db.next(&subscriber); // `None`
     /// ```
     pub fn unsubscribe(&mut self, subscriber: &Subscriber)
-        ensures { EndsSubscriber P.store M.meant self.old subscriber.now self.new }
+        ensures ends { EndsSubscriber P.store M.meant self.old subscriber.now self.new }
+        ensures keeps { KeepsMaps P.store M.meant self.old self.new }
+        ensures queue { queue_in P.store M.meant self.new subscriber.now ≡ None }
+        ensures others { KeepsOthers P.store M.meant subscriber.now self.old self.new }
+        ensures same { self.new ≡ record self.old { queues = self.new.queues } }
     {
         self.queues.unsubscribe(subscriber);
     }

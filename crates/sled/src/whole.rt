@@ -6,7 +6,8 @@ ghost use Rattle.sled_model.specs.declared.call.Whole.TheVariants.{PopMin, PopMa
 ghost use Rattle.sled_model.specs.declared.outcome.Outcome.TheVariants.{Decided};
 ghost use Rattle.sled_model.specs.declared.reply.Reply.TheVariants.{Pair, Done};
 ghost use Rattle.tree_reads.specs.Walk.{once, for_each};
-ghost use Rattle.sled.specs.theory.Pops.{reads_of, end_of, pages_of, pop_of, takes_as, leaves_pair_as, IsPair};
+ghost use Rattle.sled.specs.Pops.{end_of, pages_of, pop_of};
+ghost use Rattle.sled.specs.theory.Pops.{reads_of, takes_as, leaves_pair_as, IsPair};
 
 use crate::db::Db;
 use sled_model::{Call, MergeOperator, Reply, Tree};
@@ -14,10 +15,12 @@ use sled_nodes::{IVec, Result};
 use sled_store::Pages;
 use tree_steps::Keep;
 
-// An end of a tree: its least key or its greatest.
+/// An end of a tree.
 #[derive(Clone, Copy)]
-pub(crate) enum Side {
+pub enum Side {
+    /// Its least key.
     Least,
+    /// Its greatest key.
     Greatest,
 }
 
@@ -106,8 +109,13 @@ impl<P: Pages, M: MergeOperator> Db<P, M> {
         }
     }
 
-    // Takes out the pair at an end, and answers it; or `None`, if the tree is empty. What is kept of the reply is made before.
-    pub(crate) fn pop<K: Keep>(
+    /// Takes out the pair at an end, as `pop_min` and `pop_max` do, and answers it, with what is kept of the reply: nothing (`()`), or two
+    /// copies, as `pop_min_kept` has them.
+    ///
+    /// ```
+    /// let (found, ()) = db.pop_keeping(&tree, Side::Least)?; // As `pop_min` does.
+    /// ```
+    pub fn pop_keeping<K: Keep>(
         &mut self,
         tree: &Tree,
         side: Side,
@@ -155,7 +163,7 @@ impl<P: Pages, M: MergeOperator> Db<P, M> {
         ensures refuses { IfErr result (λ e. RefusesCall P.store M.meant self.old (PopMin tree.now) e self.new) }
         ensures leaves { leaves_as P.store M.meant result self.old self.new }
     {
-        match self.pop(tree, Side::Least) {
+        match self.pop_keeping(tree, Side::Least) {
             Ok((found, ())) => Ok(found),
             Err(e) => Err(e),
         }
@@ -178,7 +186,7 @@ impl<P: Pages, M: MergeOperator> Db<P, M> {
         ensures refuses { IfErr result (λ e. RefusesCall P.store M.meant self.old (PopMax tree.now) e self.new) }
         ensures leaves { leaves_as P.store M.meant result self.old self.new }
     {
-        match self.pop(tree, Side::Greatest) {
+        match self.pop_keeping(tree, Side::Greatest) {
             Ok((found, ())) => Ok(found),
             Err(e) => Err(e),
         }

@@ -1,13 +1,16 @@
 //! Whole calls whose reply is kept: two copies of it are made before anything changes, so that want of memory for them refuses the
-//! call before it is decided. Of the calls whose reply owns memory these are the pops and the opening of a tree.
-ghost use Rattle.std.specs.Prelude.{◌≡◌, IfOk, IfErr, OnOk, false, Option, Some};
+//! call before it is decided. Of the calls whose reply owns memory these are the pops (`pop_keeping`) and the opening of a tree.
+ghost use Rattle.std.specs.Prelude.{◌≡◌, false, IfOk, IfErr, OnOk, Option, Some};
 ghost use Rattle.sled_nodes.specs.Order.{Key};
 ghost use Rattle.sled_nodes.specs.declared.error.Error.TheVariants.{NoMemory};
 ghost use Rattle.sled_store.specs.Store.{now};
 ghost use Rattle.sled_model.specs.Maps.{IsLeast, IsGreatest};
+ghost use Rattle.sled_model.specs.Imports.{tree_at};
 ghost use Rattle.sled_model.specs.Whole.{number_opened};
 ghost use Rattle.sled_model.specs.declared.call.Whole.TheVariants.{PopMin, PopMax, OpenTree};
+ghost use Rattle.sled_model.specs.declared.outcome.Outcome.TheVariants.{Decided};
 ghost use Rattle.sled_model.specs.declared.reply.Reply.TheVariants.{Pair};
+ghost use Rattle.sled_model.specs.declared.reply.Reply.TheVariants as answer;
 ghost use Rattle.tree_reads.specs.Walk.{once, for_each};
 ghost use Rattle.sled.specs.Opens.{OpensBySteps, OpenRefusedBySteps};
 
@@ -15,18 +18,19 @@ use crate::db::Db;
 use crate::whole::Side;
 use sled_model::{MergeOperator, Reply, Tree};
 use sled_nodes::texts::NUMBERS_USED_UP;
-use sled_nodes::{Error, IVec, Result};
+use sled_nodes::{Error, Result};
 use sled_store::Pages;
 use tree_lists::number_of;
+use tree_steps::Keep;
 
-// The reply of a pop, and two copies of it.
-fn told_thrice(found: Option<(IVec, IVec)>, kept: Option<(Reply, Reply)>) -> (Reply, Reply, Reply)
-    requires { kept ≡ Some (Pair found, Pair found) }
-    ensures told { result.0 ≡ Pair found }
+// The reply of a call, and two copies of it.
+fn told_thrice(reply: Reply, kept: Option<(Reply, Reply)>) -> (Reply, Reply, Reply)
+    requires { kept ≡ Some (reply, reply) }
+    ensures told { result.0 ≡ reply }
     ensures kept { (result.1 ≡ result.0) × (result.2 ≡ result.0) }
 {
     match kept {
-        Some((one, other)) => (Reply::Pair(found), one, other),
+        Some((one, other)) => (reply, one, other),
         None => unreachable!(),
     }
 }
@@ -35,6 +39,8 @@ impl<P: Pages, M: MergeOperator> Db<P, M> {
     ghost use Rattle.sled.specs.Values.{db_state};
     ghost use Rattle.sled.specs.Direct.{WholeDecided, WholeRefused};
     ghost use Rattle.sled.specs.Pops.{PopsBySteps, PopRefusedBySteps, GivesUpPop};
+    ghost use Rattle.sled.specs.Promises.{OpensMap, RefusesCall};
+    ghost use Rattle.sled.specs.Wholes.{leaves_whole_as};
 
     /// Takes out the pair with the least key, as `pop_min` does, and answers the call's reply (`Reply::Pair`) and two copies of it. The
     /// copies are made once the pair is read and before it is removed. Refused as `pop_min` is, and with `NoMemory` if there is no memory
@@ -51,8 +57,8 @@ impl<P: Pages, M: MergeOperator> Db<P, M> {
         ensures steps { IfOk result (λ told. (found : Option (Key × Key)) × (told.0 ≡ Pair found) × PopsBySteps P.store M.meant self.old tree.now IsLeast found self.new) }
         ensures refused { IfErr result (λ e. PopRefusedBySteps P.store M.meant self.old tree.now IsLeast once e self.new) }
     {
-        match self.pop(tree, Side::Least) {
-            Ok((found, kept)) => Ok(told_thrice(found, kept)),
+        match self.pop_keeping(tree, Side::Least) {
+            Ok((found, kept)) => Ok(told_thrice(Reply::Pair(found), kept)),
             Err(e) => Err(e),
         }
     }
@@ -71,8 +77,8 @@ impl<P: Pages, M: MergeOperator> Db<P, M> {
         ensures steps { IfOk result (λ told. (found : Option (Key × Key)) × (told.0 ≡ Pair found) × PopsBySteps P.store M.meant self.old tree.now IsGreatest found self.new) }
         ensures refused { IfErr result (λ e. PopRefusedBySteps P.store M.meant self.old tree.now IsGreatest for_each e self.new) }
     {
-        match self.pop(tree, Side::Greatest) {
-            Ok((found, kept)) => Ok(told_thrice(found, kept)),
+        match self.pop_keeping(tree, Side::Greatest) {
+            Ok((found, kept)) => Ok(told_thrice(Reply::Pair(found), kept)),
             Err(e) => Err(e),
         }
     }
@@ -95,17 +101,51 @@ impl<P: Pages, M: MergeOperator> Db<P, M> {
         Ok(self.trees_given + 1)
     }
 
-    // What names the tree of this name and number, twice.
-    fn two_handles(&self, name: &[u8], number: u64) -> Result<(Tree, Tree)>
-        ensures one { IfOk result (λ both. both.0 ≡ record { database = self.now.name; name = name.now; number = number }) }
-        ensures other { IfOk result (λ both. both.1 ≡ record { database = self.now.name; name = name.now; number = number }) }
-        ensures err { IfErr result (λ e. e ≡ NoMemory) }
+    // What is to be kept of the reply of an opening. It is made before the opening, and refused as that is, and with `NoMemory`.
+    fn keep_ahead<K: Keep>(&self, name: &[u8]) -> Result<K>
+        ensures ok { IfOk result (λ kept. kept ≡ K.kept (Decided (answer.Tree (tree_at (db_state P.store M.meant self.now) name.now)))) }
+        ensures err { IfErr result (λ e. WholeRefused P.store M.meant self.now (OpenTree name.now) e self.now) }
     {
-        let one = self.handle_of(name, number)?;
-        match self.handle_of(name, number) {
-            Ok(other) => Ok((one, other)),
+        if !K::COPIES {
+            return Ok(K::nothing());
+        }
+        let number = match self.number_ahead(name) {
+            Ok(number) => number,
+            Err(e) => return Err(e),
+        };
+        let reply = match self.handle_of(name, number) {
+            Ok(tree) => Reply::Tree(tree),
+            Err(e) => return Err(e),
+        };
+        let kept = K::of(&reply);
+        drop(reply);
+        kept
+    }
+
+    /// Opens the tree of a name, as `open_tree` does, and answers it, with what is kept of the reply: nothing (`()`), or two copies, as
+    /// `open_tree_kept` has them.
+    ///
+    /// ```
+    /// let (orders, ()) = db.open_tree_keeping(b"orders")?; // As `open_tree` does.
+    /// ```
+    pub fn open_tree_keeping<K: Keep>(&mut self, name: &[u8]) -> Result<(Tree, K)>
+        ensures ok { IfOk result (λ all. WholeDecided P.store M.meant self.old (OpenTree name.now) (answer.Tree all.0) self.new) }
+        ensures kept { IfOk result (λ all. all.1 ≡ K.kept (Decided (answer.Tree all.0))) }
+        ensures err { IfErr result (λ e. WholeRefused P.store M.meant self.old (OpenTree name.now) e self.new) }
+        ensures steps { OnOk result (OpensBySteps P.store name.now self.old self.new) }
+        ensures refused { IfErr result (λ e. OpenRefusedBySteps P.store name.now self.old e self.new) }
+        ensures changes { OnOk result (OpensMap P.store M.meant self.old name.now self.new) }
+        ensures refuses { IfErr result (λ e. RefusesCall P.store M.meant self.old (OpenTree name.now) e self.new) }
+        ensures leaves { leaves_whole_as P.store M.meant result self.old self.new }
+    {
+        let kept = match self.keep_ahead(name) {
+            Ok(kept) => kept,
+            Err(e) => return Err(e),
+        };
+        match self.open_tree(name) {
+            Ok(tree) => Ok((tree, kept)),
             Err(e) => {
-                drop(one);
+                drop(kept);
                 Err(e)
             }
         }
@@ -125,21 +165,9 @@ impl<P: Pages, M: MergeOperator> Db<P, M> {
         ensures steps { OnOk result (OpensBySteps P.store name.now self.old self.new) }
         ensures refused { IfErr result (λ e. OpenRefusedBySteps P.store name.now self.old e self.new) }
     {
-        let number = match self.number_ahead(name) {
-            Ok(number) => number,
-            Err(e) => return Err(e),
-        };
-        let (one, other) = match self.two_handles(name, number) {
-            Ok(both) => both,
-            Err(e) => return Err(e),
-        };
-        match self.open_tree(name) {
-            Ok(tree) => Ok((Reply::Tree(tree), Reply::Tree(one), Reply::Tree(other))),
-            Err(e) => {
-                drop(one);
-                drop(other);
-                Err(e)
-            }
+        match self.open_tree_keeping(name) {
+            Ok((tree, kept)) => Ok(told_thrice(Reply::Tree(tree), kept)),
+            Err(e) => Err(e),
         }
     }
 }

@@ -85,9 +85,7 @@ fn leaf_of(alloc: Global, bytes: &[u8], at: usize) -> Result<(Data, usize), Refu
 {
     let (count, at) = number_of(bytes, at)?;
     let (pairs, at) = pairs_of(alloc, bytes, at, count)?;
-    let leaf = Leaf::from_pairs(alloc, pairs.as_slice());
-    drop(pairs);
-    match leaf {
+    match Leaf::from_list(alloc, pairs) {
         Ok(leaf) => Ok((Data::Leaf(leaf), at)),
         Err(e) => {
             drop(e);
@@ -104,9 +102,7 @@ fn index_of(alloc: Global, bytes: &[u8], at: usize) -> Result<(Data, usize), Ref
 {
     let (count, at) = number_of(bytes, at)?;
     let (pointers, at) = pointers_of(alloc, bytes, at, count)?;
-    let index = Index::from_pairs(alloc, pointers.as_slice());
-    drop(pointers);
-    match index {
+    match Index::from_list(alloc, pointers) {
         Ok(index) => Ok((Data::Index(index), at)),
         Err(e) => {
             drop(e);

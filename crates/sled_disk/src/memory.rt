@@ -423,6 +423,11 @@ impl Disk for MemoryDisk {
         Ok(self.bytes[at..at + count].to_vec(alloc)?)
     }
 
+    // A read is a call of its own, which tests refuse.
+    fn lent(&self) -> Option<&[u8]> {
+        None
+    }
+
     fn write_at(&mut self, at: usize, bytes: &[u8]) -> Result<()>
         requires { at ≤ length (bytes_of self.old) }
         ensures written { OnOk result (bytes_of self.new ≡ written at bytes.now (bytes_of self.old)) }

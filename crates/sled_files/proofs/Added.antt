@@ -9,7 +9,7 @@ use Rattle.sled_bytes.specs.declared.change.Change.{Change}
 use Rattle.sled_bytes.specs.declared.change.Change.TheVariants.{Marked, Limited}
 use Rattle.sled_files.specs.Change.{Durable, changed_all, AreAdded}
 use Rattle.sled_files.specs.Files.{Files, IsReady, KeepsTime, LeavesPairs, AreForEither}
-use Rattle.sled_files.specs.Lasting.{Limits, IsRight, IsLasting}
+use Rattle.sled_files.specs.Lasting.{Limits, AreRaised, IsRight, IsLasting}
 use Rattle.sled_files.specs.Pending.{IsPending, Spells}
 use Rattle.sled_files.specs.Stored.{Stored, stored_as, over, asked_of, AreWithin, Stands, IsSound}
 use Rattle.sled_files.specs.theory.Given.{sealed_over}
@@ -62,11 +62,11 @@ module _ {D : Type 0} {seen : D → List ℕ} {may_leave : D → List ℕ → Ty
       }
 
   -- limits that are no lower
-  pub right_raised : {limits : Limits} {s : Store} {files : Files D} {pending : List ℕ} (asked : List ℕ) (pids versions : ℕ) → limits.pids ≤ pids → limits.versions ≤ versions → s.base.in_group ≡ false
+  pub right_raised : {limits : Limits} {s : Store} {files : Files D} {pending : List ℕ} (asked : List ℕ) (pids versions : ℕ) → AreRaised limits (record { pids = pids; versions = versions }) → s.base.in_group ≡ false
       → (st : Stands seen may_leave limits s files pending) → IsRight asked limits s (changed_all (Limited pids versions ∷ []) st.durable)
-  right_raised asked pids versions more further sealed st =
+  right_raised asked pids versions raised sealed st =
       let right = right_before st.pends {asked = asked} sealed in
-      record { state = right.state; mark = right.mark; no_lower = right.no_lower; limited = record { pids = more; versions = further } }
+      record { state = right.state; mark = right.mark; no_lower = right.no_lower; limited = record { pids = raised.pids; versions = raised.versions; pids_most = raised.pids_most; versions_most = raised.versions_most } }
 
   pub added_limited : {limits : Limits} {s : Store} {files : Files D} {pending : List ℕ} (st : Stands seen may_leave limits s files pending) (pids versions : ℕ) {payload : List ℕ} → Spells payload (Limited pids versions ∷ []) → limits.pids ≤ pids → limits.versions ≤ versions → AreAdded (Limited pids versions ∷ []) st.durable
   added_limited st pids versions spells more further = added_limits st.ready.stands.stands.made pids versions spells (omega (arith, more, st.pends.limited.pids)) (omega (arith, further, st.pends.limited.versions))
@@ -94,7 +94,7 @@ module _ {D : Type 0} {seen : D → List ℕ} {may_leave : D → List ℕ → Ty
       → (st : Stands seen may_leave limits s files pending) → IsRight asked limits s (changed_all (Marked upto ∷ []) st.durable)
   right_marked asked upto le one sealed st =
       let right = right_before st.pends {asked = asked} sealed in
-      record { state = right.state; mark = inr one; no_lower = le; limited = record { pids = right.limited.pids; versions = right.limited.versions } }
+      record { state = right.state; mark = inr one; no_lower = le; limited = record { pids = right.limited.pids; versions = right.limited.versions; pids_most = right.limited.pids_most; versions_most = right.limited.versions_most } }
 
   pub sound_marked : (f : Stored D) (files : Files D) (payload : List ℕ) (upto : ℕ) → IsSound seen may_leave f → f.files.failed ≡ false
       → ((d : Durable) (list : List Change) → IsReady seen may_leave f.files d → Spells payload list → AreAdded list d → IsReady seen may_leave files (changed_all list d))
@@ -133,9 +133,9 @@ module _ {D : Type 0} {seen : D → List ℕ} {may_leave : D → List ℕ → Ty
 module _ {D : Type 0} {moment : D → ℕ} {left_since : D → ℕ → List ℕ → Type 0} {seen : D → List ℕ} {may_leave : D → List ℕ → Type 0} (f : Stored D) (files : Files D) (payload : List ℕ)
     (first : KeepsTime moment left_since may_leave f.files.first) (second : KeepsTime moment left_since may_leave f.files.second) (sound : IsSound seen may_leave f) (stays : f.files.failed ≡ true → files ≡ f.files)
     (any : (d : Durable) (list : List Change) → IsReady seen may_leave f.files d → Spells payload list → AreAdded list d → LeavesPairs moment left_since may_leave f.files files (AreForEither d (changed_all list d))) where
-  pub moments_raised : (pids versions : ℕ) → Spells payload (Limited pids versions ∷ []) → f.limits.pids ≤ pids → f.limits.versions ≤ versions → LeavesPairs moment left_since may_leave f.files files (IsLasting (asked_of f.asked) f.limits (stored_as f))
-  moments_raised pids versions spells more further =
-      moments_added f files payload (Limited pids versions ∷ []) (asked_of f.asked) first second sound spells (λ st. added_limited st pids versions spells more further) stays any (λ x i. i) (λ st. right_raised (asked_of f.asked) pids versions more further (sealed_over f) st)
+  pub moments_raised : (pids versions : ℕ) → Spells payload (Limited pids versions ∷ []) → AreRaised f.limits (record { pids = pids; versions = versions }) → LeavesPairs moment left_since may_leave f.files files (IsLasting (asked_of f.asked) f.limits (stored_as f))
+  moments_raised pids versions spells raised =
+      moments_added f files payload (Limited pids versions ∷ []) (asked_of f.asked) first second sound spells (λ st. added_limited st pids versions spells raised.pids raised.versions) stays any (λ x i. i) (λ st. right_raised (asked_of f.asked) pids versions raised (sealed_over f) st)
 
   pub moments_marked : (upto : ℕ) (asked : List ℕ) → f.mark ≤ upto → Spells payload (Marked upto ∷ []) → ((x : ℕ) → In x (asked_of f.asked) → In x asked) → In upto asked → LeavesPairs moment left_since may_leave f.files files (IsLasting asked f.limits (stored_as f))
   moments_marked upto asked le spells more one =

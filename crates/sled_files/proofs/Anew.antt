@@ -12,7 +12,7 @@ use Rattle.sled_pages.specs.declared.memory.MemPages.{MemPages}
 use Rattle.sled_pages.specs.Memory.{store_of}
 use Rattle.sled_files.specs.Change.{Durable, nothing_yet, changed_all, IsWithin, AreOfStore}
 use Rattle.sled_files.specs.Files.{Files, IsReady, KeepsTime, LeavesPairs, AreForEither}
-use Rattle.sled_files.specs.Lasting.{Limits, AreNoLower, IsRight, IsLasting}
+use Rattle.sled_files.specs.Lasting.{Limits, AreRaised, IsRight, IsLasting}
 use Rattle.sled_files.specs.Pending.{IsPending}
 use Rattle.sled_files.specs.Stored.{Stored, stored_as, over, asked_of, AreWithin, IsSound}
 use Rattle.sled_files.specs.theory.Given.{sealed_over}
@@ -32,14 +32,14 @@ made_whole m = subst (λ (e : Durable). AreOfStore m.changes e) (sym m.makes) m.
 out_is : (t : State) → t.in_group ≡ false → record t { in_group = false } ≡ t
 out_is t e = ap (λ (b : Bool). record t { in_group = b }) (sym e)
 
-module _ {limits raised : Limits} (s : Store) (out : (now s).in_group ≡ false) (lower : AreNoLower limits raised) where
+module _ {limits raised : Limits} (s : Store) (out : (now s).in_group ≡ false) (lower : AreRaised limits raised) where
   -- what a store is now is right for it
   pub right_whole : {asked : List ℕ} → IsRight asked limits s (durable_now s s.mark raised.pids raised.versions)
   right_whole = record {
     state = record { is = subst (λ (x : State). In x (crash_states s)) (sym (out_is (now s) out)) (last_left s.base s.recent out) };
     mark = inl refl;
     no_lower = omega arith;
-    limited = record { pids = lower.pids; versions = lower.versions };
+    limited = record { pids = lower.pids; versions = lower.versions; pids_most = lower.pids_most; versions_most = lower.versions_most };
   }
 
   -- and with that nothing is pending of the flushed store
@@ -60,7 +60,7 @@ abbrev pub whole_of : {D : Type 0} → Stored D → Limits → Durable
 whole_of f raised = durable_now (stored_as f) f.mark raised.pids raised.versions
 
 -- what makes it of nothing are changes of a store
-anew : {D : Type 0} {seen : D → List ℕ} {may_leave : D → List ℕ → Type 0} (f : Stored D) (payload : List ℕ) (raised : Limits) → AreNoLower f.limits raised → raised.versions < 2 ^ 64 → IsSound seen may_leave f → Makes (store_of f.pages) payload (whole_of f raised) → MakesAnew payload (whole_of f raised)
+anew : {D : Type 0} {seen : D → List ℕ} {may_leave : D → List ℕ → Type 0} (f : Stored D) (payload : List ℕ) (raised : Limits) → AreRaised f.limits raised → raised.versions < 2 ^ 64 → IsSound seen may_leave f → Makes (store_of f.pages) payload (whole_of f raised) → MakesAnew payload (whole_of f raised)
 anew f payload raised lower fits sound m =
     let within : AreWithin f.limits (store_of f.pages) = record { numbered = sound.within.numbered; pids = sound.within.pids; versions = sound.within.versions } in
     record {
@@ -75,7 +75,7 @@ anew f payload raised lower fits sound m =
     }
 
 module _ {D : Type 0} {seen : D → List ℕ} {may_leave : D → List ℕ → Type 0} (f : Stored D) (files : Files D) (payload : List ℕ) (sound : IsSound seen may_leave f)
-    (out : (now (store_of f.pages)).in_group ≡ false) (raised : Limits) (lower : AreNoLower f.limits raised) (fits : raised.versions < 2 ^ 64) (m : Makes (store_of f.pages) payload (whole_of f raised)) where
+    (out : (now (store_of f.pages)).in_group ≡ false) (raised : Limits) (lower : AreRaised f.limits raised) (fits : raised.versions < 2 ^ 64) (m : Makes (store_of f.pages) payload (whole_of f raised)) where
   pub sound_anew : (pages : MemPages) → f.files.failed ≡ false → ((d made : Durable) → IsReady seen may_leave f.files d → MakesAnew payload made → IsReady seen may_leave files made)
       → store_of pages ≡ after_flush (store_of f.pages) → IsSound seen may_leave (record f { pages = pages; files = files; pending = []; limits = raised })
   sound_anew pages up ready is =
@@ -90,7 +90,7 @@ module _ {D : Type 0} {seen : D → List ℕ} {may_leave : D → List ℕ → Ty
       }
 
 module _ {D : Type 0} {moment : D → ℕ} {left_since : D → ℕ → List ℕ → Type 0} {seen : D → List ℕ} {may_leave : D → List ℕ → Type 0} (f : Stored D) (files : Files D) (payload : List ℕ) (sound : IsSound seen may_leave f)
-    (out : (now (store_of f.pages)).in_group ≡ false) (raised : Limits) (lower : AreNoLower f.limits raised) (fits : raised.versions < 2 ^ 64) (m : Makes (store_of f.pages) payload (whole_of f raised)) where
+    (out : (now (store_of f.pages)).in_group ≡ false) (raised : Limits) (lower : AreRaised f.limits raised) (fits : raised.versions < 2 ^ 64) (m : Makes (store_of f.pages) payload (whole_of f raised)) where
   pub moments_anew : KeepsTime moment left_since may_leave f.files.first → KeepsTime moment left_since may_leave f.files.second → (f.files.failed ≡ true → files ≡ f.files)
       → ((d made : Durable) → IsReady seen may_leave f.files d → MakesAnew payload made → LeavesPairs moment left_since may_leave f.files files (AreForEither d made))
       → LeavesPairs moment left_since may_leave f.files files (IsLasting (asked_of f.asked) f.limits (stored_as f))

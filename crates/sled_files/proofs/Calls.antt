@@ -78,6 +78,13 @@ module _ {s t : Store} {before after : List ℕ} where
       spells_act (Given pid next node) (PageBecomes pid (Some (record { version = given; node = node }))) given fits bytes
       (ap (λ (x : ℕ). Some (PageBecomes pid (Some (record { version = x; node = node })))) (sym same)) h.is.2 (given_act next are h.is.1 same h.is.2)
 
+-- the bytes of a change are those with the version, or the numbers, that was given
+pub adds_given : {given next : ℕ} (before after : List ℕ) (change : ℕ → Change) → given ≡ next → after ≡ before ++ change_bytes (change next) → after ≡ before ++ change_bytes (change given)
+adds_given {given} {next} before after change same is = is ∙ ap (λ (x : ℕ). before ++ change_bytes (change x)) (sym same)
+
+pub adds_new : (before after : List ℕ) (node : Node) (pid version p v : ℕ) → (p ≡ pid) × (v ≡ version) → after ≡ before ++ change_bytes (Given pid version node) → after ≡ before ++ change_bytes (Given p v node)
+adds_new before after node pid version p v same is = adds_given before after (λ x. Given p x node) same.1 (adds_given before after (λ x. Given x version node) same.0 is)
+
 module _ {limits : Limits} {s t : Store} (w : AreWithin limits s) where
   pub within_idles : Idles s t → AreWithin limits t
   within_idles i = within_same w i.pids i.versions

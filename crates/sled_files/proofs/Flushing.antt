@@ -26,7 +26,7 @@ state_changed [] d = refl
 state_changed (c ∷ changes) d = state_changed changes (changed c d) ∙ acted_first (action_of c d.state) (actions_of changes (acted (action_of c d.state) d.state)) d.state
 
 pub has_limits : {limits : Limits} {d : Durable} → AreLimits limits d → HasLimits limits d
-has_limits l = record { pids = omega (arith, l.pids); versions = omega (arith, l.versions) }
+has_limits l = record { pids = omega (arith, l.pids); versions = omega (arith, l.versions); pids_most = omega (arith, l.pids); versions_most = omega (arith, l.versions) }
 
 module _ {limits : Limits} {s : Store} {d : Durable} {bytes : List ℕ} (p : IsPending limits s d bytes) where
   -- what the changes that are pending make is the state now

@@ -5,9 +5,9 @@ use Rattle.std.specs.Prelude.{min, ◌&&◌, ◌==◌, Result, Ok, Err, OnOk, On
 use Rattle.sled_store.specs.Store.{Store}
 use Rattle.sled_pages.specs.Memory.{store_of}
 use Rattle.sled_files.specs.Files.{IsGrown}
-use Rattle.sled_files.specs.Lasting.{Limits}
+use Rattle.sled_files.specs.Lasting.{Limits, AreRaised}
 use Rattle.sled_files.specs.Raised.{ComeNext, raised_to, raised_above, are_far, HasReached, RaisesNear, Raises, Reaches, ReachesOrFails, FlushesOn}
-use Rattle.sled_files.specs.Stored.{Stored, stored_as, missed_after, over}
+use Rattle.sled_files.specs.Stored.{Stored, stored_as, missed_after, over, AreWithin}
 use Rattle.sled_files.proofs.Numbers.{le_lt}
 
 pub same_limits : {a b : Limits} → a.pids ≡ b.pids → a.versions ≡ b.versions → a ≡ b
@@ -50,6 +50,54 @@ next_over m k c = record { positive = c.positive; pids = c.pids; versions = c.ve
 
 pub near_over : (m k : ℕ) {s : Store} {limits raised : Limits} → RaisesNear s limits raised → RaisesNear (over m k s) limits raised
 near_over m k n = record { pid = n.pid; version = n.version; next = next_over m k n.next; is = n.is }
+
+-- a page number that comes next is no higher than its limit, or the first one
+pid_low : {limits : Limits} {s : Store} {pid version : ℕ} → AreWithin limits s → ComeNext s pid version → pid ≤ limits.pids + 1
+pid_low {limits} {s} {pid} {version} within next = elim (nat_lt 1 pid) as (λ b. nat_lt 1 pid ≡ b → pid ≤ limits.pids + 1) [
+  | true ↦ λ e.
+      let more : 1 < pid = grind (arith, nat_tests) in
+      let positive : 0 < pid - 1 = omega (arith, more) in
+      let before : nat_lt (pid - 1) pid ≡ true = grind (arith, nat_tests) in
+      let below : pid - 1 < limits.pids = within.pids (pid - 1) positive (next.pids (pid - 1) positive ∙ before) in
+      omega (arith, below)
+  | false ↦ λ e. let few : pid ≤ 1 = grind (arith, nat_tests) in omega (arith, few)
+] refl
+
+-- a version that comes next is no higher than its limit
+version_low : {limits : Limits} {s : Store} {pid version : ℕ} → AreWithin limits s → ComeNext s pid version → version ≤ limits.versions
+version_low {limits} {s} {pid} {version} within next = elim (nat_lt 0 version) as (λ b. nat_lt 0 version ≡ b → version ≤ limits.versions) [
+  | true ↦ λ e.
+      let before : nat_lt (version - 1) version ≡ true = grind (arith, nat_tests) in
+      let below : version - 1 < limits.versions = within.versions (version - 1) (next.versions (version - 1) ∙ before) in
+      omega (arith, below)
+  | false ↦ λ e. let none : version ≤ 0 = grind (arith, nat_tests) in omega (arith, none)
+] refl
+
+-- limits that are raised above what comes next are not far above the limits that there were
+pub raised_by : {limits : Limits} {s : Store} {pid version : ℕ} (pids versions : ℕ) → AreWithin limits s → ComeNext s pid version → pids ≡ raised_to limits.pids pid → versions ≡ raised_to limits.versions version → AreRaised limits (record { pids = pids; versions = versions })
+raised_by {limits} {s} {pid} {version} pids versions within next higher further =
+    let low : pid ≤ limits.pids + 1 = pid_low within next in
+    let also : version ≤ limits.versions = version_low within next in
+    record {
+      pids = omega (arith, higher);
+      versions = omega (arith, further);
+      pids_most = omega (arith, higher, low);
+      versions_most = omega (arith, further, also);
+    }
+
+pub stay_raised : (limits : Limits) → AreRaised limits limits
+stay_raised limits = record { pids = omega arith; versions = omega arith; pids_most = omega arith; versions_most = omega arith }
+
+pub raised_near : {limits raised : Limits} {s : Store} → AreWithin limits s → RaisesNear s limits raised → AreRaised limits raised
+raised_near {limits} {raised} {s} within near = subst (AreRaised limits) (sym near.is) (elim (are_far near.pid near.version limits) as (λ b. AreRaised limits (cond b limits (raised_above near.pid near.version limits))) [
+  | true ↦ stay_raised limits
+  | false ↦ raised_by (raised_to limits.pids near.pid) (raised_to limits.versions near.version) within near.next refl refl
+])
+
+-- limits that a flush sets: they stay if nothing is to be added, and else are raised where what comes next is near
+pub raised_ahead : {limits raised : Limits} {s : Store} (is_idle : Bool) → AreWithin limits s → (is_idle ≡ true → raised ≡ limits) → (is_idle ≡ false → RaisesNear s limits raised) → AreRaised limits raised
+raised_ahead {limits} {raised} {s} true within idle busy = subst (AreRaised limits) (sym (idle refl)) (stay_raised limits)
+raised_ahead {limits} {raised} {s} false within idle busy = raised_near within (busy refl)
 
 -- one of two numbers has reached its limit
 pub one_reached : (pid version : ℕ) (limits : Limits) → (nat_lt pid limits.pids && nat_lt version limits.versions) ≡ false → (limits.pids ≤ pid) ⊎ (limits.versions ≤ version)

@@ -17,7 +17,7 @@ use Rattle.sled_bytes.specs.declared.change.Change.TheVariants.{Limited, Marked}
 use Rattle.sled_bytes.specs.Spelling.{number, change_bytes, FitsChange}
 use Rattle.sled_files.specs.Change.{Durable, changed_all, IsWithin, AreOfStore, AreAdded}
 use Rattle.sled_files.specs.Files.{Files, IsReady, KeepsTime, LeavesPairs, AreForEither}
-use Rattle.sled_files.specs.Lasting.{Limits, AreLimits, IsRight, IsLasting, AreNoLower}
+use Rattle.sled_files.specs.Lasting.{Limits, AreLimits, IsRight, IsLasting, AreRaised}
 use Rattle.sled_files.specs.Pending.{IsPending, Spells}
 use Rattle.sled_files.specs.Raised.{limits_length}
 use Rattle.sled_files.specs.Stored.{Stored, stored_as, over, asked_of, AreWithin, IsSound}
@@ -30,8 +30,11 @@ use Rattle.sled_files.proofs.Flushing.{now_is, right_before}
 use Rattle.sled_files.proofs.Grows.{spells_none, spells_more}
 use Rattle.sled_files.proofs.Moments.{lasts_ready, moments_either, moments_none}
 
-pub no_lower : {limits raised : Limits} → raised ≡ limits → AreNoLower limits raised
-no_lower {limits} {raised} is = record { pids = omega (arith, ap (λ (l : Limits). l.pids) is); versions = omega (arith, ap (λ (l : Limits). l.versions) is) }
+pub no_lower : {limits raised : Limits} → raised ≡ limits → AreRaised limits raised
+no_lower {limits} {raised} is =
+    let pids : raised.pids ≡ limits.pids = ap (λ (l : Limits). l.pids) is in
+    let versions : raised.versions ≡ limits.versions = ap (λ (l : Limits). l.versions) is in
+    record { pids = omega (arith, pids); versions = omega (arith, versions); pids_most = omega (arith, pids); versions_most = omega (arith, versions) }
 
 -- limits are spelled by 17 bytes, and a mark by 9
 limited_bytes : (pids versions : ℕ) → length (change_bytes (Limited pids versions)) ≡ 17
@@ -128,7 +131,7 @@ module _ {limits raised : Limits} {s : Store} {d : Durable} {bytes after : List 
   limited_then : AreLimits raised (changed_all ahead_changes d)
   limited_then = subst (AreLimits raised) (sym both) (a.limited (changed_all p.changes d) limits_pending)
 
-  pub added_ahead : {olds : List Change} → AreOfStore olds d → AreNoLower limits raised → (now s).in_group ≡ false → AreAdded ahead_changes d
+  pub added_ahead : {olds : List Change} → AreOfStore olds d → AreRaised limits raised → (now s).in_group ≡ false → AreAdded ahead_changes d
   added_ahead {olds} old lower out =
       let e = changed_all ahead_changes d in
       let pids : d.pids ≤ e.pids = omega (arith, p.limited.pids, limited_then.pids, lower.pids) in
@@ -143,12 +146,17 @@ module _ {limits raised : Limits} {s : Store} {d : Durable} {bytes after : List 
         versions = versions;
       }
 
-  pub right_ahead : {asked : List ℕ} → AreNoLower limits raised → (now s).in_group ≡ false → IsRight asked limits s (changed_all ahead_changes d)
+  pub right_ahead : {asked : List ℕ} → AreRaised limits raised → (now s).in_group ≡ false → IsRight asked limits s (changed_all ahead_changes d)
   right_ahead lower out = record {
     state = record { is = subst (λ (x : State). In x (crash_states s)) (sym state_then) (last_left s.base s.recent out) };
     mark = inl mark_then;
     no_lower = omega (arith, mark_then);
-    limited = record { pids = omega (arith, lower.pids, limited_then.pids); versions = omega (arith, lower.versions, limited_then.versions) };
+    limited = record {
+      pids = omega (arith, lower.pids, limited_then.pids);
+      versions = omega (arith, lower.versions, limited_then.versions);
+      pids_most = omega (arith, lower.pids_most, limited_then.pids);
+      versions_most = omega (arith, lower.versions_most, limited_then.versions);
+    };
   }
 
   pub ends_ahead : IsPending raised (after_flush s) (changed_all ahead_changes d) []
@@ -164,7 +172,7 @@ module _ {limits raised : Limits} {s : Store} {d : Durable} {bytes after : List 
   }
 
 module _ {D : Type 0} {seen : D → List ℕ} {may_leave : D → List ℕ → Type 0} (f : Stored D) (files : Files D) (payload : List ℕ) (sound : IsSound seen may_leave f) (out : (now (store_of f.pages)).in_group ≡ false)
-    (raised : Limits) (lower : AreNoLower f.limits raised) (a : IsAhead f.limits raised f.pending payload) where
+    (raised : Limits) (lower : AreRaised f.limits raised) (a : IsAhead f.limits raised f.pending payload) where
   pub sound_ahead : (pages : MemPages) → f.files.failed ≡ false → ((d : Durable) (list : List Change) → IsReady seen may_leave f.files d → Spells payload list → AreAdded list d → IsReady seen may_leave files (changed_all list d))
       → store_of pages ≡ after_flush (store_of f.pages) → IsSound seen may_leave (record f { pages = pages; files = files; pending = []; limits = raised })
   sound_ahead pages up ready is =
@@ -180,7 +188,7 @@ module _ {D : Type 0} {seen : D → List ℕ} {may_leave : D → List ℕ → Ty
       }
 
 module _ {D : Type 0} {moment : D → ℕ} {left_since : D → ℕ → List ℕ → Type 0} {seen : D → List ℕ} {may_leave : D → List ℕ → Type 0} (f : Stored D) (files : Files D) (payload : List ℕ) (sound : IsSound seen may_leave f) (out : (now (store_of f.pages)).in_group ≡ false)
-    (raised : Limits) (lower : AreNoLower f.limits raised) (a : IsAhead f.limits raised f.pending payload) where
+    (raised : Limits) (lower : AreRaised f.limits raised) (a : IsAhead f.limits raised f.pending payload) where
   pub moments_ahead : KeepsTime moment left_since may_leave f.files.first → KeepsTime moment left_since may_leave f.files.second → (f.files.failed ≡ true → files ≡ f.files)
       → ((d : Durable) (list : List Change) → IsReady seen may_leave f.files d → Spells payload list → AreAdded list d → LeavesPairs moment left_since may_leave f.files files (AreForEither d (changed_all list d)))
       → LeavesPairs moment left_since may_leave f.files files (IsLasting (asked_of f.asked) f.limits (stored_as f))

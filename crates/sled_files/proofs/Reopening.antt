@@ -131,6 +131,8 @@ opened_goes_on asked limits before opened first second l opens =
       recovered = r.recovered;
       pids = λ p positive lt. r.pids p ∙ given_below p d.pids limits.pids positive lt l.right.limited.pids;
       versions = λ v lt. r.versions v ∙ given_version v d.versions limits.versions lt l.right.limited.versions;
+      pids_most = λ p is. (let b = below_limit p d.pids (sym (r.pids p) ∙ is) in omega (arith, b, l.right.limited.pids_most));
+      versions_most = λ v is. (let b = version_below opened v d.versions (r.versions v) is in omega (arith, b, l.right.limited.versions_most));
     }
 
 -- what is of no store is not of one

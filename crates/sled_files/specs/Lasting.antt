@@ -1,5 +1,5 @@
 -- What two files may be left with, against what the store in them means.
-use Rattle.std.specs.Prelude.{◌≡◌, ◌⊎◌, ◌≤◌, ℕ, List}
+use Rattle.std.specs.Prelude.{◌≡◌, ◌⊎◌, ◌+◌, ◌≤◌, ℕ, List}
 use Rattle.sled_store.specs.In.{In}
 use Rattle.sled_store.specs.Store.{Store}
 use Rattle.sled_store.specs.Crash.{IsCrashState}
@@ -11,15 +11,17 @@ pub record Limits : Type 0 where
   pub pids : ℕ
   pub versions : ℕ
 
--- limits that are no lower than others
-pub record AreNoLower (limits raised : Limits) : Type 0 where
+-- Limits that stay or are raised: no lower, and at most a piece of 1,000,000 above the greatest number that may come next. That is the
+-- limit, as all numbers that were given are below it, but the first page has number 1
+pub record AreRaised (limits raised : Limits) : Type 0 where
   pub pids : limits.pids ≤ raised.pids
   pub versions : limits.versions ≤ raised.versions
+  pub pids_most : raised.pids ≤ limits.pids + 1000001
+  pub versions_most : raised.versions ≤ limits.versions + 1000000
 
--- the limits in the files are no lower
-pub record HasLimits (limits : Limits) (d : Durable) : Type 0 where
-  pub pids : limits.pids ≤ d.pids
-  pub versions : limits.versions ≤ d.versions
+-- the limits in the files are these, or they were raised
+abbrev pub HasLimits : Limits → Durable → Type 0
+HasLimits limits d = AreRaised limits (record { pids = d.pids; versions = d.versions })
 
 -- the limits in the files are these
 pub record AreLimits (limits : Limits) (d : Durable) : Type 0 where

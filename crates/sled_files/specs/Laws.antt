@@ -1,5 +1,5 @@
 -- What holds of the files of all stores.
-use Rattle.std.specs.Prelude.{◌≡◌, ◌⊎◌, ◌<◌, ◌≤◌, ℕ, true, false, List, []}
+use Rattle.std.specs.Prelude.{◌≡◌, ◌⊎◌, ◌+◌, ◌<◌, ◌≤◌, ℕ, true, false, List, []}
 use Rattle.sled_store.specs.Store.{Store, now, after_flush}
 use Rattle.sled_store.specs.In.{In}
 use Rattle.sled_store.specs.Crash.{IsCrashState}
@@ -24,7 +24,7 @@ abbrev pub NewStoreLasts : Type 0
 NewStoreLasts = (generation : ℕ) (d : Durable) (first second left : List ℕ) → AreBlank first second → IsBegun first generation d left → AreBlank left second ⊎ AreFor left second d
 
 -- What a store that is opened has of the one before: a state that a crash may leave of it, and the mark that was set aside or a higher
--- one that was asked for. All numbers below the limits count as given
+-- one that was asked for. All numbers below the limits count as given, and none that is more than a piece above them
 pub record GoesOn (asked : List ℕ) (limits : Limits) (before opened : Store) : Type 0 where
   pub base : IsCrashState before opened.base
   pub recent : opened.recent ≡ []
@@ -33,6 +33,8 @@ pub record GoesOn (asked : List ℕ) (limits : Limits) (before opened : Store) :
   pub recovered : opened.recovered ≡ true
   pub pids : (p : ℕ) → 0 < p → p < limits.pids → opened.pids p ≡ true
   pub versions : (v : ℕ) → v < limits.versions → opened.versions v ≡ true
+  pub pids_most : (p : ℕ) → opened.pids p ≡ true → p < limits.pids + 1000001
+  pub versions_most : (v : ℕ) → opened.versions v ≡ true → v < limits.versions + 1000000
 
 -- a store that is opened of files that are right for one goes on from it
 abbrev pub OpenedGoesOn : Type 0

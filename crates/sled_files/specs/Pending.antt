@@ -1,5 +1,5 @@
 -- What the next flush adds to the files of a store.
-use Rattle.std.specs.Prelude.{◌≡◌, ℕ, List}
+use Rattle.std.specs.Prelude.{◌≡◌, ◌++◌, ℕ, List, Result, Ok, Err}
 use Rattle.std.specs.List.{flat_map, All}
 use Rattle.sled_store.specs.Store.{Store}
 use Rattle.sled_bytes.specs.declared.change.Change.{Change}
@@ -27,3 +27,8 @@ pub record IsPending (limits : Limits) (s : Store) (d : Durable) (bytes : List �
   pub within : All (IsWithin d) changes
   pub acts : actions_of changes s.base ≡ s.recent
   pub aside : (whole : Durable) → aside_of (changed_all changes whole) ≡ aside_of whole
+
+-- What a call adds to what is pending: the change that it made, by what it returned, or nothing if it found another version or root
+abbrev pub AddsMade : {T S : Type 0} → (T → Change) → Result T S → List ℕ → List ℕ → Type 0
+AddsMade change (Ok given) before after = after ≡ before ++ change_bytes (change given)
+AddsMade change (Err present) before after = after ≡ before

@@ -1,11 +1,11 @@
 //! A store of pages in two files.
-ghost use Rattle.std.specs.Prelude.{◌/◌, ◌+◌, ◌-◌, ◌^◌, ◌⊎◌, min, nat_lt, nat_le, ℕ, OnErr, IfSome, ◌≡◌, ◌≤◌, ◌<◌, ◌∷◌, [], None, Some, IfOk, IfErr, OnOk, length, true, false, ◌&&◌, not, if◌then◌else◌};
+ghost use Rattle.std.specs.Prelude.{◌/◌, ◌+◌, ◌-◌, ◌^◌, ◌⊎◌, ◌++◌, min, nat_lt, nat_le, ℕ, OnErr, IfSome, ◌≡◌, ◌≤◌, ◌<◌, ◌∷◌, [], None, Some, IfOk, IfErr, OnOk, length, true, false, ◌&&◌, not, if◌then◌else◌};
 ghost use Rattle.sled_nodes.specs.declared.error.Error.TheVariants.{NoMemory};
 ghost use Rattle.sled_nodes.specs.Node.{after_link};
 ghost use Rattle.sled_store.specs.State.{GroupBegins, GroupEnds};
 ghost use Rattle.sled_store.specs.Store.{now, after_action, after_flush, Allocates, IsRefused, Changes, Frees, SwapsRoot};
 ghost use Rattle.sled_pages.specs.Memory.{store_of};
-ghost use Rattle.sled_files.specs.Lasting.{EachPair, IsLasting, AreNoLower};
+ghost use Rattle.sled_files.specs.Lasting.{EachPair, IsLasting, AreRaised};
 ghost use Rattle.sled_files.specs.Raised.{ComeNext, RaisesNear, raised_to, are_far};
 ghost use Rattle.sled_files.specs.Stored.{asked_of, stored_as, is_due, missed_after, AreWithin, Stands};
 
@@ -361,7 +361,7 @@ impl<D: Disk> FilePages<D> {
         ensures asked { self.new.asked ≡ self.old.asked }
         ensures stays { IfErr result (λ e. e ≡ NoMemory → self.new.files.failed ≡ false → self.new ≡ self.old) }
         ensures rule { KeepsRule self.old self.new }
-        ensures limits { AreNoLower self.old.limits self.new.limits }
+        ensures limits { AreRaised self.old.limits self.new.limits }
         ensures any_moment { LeavesPairs D.moment D.left_since D.may_leave self.old.files self.new.files (IsLasting (asked_of self.old.asked) self.old.limits (stored_as self.old)) }
     {
         self.files.law_time();
@@ -424,8 +424,7 @@ impl<D: Disk> FilePages<D> {
 
     // The limits that a flush sets.
     fn ahead(&self, is_idle: bool) -> (u64, u64)
-        ensures pids { self.now.limits.pids ≤ result.0 }
-        ensures versions { self.now.limits.versions ≤ result.1 }
+        ensures raised { AreRaised self.now.limits (record { pids = result.0; versions = result.1 }) }
         ensures idle { is_idle ≡ true → (result.0 ≡ self.now.limits.pids) × (result.1 ≡ self.now.limits.versions) }
         ensures near { is_idle ≡ false → RaisesNear (stored_as self.now) self.now.limits (record { pids = result.0; versions = result.1 }) }
     {
@@ -472,7 +471,7 @@ impl<D: Disk> FilePages<D> {
         ensures over { self.old.files.failed ≡ true → self.new.files ≡ self.old.files }
         ensures asked { self.new.asked ≡ self.old.asked }
         ensures rule { KeepsRule self.old self.new }
-        ensures limits { AreNoLower self.old.limits self.new.limits }
+        ensures limits { AreRaised self.old.limits self.new.limits }
         ensures any_moment { LeavesPairs D.moment D.left_since D.may_leave self.old.files self.new.files (IsLasting (asked_of self.old.asked) self.old.limits (stored_as self.old)) }
     {
         self.files.law_time();
@@ -504,8 +503,7 @@ impl<D: Disk> FilePages<D> {
     fn flush_anew(&mut self, whole: &[u8], pids: u64, versions: u64) -> Result<usize>
         requires out { (now (stored_as self.old)).in_group ≡ false }
         requires whole { Makes (store_of self.old.pages) whole.now (durable_now (stored_as self.old) self.old.mark pids versions) }
-        requires pids { self.old.limits.pids ≤ pids }
-        requires versions { self.old.limits.versions ≤ versions }
+        requires raised { AreRaised self.old.limits (record { pids = pids; versions = versions }) }
         requires near { RaisesNear (stored_as self.old) self.old.limits (record { pids = pids; versions = versions }) }
         ensures ok { OnOk result (stored_as self.new ≡ after_flush (stored_as self.old)) }
         ensures number { IfOk result (λ n. n ≡ length (stored_as self.old).recent) }
@@ -519,7 +517,7 @@ impl<D: Disk> FilePages<D> {
         ensures stays { IfErr result (λ e. e ≡ NoMemory → self.new.files.failed ≡ false → self.new ≡ self.old) }
         ensures asked { self.new.asked ≡ self.old.asked }
         ensures rule { KeepsRule self.old self.new }
-        ensures limits { AreNoLower self.old.limits self.new.limits }
+        ensures limits { AreRaised self.old.limits self.new.limits }
         ensures any_moment { LeavesPairs D.moment D.left_since D.may_leave self.old.files self.new.files (IsLasting (asked_of self.old.asked) self.old.limits (stored_as self.old)) }
     {
         if let Err(e) = begin_anew(&mut self.files, &mut self.faults, whole) {
@@ -547,7 +545,7 @@ impl<D: Disk> FilePages<D> {
         ensures stays { IfErr result (λ e. e ≡ NoMemory → self.new.files.failed ≡ false → self.new ≡ self.old) }
         ensures asked { self.new.asked ≡ self.old.asked }
         ensures rule { KeepsRule self.old self.new }
-        ensures limits { AreNoLower self.old.limits self.new.limits }
+        ensures limits { AreRaised self.old.limits self.new.limits }
         ensures any_moment { LeavesPairs D.moment D.left_since D.may_leave self.old.files self.new.files (IsLasting (asked_of self.old.asked) self.old.limits (stored_as self.old)) }
     {
         self.files.law_time();
@@ -571,6 +569,9 @@ impl<D: Disk + Send> Pages for FilePages<D> {
     ghost use Rattle.sled_files.specs.Raised.{FlushesOn, FlushesAnew, Reaches, ReachesOrFails};
     ghost use Rattle.sled_files.specs.Files.{LeavesPairs, IsGrown};
     ghost use Rattle.sled_files.specs.Lasting.{IsLasting};
+    ghost use Rattle.sled_files.specs.Pending.{AddsMade};
+    ghost use Rattle.sled_bytes.specs.Spelling.{change_bytes};
+    ghost use Rattle.sled_bytes.specs.declared.change.Change.TheVariants.{Given, Linked, Freed, Rooted, Begun, Sealed};
 
     ghost store = { stored_as };
 
@@ -600,6 +601,9 @@ impl<D: Disk + Send> Pages for FilePages<D> {
         ensures goes_on { OnOk result (self.new.files.failed ≡ self.old.files.failed) }
         ensures over { self.old.files.failed ≡ true → self.new.files ≡ self.old.files }
         ensures rule { KeepsRule self.old self.new }
+        // What the next flush adds to the log is longer by this change.
+        ensures adds { IfOk result (λ given. self.new.pending ≡ self.old.pending ++ change_bytes (Given given.0 given.1 node)) }
+        ensures kept { OnErr result (self.new.pending ≡ self.old.pending) }
         ensures any_moment { LeavesPairs D.moment D.left_since D.may_leave self.old.files self.new.files (IsLasting (asked_of self.old.asked) self.old.limits (stored_as self.old)) }
     {
         match self.reach() {
@@ -630,6 +634,9 @@ impl<D: Disk + Send> Pages for FilePages<D> {
         ensures goes_on { OnOk result (self.new.files.failed ≡ self.old.files.failed) }
         ensures over { self.old.files.failed ≡ true → self.new.files ≡ self.old.files }
         ensures rule { KeepsRule self.old self.new }
+        // What the next flush adds to the log is longer by this change.
+        ensures adds { IfOk result (λ made. AddsMade (λ given. Linked pid given new) made self.old.pending self.new.pending) }
+        ensures kept { OnErr result (self.new.pending ≡ self.old.pending) }
         ensures any_moment { LeavesPairs D.moment D.left_since D.may_leave self.old.files self.new.files (IsLasting (asked_of self.old.asked) self.old.limits (stored_as self.old)) }
     {
         match self.reach() {
@@ -658,6 +665,9 @@ impl<D: Disk + Send> Pages for FilePages<D> {
         ensures goes_on { OnOk result (self.new.files.failed ≡ self.old.files.failed) }
         ensures over { self.old.files.failed ≡ true → self.new.files ≡ self.old.files }
         ensures rule { KeepsRule self.old self.new }
+        // What the next flush adds to the log is longer by this change.
+        ensures adds { IfOk result (λ made. AddsMade (λ given. Given pid given node) made self.old.pending self.new.pending) }
+        ensures kept { OnErr result (self.new.pending ≡ self.old.pending) }
         ensures any_moment { LeavesPairs D.moment D.left_since D.may_leave self.old.files self.new.files (IsLasting (asked_of self.old.asked) self.old.limits (stored_as self.old)) }
     {
         match self.reach() {
@@ -678,6 +688,9 @@ impl<D: Disk + Send> Pages for FilePages<D> {
     ) -> Result<std::result::Result<(), Option<Version>>>
         ensures ok { IfOk result (Frees pid version (stored_as self.old) (stored_as self.new)) }
         ensures err { IfErr result (λ e. IsRefused e (stored_as self.old) (stored_as self.new)) }
+        // What the next flush adds to the log is longer by this change.
+        ensures adds { IfOk result (λ made. AddsMade (λ _. Freed pid) made self.old.pending self.new.pending) }
+        ensures kept { OnErr result (self.new.pending ≡ self.old.pending) }
         ensures files { KeepsFiles self.old self.new }
     {
         free(&mut self.pages, &mut self.pending, pid, version)
@@ -691,6 +704,9 @@ impl<D: Disk + Send> Pages for FilePages<D> {
     ) -> Result<std::result::Result<(), Option<Pid>>>
         ensures ok { IfOk result (SwapsRoot name.now old new (stored_as self.old) (stored_as self.new)) }
         ensures err { IfErr result (λ e. IsRefused e (stored_as self.old) (stored_as self.new)) }
+        // What the next flush adds to the log is longer by this change.
+        ensures adds { IfOk result (λ made. AddsMade (λ _. Rooted name.now new) made self.old.pending self.new.pending) }
+        ensures kept { OnErr result (self.new.pending ≡ self.old.pending) }
         ensures files { KeepsFiles self.old self.new }
     {
         cas_root(&mut self.pages, &mut self.pending, name, old, new)
@@ -700,6 +716,9 @@ impl<D: Disk + Send> Pages for FilePages<D> {
         requires { (now (stored_as self.old)).in_group ≡ false }
         ensures ok { OnOk result (stored_as self.new ≡ after_action GroupBegins (stored_as self.old)) }
         ensures err { IfErr result (λ e. IsRefused e (stored_as self.old) (stored_as self.new)) }
+        // What the next flush adds to the log is longer by this change.
+        ensures adds { OnOk result (self.new.pending ≡ self.old.pending ++ change_bytes Begun) }
+        ensures kept { OnErr result (self.new.pending ≡ self.old.pending) }
         ensures files { KeepsFiles self.old self.new }
     {
         begin_group(&mut self.pages, &mut self.pending)
@@ -709,6 +728,9 @@ impl<D: Disk + Send> Pages for FilePages<D> {
         requires { (now (stored_as self.old)).in_group ≡ true }
         ensures ok { OnOk result (stored_as self.new ≡ after_action GroupEnds (stored_as self.old)) }
         ensures err { IfErr result (λ e. IsRefused e (stored_as self.old) (stored_as self.new)) }
+        // What the next flush adds to the log is longer by this change.
+        ensures adds { OnOk result (self.new.pending ≡ self.old.pending ++ change_bytes Sealed) }
+        ensures kept { OnErr result (self.new.pending ≡ self.old.pending) }
         ensures files { KeepsFiles self.old self.new }
     {
         seal_group(&mut self.pages, &mut self.pending)
@@ -743,7 +765,7 @@ impl<D: Disk + Send> Pages for FilePages<D> {
         ensures cause_due { IfErr result (λ e. is_due self.old ≡ true → FailsAnew D.faults self.old self.new e ⊎ FailsOn D.faults self.old self.new e) }
         ensures kept { OnErr result (self.new.limits ≡ self.old.limits) }
         ensures asked { self.new.asked ≡ self.old.asked }
-        ensures limits { AreNoLower self.old.limits self.new.limits }
+        ensures limits { AreRaised self.old.limits self.new.limits }
         ensures any_moment { LeavesPairs D.moment D.left_since D.may_leave self.old.files self.new.files (IsLasting (asked_of self.old.asked) self.old.limits (stored_as self.old)) }
     {
         if !self.is_due() {

@@ -1,5 +1,5 @@
 //! Two disks are opened as the files of a store.
-ghost use Rattle.std.specs.Prelude.{◌≡◌, ◌+◌, ◌<◌, ℕ, List, length, false, IfOk, IfErr, OnOk};
+ghost use Rattle.std.specs.Prelude.{◌≡◌, ◌+◌, ◌<◌, ℕ, List, length, true, false, MatchOption, IfOk, IfErr, OnOk};
 ghost use Rattle.sled_disk.specs.Disk.{Only, NoMore, LeavesOnly, is_caused};
 ghost use Rattle.sled_pages.specs.Memory.{store_of, empty_store};
 ghost use Rattle.sled_files.specs.Change.{nothing_yet};
@@ -51,9 +51,9 @@ fn refusal_of(e: DiskError) -> OpenError
     }
 }
 
-// Brings all of a file to the disk, and reads it.
-fn settle<D: Disk>(alloc: Global, disk: &mut D) -> Result<Vec<u8>, OpenError>
-    ensures bytes { IfOk result (λ bytes. bytes.items ≡ D.seen disk.old) }
+// Brings all of a file to the disk, and reads it if the disk does not lend what it has.
+fn settle<D: Disk>(alloc: Global, disk: &mut D) -> Result<Option<Vec<u8>>, OpenError>
+    ensures bytes { IfOk result (λ read. MatchOption read (D.lends disk.new ≡ true) (λ bytes. bytes.items ≡ D.seen disk.new)) }
     ensures seen { D.seen disk.new ≡ D.seen disk.old }
     ensures durable { IfOk result (λ _. Only (D.seen disk.new) (D.may_leave disk.new)) }
     ensures crash { NoMore (D.may_leave disk.old) (D.may_leave disk.new) }
@@ -66,20 +66,23 @@ fn settle<D: Disk>(alloc: Global, disk: &mut D) -> Result<Vec<u8>, OpenError>
     if let Err(e) = disk.sync() {
         return Err(refusal_of(e));
     }
+    if disk.lent().is_some() {
+        return Ok(None);
+    }
     match read_all(disk, alloc) {
-        Ok(bytes) => Ok(bytes),
+        Ok(bytes) => Ok(Some(bytes)),
         Err(e) => Err(refusal_of(e)),
     }
 }
 
-// Brings all of both files to the disks, and reads them.
+// Brings all of both files to the disks, and reads what they do not lend.
 fn settle_both<D: Disk>(
     alloc: Global,
     first: &mut D,
     second: &mut D,
-) -> Result<(Vec<u8>, Vec<u8>), OpenError>
-    ensures first_bytes { IfOk result (λ read. read.0.items ≡ D.seen first.old) }
-    ensures second_bytes { IfOk result (λ read. read.1.items ≡ D.seen second.old) }
+) -> Result<(Option<Vec<u8>>, Option<Vec<u8>>), OpenError>
+    ensures first_bytes { IfOk result (λ read. MatchOption read.0 (D.lends first.new ≡ true) (λ bytes. bytes.items ≡ D.seen first.new)) }
+    ensures second_bytes { IfOk result (λ read. MatchOption read.1 (D.lends second.new ≡ true) (λ bytes. bytes.items ≡ D.seen second.new)) }
     ensures first_seen { D.seen first.new ≡ D.seen first.old }
     ensures second_seen { D.seen second.new ≡ D.seen second.old }
     ensures stay { OnOk result (StayAsTheyWere D.seen D.may_leave first.old second.old first.new second.new) }
@@ -92,16 +95,30 @@ fn settle_both<D: Disk>(
     ensures err { IfErr result is_refusal }
 {
     law_only_now(second);
-    let first_bytes = match settle(alloc, first) {
+    let first_read = match settle(alloc, first) {
         Ok(bytes) => bytes,
         Err(e) => return Err(e),
     };
     match settle(alloc, second) {
-        Ok(second_bytes) => Ok((first_bytes, second_bytes)),
+        Ok(second_read) => Ok((first_read, second_read)),
         Err(e) => {
-            drop(first_bytes);
+            drop(first_read);
             Err(e)
         }
+    }
+}
+
+// All bytes of a file, of which these were read if the disk does not lend them.
+fn bytes_in<'a, D: Disk>(disk: &'a D, read: &'a Option<Vec<u8>>) -> &'a [u8]
+    requires { MatchOption read.now (D.lends disk.now ≡ true) (λ bytes. bytes.items ≡ D.seen disk.now) }
+    ensures { result.now ≡ D.seen disk.now }
+{
+    match read {
+        Some(bytes) => bytes.as_slice(),
+        None => match disk.lent() {
+            Some(bytes) => bytes,
+            None => &[],
+        },
     }
 }
 
@@ -185,7 +202,7 @@ pub fn open_files<D: Disk>(
 {
     let mut first = first;
     let mut second = second;
-    let (first_bytes, second_bytes) = match settle_both(alloc, &mut first, &mut second) {
+    let (first_read, second_read) = match settle_both(alloc, &mut first, &mut second) {
         Ok(read) => read,
         Err(error) => {
             return Err(NotOpened {
@@ -195,9 +212,13 @@ pub fn open_files<D: Disk>(
             });
         }
     };
-    let opened = open_bytes(alloc, first_bytes.as_slice(), second_bytes.as_slice());
-    drop(first_bytes);
-    drop(second_bytes);
+    let opened = open_bytes(
+        alloc,
+        bytes_in(&first, &first_read),
+        bytes_in(&second, &second_read),
+    );
+    drop(first_read);
+    drop(second_read);
     match opened {
         Ok(Some(opened)) => Ok(files_of(alloc, first, second, opened)),
         Ok(None) => match begin(alloc, first, second) {

@@ -1,6 +1,6 @@
 //! The changing calls of the pages in memory. Beside each its change is spelled, before it is made, so that none is made that there is
 //! no memory to spell; one that was not made is taken out again.
-ghost use Rattle.std.specs.Prelude.{◌≡◌, ◌≤◌, ◌<◌, [], ◌∷◌, ◌++◌, ℕ, nat_lt, IfOk, IfErr, IfSome, IfNone, OnOk, true, false};
+ghost use Rattle.std.specs.Prelude.{◌≡◌, ◌≤◌, ◌<◌, [], ◌∷◌, ◌++◌, ℕ, nat_lt, IfOk, IfErr, IfSome, IfNone, OnOk, OnErr, true, false};
 ghost use Rattle.sled_nodes.specs.declared.error.Error.TheVariants.{NoMemory};
 ghost use Rattle.sled_nodes.specs.Node.{after_link};
 ghost use Rattle.sled_store.specs.State.{GroupBegins, GroupEnds};
@@ -8,7 +8,8 @@ ghost use Rattle.sled_store.specs.Store.{now, after_action, Allocates, IsRefused
 ghost use Rattle.sled_bytes.specs.Spelling.{change_bytes, FitsChange};
 ghost use Rattle.sled_pages.specs.Memory.{store_of};
 ghost use Rattle.sled_files.specs.Lasting.{Limits};
-ghost use Rattle.sled_files.specs.Pending.{Spells};
+ghost use Rattle.sled_bytes.specs.declared.change.Change.TheVariants.{Given, Linked, Freed, Rooted, Begun, Sealed};
+ghost use Rattle.sled_files.specs.Pending.{Spells, AddsMade};
 ghost use Rattle.sled_files.specs.Stored.{AreWithin};
 ghost use Rattle.sled_files.specs.Raised.{ComeNext};
 ghost use Rattle.sled_files.specs.Codes.{AreUsedUp};
@@ -85,6 +86,8 @@ pub fn allocate(
     ensures ok { IfOk result (λ given. Allocates node given.0 given.1 (store_of pages.old) (store_of pages.new)) }
     ensures err { IfErr result (λ e. IsRefused e (store_of pages.old) (store_of pages.new)) }
     ensures spelled { IsSpelled (store_of pages.old) (store_of pages.new) pending.old.items pending.new.items }
+    ensures adds { IfOk result (λ given. pending.new.items ≡ pending.old.items ++ change_bytes (Given given.0 given.1 node)) }
+    ensures kept { OnErr result (pending.new.items ≡ pending.old.items) }
     ensures within { (limits : Limits) → AreWithin limits (store_of pages.old) → pid < limits.pids → version < limits.versions → AreWithin limits (store_of pages.new) }
 {
     let len = pending.len();
@@ -118,6 +121,8 @@ pub fn link(
     ensures ok { IfOk result (Changes (after_link link) pid version (store_of pages.old) (store_of pages.new)) }
     ensures err { IfErr result (λ e. IsRefused e (store_of pages.old) (store_of pages.new)) }
     ensures spelled { IsSpelled (store_of pages.old) (store_of pages.new) pending.old.items pending.new.items }
+    ensures adds { IfOk result (λ made. AddsMade (λ given. Linked pid given link) made pending.old.items pending.new.items) }
+    ensures kept { OnErr result (pending.new.items ≡ pending.old.items) }
     ensures within { (limits : Limits) → AreWithin limits (store_of pages.old) → next < limits.versions → AreWithin limits (store_of pages.new) }
 {
     let len = pending.len();
@@ -155,6 +160,8 @@ pub fn replace(
     ensures ok { IfOk result (Changes (λ _. node) pid version (store_of pages.old) (store_of pages.new)) }
     ensures err { IfErr result (λ e. IsRefused e (store_of pages.old) (store_of pages.new)) }
     ensures spelled { IsSpelled (store_of pages.old) (store_of pages.new) pending.old.items pending.new.items }
+    ensures adds { IfOk result (λ made. AddsMade (λ given. Given pid given node) made pending.old.items pending.new.items) }
+    ensures kept { OnErr result (pending.new.items ≡ pending.old.items) }
     ensures within { (limits : Limits) → AreWithin limits (store_of pages.old) → next < limits.versions → AreWithin limits (store_of pages.new) }
 {
     let len = pending.len();
@@ -189,6 +196,8 @@ pub fn free(
     ensures ok { IfOk result (Frees pid version (store_of pages.old) (store_of pages.new)) }
     ensures err { IfErr result (λ e. IsRefused e (store_of pages.old) (store_of pages.new)) }
     ensures spelled { IsSpelled (store_of pages.old) (store_of pages.new) pending.old.items pending.new.items }
+    ensures adds { IfOk result (λ made. AddsMade (λ _. Freed pid) made pending.old.items pending.new.items) }
+    ensures kept { OnErr result (pending.new.items ≡ pending.old.items) }
     ensures within { (limits : Limits) → AreWithin limits (store_of pages.old) → AreWithin limits (store_of pages.new) }
 {
     let len = pending.len();
@@ -219,6 +228,8 @@ pub fn cas_root(
     ensures ok { IfOk result (SwapsRoot name.now old new (store_of pages.old) (store_of pages.new)) }
     ensures err { IfErr result (λ e. IsRefused e (store_of pages.old) (store_of pages.new)) }
     ensures spelled { IsSpelled (store_of pages.old) (store_of pages.new) pending.old.items pending.new.items }
+    ensures adds { IfOk result (λ made. AddsMade (λ _. Rooted name.now new) made pending.old.items pending.new.items) }
+    ensures kept { OnErr result (pending.new.items ≡ pending.old.items) }
     ensures within { (limits : Limits) → AreWithin limits (store_of pages.old) → AreWithin limits (store_of pages.new) }
 {
     let len = pending.len();
@@ -245,6 +256,8 @@ pub fn begin_group(pages: &mut MemPages, pending: &mut Vec<u8>) -> Result<()>
     ensures ok { OnOk result (store_of pages.new ≡ after_action GroupBegins (store_of pages.old)) }
     ensures err { IfErr result (λ e. IsRefused e (store_of pages.old) (store_of pages.new)) }
     ensures spelled { IsSpelled (store_of pages.old) (store_of pages.new) pending.old.items pending.new.items }
+    ensures adds { OnOk result (pending.new.items ≡ pending.old.items ++ change_bytes Begun) }
+    ensures kept { OnErr result (pending.new.items ≡ pending.old.items) }
     ensures within { (limits : Limits) → AreWithin limits (store_of pages.old) → AreWithin limits (store_of pages.new) }
 {
     let len = pending.len();
@@ -266,6 +279,8 @@ pub fn seal_group(pages: &mut MemPages, pending: &mut Vec<u8>) -> Result<()>
     ensures ok { OnOk result (store_of pages.new ≡ after_action GroupEnds (store_of pages.old)) }
     ensures err { IfErr result (λ e. IsRefused e (store_of pages.old) (store_of pages.new)) }
     ensures spelled { IsSpelled (store_of pages.old) (store_of pages.new) pending.old.items pending.new.items }
+    ensures adds { OnOk result (pending.new.items ≡ pending.old.items ++ change_bytes Sealed) }
+    ensures kept { OnErr result (pending.new.items ≡ pending.old.items) }
     ensures within { (limits : Limits) → AreWithin limits (store_of pages.old) → AreWithin limits (store_of pages.new) }
 {
     let len = pending.len();

@@ -1,11 +1,12 @@
 //! A file of the operating system as a store sees it.
-ghost use Rattle.std.specs.Prelude.{◌≡◌, ◌≤◌, ◌+◌, ℕ, [], ◌∷◌, List, length, true, false, IfOk, OnOk, OnErr, is_ok};
+ghost use Rattle.std.specs.Prelude.{◌≡◌, ◌≤◌, ◌+◌, ℕ, [], ◌∷◌, List, length, true, false, IfOk, OnOk, OnErr, is_ok, is_some};
 ghost use Rattle.std.specs.Option.{ForSome};
 ghost use Rattle.std.proofs.Common.{inl, refl};
 ghost use Rattle.sled_disk.specs.Disk.{Only, is_caused, HasCause};
 ghost use Rattle.sled_host.specs.Event.{opened};
 ghost use Rattle.sled_host.specs.Outcomes.{seen_after_all, MayLeave, LeftSince};
 ghost use Rattle.sled_host.specs.Stops.{has_failed, has_stopped};
+ghost use Rattle.sled_host.specs.theory.Told.{is_full_kind, told_as, is_told};
 
 use crate::system::{OpenFile, SystemFile};
 use sled_disk::{Disk, DiskError, Result};
@@ -51,7 +52,8 @@ impl HostFile {
 
 // A fault of the disk, while faults can be counted.
 fn fault(faults: &mut u64, is_full: bool) -> DiskError
-    ensures { is_caused faults.old faults.new result }
+    ensures counted { is_caused faults.old faults.new result }
+    ensures told { result ≡ told_as faults.old is_full }
 {
     if *faults == u64::MAX {
         return DiskError::NoMemory;
@@ -81,6 +83,7 @@ fn go_on(is_failed: bool, faults: &mut u64) -> Result<()>
 fn counted(faults: &mut u64, answer: io::Result<()>) -> Result<()>
     ensures cause { HasCause faults.old faults.new result }
     ensures same { is_ok result ≡ is_ok answer }
+    ensures told { is_told faults.old answer result }
 {
     match answer {
         Ok(()) => Ok(()),
@@ -88,7 +91,9 @@ fn counted(faults: &mut u64, answer: io::Result<()>) -> Result<()>
     }
 }
 
-fn is_no_room(kind: ErrorKind) -> bool {
+fn is_no_room(kind: ErrorKind) -> bool
+    ensures { result ≡ is_full_kind kind }
+{
     matches!(kind, ErrorKind::StorageFull | ErrorKind::QuotaExceeded)
 }
 
@@ -105,6 +110,8 @@ impl Disk for HostFile {
 
     ghost faults = { λ f. f.faults };
 
+    ghost lends = { λ f. is_some f.kept };
+
     ghost counts_now = { λ f t c le left. counts f.system.record.events t c le left };
 
     ghost only_now = { λ f c left. only f.system.record.events c left };
@@ -119,6 +126,13 @@ impl Disk for HostFile {
         match &self.kept {
             Some(bytes) => Ok(bytes[at..at + count].to_vec(alloc)?),
             None => Err(fault(&mut self.faults, false)),
+        }
+    }
+
+    fn lent(&self) -> Option<&[u8]> {
+        match &self.kept {
+            Some(bytes) => Some(bytes.as_slice()),
+            None => None,
         }
     }
 

@@ -262,6 +262,11 @@ stripped_by front p es rests n d k l e c =
 pub prefix_fits : {X : Type 0} (es : List (Key × X)) (n : ℕ) (d : Key × X) → (es ≡ [] → ⊥) → n ≡ length (prefix_of es) → n ≡ length (take n (get_or es 0 d).0)
 prefix_fits es n d k l = l ∙ (ap length (sym (prefix_first es d k)) ∙ ap (λ m. length (take m (get_or es 0 d).0)) (sym l))
 
+-- keys that begin with something are some
+pub some_begin : {X : Type 0} (es : List (Key × X)) (n : ℕ) → n ≡ length (prefix_of es) → 0 < n → 0 < length es
+some_begin [] n l some = subst (λ m. 0 < m) l some
+some_begin (e ∷ es) n l some = omega arith
+
 -- entries that come and go while the prefix stays
 module _ {X : Type 0} where
   put_begin : (q k : Key) (v : X) (es : List (Key × X)) → AllBegin q (put (slice_cmp nat_cmp) k v es) → AllBegin q es

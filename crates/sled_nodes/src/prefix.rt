@@ -195,3 +195,27 @@ pub fn cut_keys<V: Held>(alloc: Global, pairs: &[(IVec, V)], count: usize) -> Re
     }
     Ok(rests)
 }
+
+/// Pairs with so many bytes fewer at the front of each key. Their values are moved. Refused with `NoMemory` alone.
+pub fn keys_cut<V: Drop>(
+    alloc: Global,
+    pairs: Vec<(IVec, V)>,
+    count: usize,
+) -> Result<Vec<(IVec, V)>>
+    ensures ok { IfOk result (λ rests. rests.items ≡ cut count pairs.items) }
+    ensures err { IfErr result (λ e. e ≡ NoMemory) }
+{
+    let mut rests = Vec::with_capacity(alloc, pairs.len())?;
+    for (key, value) in pairs {
+        let rest = key.behind(alloc, count);
+        drop(key);
+        match rest {
+            Ok(rest) => rests.push((rest, value))?,
+            Err(e) => {
+                drop(value);
+                return Err(e);
+            }
+        }
+    }
+    Ok(rests)
+}

@@ -23,7 +23,7 @@ use crate::error::Result;
 use crate::held::Held;
 use crate::order::{front_of, front_of_bound};
 use crate::prefix::{
-    cut_keys, front_behind, front_of_rest, is_apart, lower_behind, prefix_len, rest_of,
+    cut_keys, front_behind, front_of_rest, is_apart, keys_cut, lower_behind, prefix_len, rest_of,
     upper_behind,
 };
 use crate::{IVec, Pid, among, pairs};
@@ -222,6 +222,46 @@ impl<V: Held> Stripped<V> {
         let made = Stripped::strip(alloc, &none, pairs);
         drop(none);
         made
+    }
+
+    // The entries of a list whose keys all begin with the same bytes, which are so many. Refused with `NoMemory` alone.
+    fn cut(alloc: Global, list: Vec<(IVec, V)>, count: usize) -> Result<Stripped<V>>
+        requires count { count ≡ length (prefix_of list.items) }
+        requires some { 0 < count }
+        ensures ok { IfOk result (λ made. made ≡ list.items) }
+        ensures err { IfErr result (λ e. e ≡ NoMemory) }
+    {
+        let prefix = match IVec::from_slice(alloc, &list[0].0.as_ref()[..count]) {
+            Ok(prefix) => prefix,
+            Err(e) => {
+                drop(list);
+                return Err(e);
+            }
+        };
+        match keys_cut(alloc, list, count) {
+            Ok(rests) => Ok(Stripped::of_rests(prefix, rests)),
+            Err(e) => {
+                drop(prefix);
+                Err(e)
+            }
+        }
+    }
+
+    /// The entries of a list, as they are given: pairs of a leaf, or pointers of an index. Nothing of them is copied, but for what keys
+    /// have behind the beginning of all. Refused with `NoMemory` alone.
+    ///
+    /// ```
+    /// let leaf = Leaf::from_list(alloc, vec![in alloc; (key, value)]?)?; // Pairs that ascend by key.
+    /// ```
+    pub fn from_list(alloc: Global, list: Vec<(IVec, V)>) -> Result<Stripped<V>>
+        ensures ok { IfOk result (λ made. made ≡ list.items) }
+        ensures err { IfErr result (λ e. e ≡ NoMemory) }
+    {
+        let count = prefix_len(list.as_slice());
+        if count == 0 {
+            return Ok(Stripped::of_rests(IVec::empty(), list));
+        }
+        Stripped::cut(alloc, list, count)
     }
 
     // The entries with their whole keys, at the end of a list.

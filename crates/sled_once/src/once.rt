@@ -167,6 +167,10 @@ impl<D: Disk> Disk for OneSync<D> {
         }
     }
 
+    fn lent(&self) -> Option<&[u8]> {
+        None
+    }
+
     fn write_at(&mut self, at: usize, bytes: &[u8]) -> Result<()> {
         let stage = std::mem::replace(&mut self.stage, Stage::Stopped);
         let (next, answer) = put(

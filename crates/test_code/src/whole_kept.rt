@@ -1,6 +1,6 @@
 //! Whole calls whose reply is kept, with the number of parts that they did.
 use machine_alone::Machine;
-use sled::{Db, MemPages};
+use sled::{Db, IVec, MemPages, Result, Side};
 use sled_model::{Collection, Outcome, Reply, Subscriber, Tree, Whole};
 use std::fmt::Debug;
 use test_report::Report;
@@ -123,6 +123,17 @@ fn tell_open(report: &Report, db: &mut Db<MemPages>) {
     tell_kept(report, db.open_tree_kept(b"t"));
 }
 
+// Of these nothing is kept.
+fn tell_pop(report: &Report, db: &mut Db<MemPages>, tree: &Tree, side: Side) {
+    let told: Result<(Option<(IVec, IVec)>, ())> = db.pop_keeping(tree, side);
+    tell_kept(report, told);
+}
+
+fn tell_open_alone(report: &Report, db: &mut Db<MemPages>) {
+    let told: Result<(Tree, ())> = db.open_tree_keeping(b"u");
+    tell_kept(report, told);
+}
+
 /// Prints the outcomes of whole calls, and what is kept of them. The database is returned.
 pub fn tell_on(report: &Report, db: Db<MemPages>, tree: &Tree) -> Db<MemPages> {
     let mut machine = Machine::new(db);
@@ -136,5 +147,8 @@ pub fn tell_on(report: &Report, db: Db<MemPages>, tree: &Tree) -> Db<MemPages> {
     tell_pop_min(report, &mut db, tree);
     tell_pop_max(report, &mut db, tree);
     tell_open(report, &mut db);
+    tell_pop(report, &mut db, tree, Side::Least);
+    tell_pop(report, &mut db, tree, Side::Greatest);
+    tell_open_alone(report, &mut db);
     db
 }

@@ -1,6 +1,7 @@
 //! Calls of a caller, and what came of them, boiled down to small values.
 use crate::beside::{Scene, Way, is_done, require};
 use crate::reading::{count_told, look_told};
+use crate::running::run_told;
 use example_shared::{Raised, add_one, push, raise, take};
 use sled_batch::Batch;
 use sled_machine::shared::Made;
@@ -62,6 +63,13 @@ pub enum Ask<'a> {
     /// The names of all trees, and all pairs.
     Names,
     Export,
+    /// All pages from this key on, one after the other, of so many pairs at the most.
+    Pages(&'a [u8], usize),
+    /// A transaction of the tree that inserts this, and one of a list of trees that has the tree alone.
+    Transact(&'a [u8], &'a [u8]),
+    TransactAll(&'a [u8], &'a [u8]),
+    /// A fetch whose closure finds no memory.
+    FetchNothing(&'a [u8]),
     /// A step of the call in this slot.
     Step(u64),
     /// The call in this slot is abandoned.
@@ -101,6 +109,9 @@ pub enum Told {
     NoSuchSlot,
     NoSuchTree,
     Unsupported,
+    Io,
+    NoMemory,
+    Closed,
     /// Nothing, or something else.
     Other,
 }
@@ -147,6 +158,9 @@ pub fn error_told(error: &Error) -> Told {
     match error {
         Error::CollectionNotFound(_) => Told::NoSuchTree,
         Error::Unsupported(_) => Told::Unsupported,
+        Error::Io(_) => Told::Io,
+        Error::NoMemory => Told::NoMemory,
+        Error::Closed => Told::Closed,
         _ => Told::Other,
     }
 }
@@ -317,6 +331,8 @@ pub fn told_of<L: Ledger, R: Wait + Abort>(
         Ask::Len | Ask::IsEmpty | Ask::Page(_, _, _) | Ask::Names | Ask::Export => {
             count_told(rt, scene, handle, ask)
         }
+        Ask::Pages(_, _) | Ask::Transact(_, _) | Ask::TransactAll(_, _) | Ask::FetchNothing(_) =>
+            run_told(rt, scene, handle, ask),
         _ => outcome_told(outcome_of(rt, scene, handle, ask)),
     }
 }

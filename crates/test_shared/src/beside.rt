@@ -47,6 +47,8 @@ pub struct Scene {
     pub slot: AtomicU64,
     pub before: AtomicU64,
     pub after: AtomicU64,
+    /// The last id that a caller took.
+    pub id: AtomicU64,
     /// How often a caller waited in vain.
     pub vain: AtomicU64,
 }
@@ -97,8 +99,8 @@ fn fill<R: Abort>(rt: &R, db: &mut Fresh, tree: &Tree, keys: u8, taken: u8) {
     }
 }
 
-// What callers begin with on this tree.
-fn new_scene(alloc: Global, tree: Tree, moves: u64) -> Scene {
+/// What callers begin with on this tree.
+pub fn new_scene(alloc: Global, tree: Tree, moves: u64) -> Scene {
     Scene {
         alloc,
         tree,
@@ -110,12 +112,13 @@ fn new_scene(alloc: Global, tree: Tree, moves: u64) -> Scene {
         slot: AtomicU64::new(0),
         before: AtomicU64::new(0),
         after: AtomicU64::new(0),
+        id: AtomicU64::new(0),
         vain: AtomicU64::new(0),
     }
 }
 
-// The database, shared by so many callers, and whether what scans do is noted.
-fn share<L: Ledger, R: Wait + Abort>(
+/// The database, shared by so many callers, and whether what scans do is noted.
+pub fn share<L: Ledger, R: Wait + Abort>(
     rt: &R,
     alloc: Global,
     db: Fresh,
@@ -178,8 +181,8 @@ fn work_beside<L: Ledger + Send + Sync, R: Threads + Wait + Abort + Sync>(
     }
 }
 
-// The state, if these are all handles.
-fn gathered<L: Ledger, R: Wait + Abort>(
+/// The state, if these are all handles.
+pub fn gathered<L: Ledger, R: Wait + Abort>(
     rt: &R,
     shared: Shared<L>,
     handles: Vec<Way<L>>,

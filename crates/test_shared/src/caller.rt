@@ -25,6 +25,9 @@ pub trait Caller {
     /// Begins a call on a key. Its slot.
     fn begin(&mut self, ask: Ask<'_>) -> u64;
 
+    /// Takes an id.
+    fn id(&mut self) -> u64;
+
     /// Ends the test if something does not hold, and says what should.
     fn require(&self, holds: bool, what: &str);
 }
@@ -59,6 +62,16 @@ impl<L: Ledger, R: Wait + Abort> Caller for Seat<'_, L, R> {
         let call = call_of(self.rt, self.scene, ask);
         let begun = self.handle.begin(self.rt, &self.scene.tree, call);
         begun.expect(self.rt, "a slot").0
+    }
+
+    fn id(&mut self) -> u64 {
+        match self.handle.generate_id(self.rt) {
+            Ok(id) => id,
+            Err(why) => {
+                drop(why);
+                panic!(self.rt; "an id")
+            }
+        }
     }
 
     fn require(&self, holds: bool, what: &str) {

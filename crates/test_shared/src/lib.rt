@@ -14,6 +14,8 @@ mod beside;
 #[cfg(test)]
 mod caller;
 #[cfg(test)]
+mod closing_tests;
+#[cfg(test)]
 mod counter_tests;
 #[cfg(test)]
 mod dropping_tests;
@@ -22,6 +24,8 @@ mod early_tests;
 #[cfg(test)]
 mod ending_tests;
 #[cfg(test)]
+mod export_tests;
+#[cfg(test)]
 mod fetch_tests;
 #[cfg(test)]
 mod gate_tests;
@@ -29,6 +33,8 @@ mod gate_tests;
 mod gather_tests;
 #[cfg(test)]
 mod handover_tests;
+#[cfg(test)]
+mod id_tests;
 #[cfg(test)]
 mod lagging_tests;
 #[cfg(test)]
@@ -45,6 +51,8 @@ mod reading;
 mod reclaim_tests;
 #[cfg(test)]
 mod replay;
+#[cfg(test)]
+mod running;
 #[cfg(test)]
 mod scan_tests;
 #[cfg(test)]

@@ -75,6 +75,10 @@ pub enum Turn<'a> {
     Abandon,
     /// Begins so many calls, one after the other, and gives each up. Its slot is gone then.
     GiveUp(u64),
+    /// Takes an id. If it is not the first, it is the one after the last.
+    NextId,
+    /// Makes these calls, each of which has its expected outcome and takes no id.
+    TakeNoId(&'a [(Ask<'a>, Told)]),
     /// Subscribes to all keys.
     Watch,
     /// Makes a call that takes what others put, an event or a job, until so many are returned or missed.
@@ -256,6 +260,21 @@ fn give_up<C: Caller>(caller: &mut C, times: u64) {
     }
 }
 
+fn next_id<C: Caller>(scene: &Scene, caller: &mut C) {
+    let id = caller.id();
+    let last = scene.id.swap(id, Ordering::SeqCst);
+    caller.require(last == 0 || id == last.wrapping_add(1), "the next id");
+}
+
+fn take_no_id<C: Caller>(scene: &Scene, caller: &mut C, asks: &[(Ask<'_>, Told)]) {
+    for (ask, wanted) in asks {
+        next_id(scene, caller);
+        let told = caller.ask(*ask);
+        caller.require(told == *wanted, "what the call is to tell");
+        next_id(scene, caller);
+    }
+}
+
 fn watch<C: Caller>(scene: &Scene, caller: &mut C) {
     match caller.ask(Ask::Watch) {
         Told::Subscriber(number) => scene.ready.store(number, Ordering::SeqCst),
@@ -348,6 +367,8 @@ fn begin_or_wait<C: Caller>(scene: &Scene, caller: &mut C, turn: Turn<'_>) {
                 caller.ask(ask);
             }
         }
+        Turn::NextId => next_id(scene, caller),
+        Turn::TakeNoId(asks) => take_no_id(scene, caller, asks),
         Turn::ScanOn(pairs) => scan_on(scene, caller, pairs),
         Turn::GiveUp(times) => give_up(caller, times),
         Turn::Made(count) => caller.require(caller.made().len() == count, "its own calls"),

@@ -1,8 +1,8 @@
 -- What each step of the walk over a tree adds to what was found.
-use Rattle.std.proofs.Common.{◌≡◌, ℕ, ◌+◌, ◌<◌, Bool, true, List, [], ◌∷◌, ◌++◌, length, get_or, Option, Some, None, sym, refl, ap, ◌∙◌, subst, inl, inr, ◌⊎◌}
+use Rattle.std.proofs.Common.{◌≡◌, ℕ, ◌+◌, ◌<◌, ◌≤◌, Bool, true, List, [], ◌∷◌, ◌++◌, length, get_or, Option, Some, None, sym, refl, ap, ◌∙◌, subst, inl, inr, ◌⊎◌}
 use Rattle.std.specs.List.{All, AllWithin}
 use Rattle.sled_store.specs.In.{In}
-use Rattle.sled_nodes.specs.Node.{pointers}
+use Rattle.sled_nodes.specs.Node.{pointers, count}
 use Rattle.sled_nodes.specs.Order.{Key}
 use Rattle.sled_store.specs.State.{State, nodes_of}
 use Rattle.sled_nodes.specs.declared.node.Node.{Node}
@@ -11,7 +11,7 @@ use Rattle.tree_laws.specs.Forest.{Run}
 use Rattle.tree_laws.proofs.Runs.{In-left, In-right, In_cases, run_join}
 use Rattle.tree_check.specs.declared.levels.Level.{Level}
 use Rattle.tree_check.specs.theory.Tree.{IsPage}
-use Rattle.tree_check.specs.theory.Walk.{Levels, level_of, IsChained, AddsPage, Extends, ReadsChain, LeadsTo, IsReceived, FindsReceived, HasMergingChild, pids, end_at, end_of}
+use Rattle.tree_check.specs.theory.Walk.{Levels, level_of, IsChained, AddsPage, Extends, ReadsChain, LeadsTo, IsReceived, FindsReceived, IsFoundOn, HasMergingChild, pids, end_at, end_of}
 use Rattle.tree_check.proofs.Listed.{map_append, in_at, one_more, all_in, last_is}
 
 abbrev pub Keeps : Levels → Levels → Type 0
@@ -46,6 +46,19 @@ chain_more s children level first pid vs lo v old mid new r a = record {
 -- a pointer leads on where more pages have levels
 pub leads_on : (s : State) (v : View) (level : Level) (old new : Levels) (k : Key) (c : ℕ) → Keeps old new → LeadsTo s v level old k c → LeadsTo s v level new k c
 leads_on s v level old new k c kept l = record { node = l.node; live = l.live; found = kept c level l.found; key = l.key; merged = l.merged; few = l.few }
+
+-- a page that was found is found where more pages have levels
+pub found_still : (s : State) (level : Level) (old new : Levels) (chain : List View) → Keeps old new → ((v : View) → In v chain → IsFoundOn s level old v) → (v : View) → In v chain → IsFoundOn s level new v
+found_still s level old new chain kept found v i = record { live = (found v i).live; found = kept v.pid level (found v i).found }
+
+-- the pages of a chain were found
+pub chain_found : (s : State) (children : ℕ → Bool) (level : Level) (first : ℕ) (chain : List View) (to : Option ℕ) (hi : Key) (old new : Levels) → ReadsChain s children level first chain to hi old new → (v : View) → In v chain → IsFoundOn s level new v
+chain_found s children level first chain to hi old new r v i = record { live = (r.each v i).live; found = (r.each v i).found }
+
+-- a pointer that leads to a page that was found
+pub leads_found : (s : State) (v found : View) (level : Level) (levels : Levels) (k : Key) (c : ℕ) → IsFoundOn s level levels found → found.pid ≡ c → found.node.lo ≡ k
+    → (found.node.merging ≡ true → v.node.merging_child ≡ Some found.pid) → (v.node.merging_child ≡ Some found.pid → count found.node.content ≤ 17) → LeadsTo s v level levels k c
+leads_found s v found level levels k c is here key merged few = subst (LeadsTo s v level levels k) here (record { node = found.node; live = is.live; found = is.found; key = key; merged = merged; few = few })
 
 pub received_none : (s : State) (above : List View) (level : Level) (old : Levels) → FindsReceived s above level old old
 received_none s above level old = record { kept = λ q z e. e; adds = λ q z e. inl e }

@@ -2,11 +2,13 @@
 ghost use Rattle.std.specs.Prelude.{ℕ, IsTrue, ◌↔◌, ◌≡◌, ◌⊎◌, ◌≤◌, true, Some, None, [], ◌∷◌, IfErr, OnOk};
 ghost use Rattle.std.specs.List.{All};
 ghost use Rattle.sled_nodes.specs.Node.{pointers, count as count_of};
+ghost use Rattle.sled_store.specs.In.{In};
 ghost use Rattle.sled_store.specs.Store.{now};
+ghost use Rattle.sled_store.specs.declared.page.View.{View};
 ghost use Rattle.tree_check.specs.declared.levels.Level.{Level as LevelValue};
 ghost use Rattle.tree_check.specs.Check.{RefusesCheck};
 ghost use Rattle.tree_check.specs.theory.Tree.{IsPage};
-ghost use Rattle.tree_check.specs.theory.Walk.{RefusesPage, LeadsTo, FindsReceived, level_of};
+ghost use Rattle.tree_check.specs.theory.Walk.{RefusesPage, LeadsTo, FindsReceived, IsFoundOn, level_of};
 
 use crate::findings::{DANGLING_POINTER, WRONG_MERGE, WRONG_POINTER_KEY, corruption};
 use crate::levels::{Level, found_twice, set_level};
@@ -80,8 +82,18 @@ fn check_level_of(found: &View, level: Level, levels: &mut BTreeMap<u64, Level>)
     }
 }
 
-// Tests a pointer of a page, whose level below is this one.
-fn check_pointer<P: Pages>(
+// Tests a pointer of a page that leads to this page of the chain of the level below.
+fn check_chained(view: &View, key: &IVec, found: &View) -> Result<()>
+    ensures key { OnOk result (found.now.node.lo ≡ key.now) }
+    ensures merged { OnOk result (found.now.node.merging ≡ true → view.now.node.merging_child ≡ Some found.now.pid) }
+    ensures few { OnOk result (view.now.node.merging_child ≡ Some found.now.pid → count_of found.now.node.content ≤ 17) }
+    ensures err { IfErr result RefusesPage }
+{
+    check_fits(&found.node, key, merges(&view.node, found.pid))
+}
+
+// Tests a pointer of a page that leads to a page of the level below, which is read.
+fn check_read<P: Pages>(
     alloc: Global,
     pages: &P,
     view: &View,
@@ -110,14 +122,46 @@ fn check_pointer<P: Pages>(
     }
 }
 
+// Tests a pointer of a page, whose level below is this one and has this chain. The page that it leads to is mostly the one at `next` of
+// the chain; then it is not read again.
+fn check_pointer<P: Pages>(
+    alloc: Global,
+    pages: &P,
+    view: &View,
+    key: &IVec,
+    child: Pid,
+    chain: &[View],
+    next: &mut usize,
+    level: Level,
+    levels: &mut BTreeMap<u64, Level>,
+) -> Result<()>
+    requires chain { (v : View) → In v chain.now → IsFoundOn (now (P.store pages.now)) level levels.old v }
+    ensures leads { OnOk result (LeadsTo (now (P.store pages.now)) view.now level levels.new key.now child) }
+    ensures adds { OnOk result (FindsReceived (now (P.store pages.now)) (view.now ∷ []) level levels.old levels.new) }
+    ensures err { IfErr result (RefusesCheck (P.store pages.now)) }
+{
+    if *next < chain.len() && chain[*next].pid == child {
+        let found = &chain[*next];
+        *next += 1;
+        if let Err(e) = check_chained(view, key, found) {
+            return Err(e);
+        }
+        return Ok(());
+    }
+    check_read(alloc, pages, view, key, child, level, levels)
+}
+
 // Tests all pointers of a page.
 fn check_pointers_of<P: Pages>(
     alloc: Global,
     pages: &P,
     view: &View,
+    chain: &[View],
+    next: &mut usize,
     level: Level,
     levels: &mut BTreeMap<u64, Level>,
 ) -> Result<()>
+    requires chain { (v : View) → In v chain.now → IsFoundOn (now (P.store pages.now)) level levels.old v }
     ensures lead { OnOk result (All (λ e. LeadsTo (now (P.store pages.now)) view.now level levels.new e.0 e.1) (pointers view.now.node.content)) }
     ensures adds { OnOk result (FindsReceived (now (P.store pages.now)) (view.now ∷ []) level levels.old levels.new) }
     ensures err { IfErr result (RefusesCheck (P.store pages.now)) }
@@ -127,7 +171,9 @@ fn check_pointers_of<P: Pages>(
         Err(e) => return Err(e),
     };
     for pointer in list.as_slice() {
-        if let Err(e) = check_pointer(alloc, pages, view, &pointer.0, pointer.1, level, levels) {
+        if let Err(e) = check_pointer(
+            alloc, pages, view, &pointer.0, pointer.1, chain, next, level, levels,
+        ) {
             drop(list);
             return Err(e);
         }
@@ -136,20 +182,23 @@ fn check_pointers_of<P: Pages>(
     Ok(())
 }
 
-/// Tests all pointers of these pages, whose level below is this one. Its chain was read before.
+/// Tests all pointers of these pages, whose level below is this one and has this chain.
 pub fn check_pointers<P: Pages>(
     alloc: Global,
     pages: &P,
     above: &[View],
+    chain: &[View],
     level: Level,
     levels: &mut BTreeMap<u64, Level>,
 ) -> Result<()>
+    requires chain { (v : View) → In v chain.now → IsFoundOn (now (P.store pages.now)) level levels.old v }
     ensures lead { OnOk result (All (λ v. All (λ e. LeadsTo (now (P.store pages.now)) v level levels.new e.0 e.1) (pointers v.node.content)) above.now) }
     ensures adds { OnOk result (FindsReceived (now (P.store pages.now)) above.now level levels.old levels.new) }
     ensures err { IfErr result (RefusesCheck (P.store pages.now)) }
 {
+    let mut next = 0;
     for view in above {
-        if let Err(e) = check_pointers_of(alloc, pages, view, level, levels) {
+        if let Err(e) = check_pointers_of(alloc, pages, view, chain, &mut next, level, levels) {
             return Err(e);
         }
     }

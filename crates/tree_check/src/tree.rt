@@ -108,7 +108,7 @@ fn check_level<P: Pages>(
         Ok(chain) => chain,
         Err(e) => return Err(e),
     };
-    if let Err(e) = check_pointers(alloc, pages, above, level, levels) {
+    if let Err(e) = check_pointers(alloc, pages, above, chain.as_slice(), level, levels) {
         drop(chain);
         return Err(e);
     }

@@ -1,5 +1,5 @@
 -- Steps that keep copies of a reply: where a page that was read decides a call, the call may be refused for want of memory too.
-use Rattle.std.proofs.Common.{◌≡◌, ◌≢◌, ◌⊎◌, ℕ, Bool, true, false, Option, Some, None, is_none, MatchOption, Result, Ok, Err, sym, refl, ap, ◌∙◌, subst, inl, inr}
+use Rattle.std.proofs.Common.{◌≡◌, ◌⊎◌, ℕ, Bool, true, false, Option, Some, None, is_none, MatchOption, Result, Ok, Err, sym, refl, ap, ◌∙◌, subst, inl, inr}
 use Rattle.sled_nodes.proofs.Basics.{none_some, true_false}
 use Rattle.sled_nodes.specs.Order.{Key}
 use Rattle.sled_nodes.specs.Ranges.{Range}
@@ -16,7 +16,6 @@ use Rattle.sled_model.specs.State.{IsOnKey, range_of}
 use Rattle.sled_model.specs.declared.call.Call.{Call}
 use Rattle.sled_model.specs.declared.call.Call.TheVariants as call
 use Rattle.sled_model.specs.declared.reply.Reply.{Reply}
-use Rattle.sled_model.specs.declared.reply.Reply.TheVariants.{End}
 use Rattle.sled_queues.specs.Values.{QueuesValue, queue_at}
 use Rattle.sled_queues.specs.Queues.{IsCalm}
 use Rattle.tree_laws.specs.declared.flight.Stage.{Stage}
@@ -43,7 +42,7 @@ use Rattle.sled_tree.specs.declared.flight.Went.{Went}
 use Rattle.sled_tree.specs.declared.flight.Went.TheVariants as went
 use Rattle.sled_tree.proofs.Facts.{unable, by_these}
 use Rattle.tree_scans.specs.Scans.{ScanStep, Gives, Ends, GoesOn, Walks, Lacks, behind}
-use Rattle.tree_steps.specs.theory.Outcomes.{ComesOut}
+use Rattle.tree_steps.specs.theory.Outcomes.{ComesOut, is_light}
 use Rattle.tree_steps.specs.theory.Watched.{TellsPrepared, StepsOver, steps_over_as, links_watched_as}
 use Rattle.tree_steps.proofs.Watching.{short, alone, same_queues}
 
@@ -236,10 +235,10 @@ same_reply e = cc
 root_not : {P : Type 0} {v : View} → stage.Root ≡ stage.Act v → P
 root_not e = cc
 
-module _ (a : Store) (f : InFlight) (r : Range) (is : range_of f.job.call ≡ Some r) (reply : Reply) (unended : reply ≢ End) where
+module _ (a : Store) (f : InFlight) (r : Range) (is : range_of f.job.call ≡ Some r) (reply : Reply) (heavy : is_light reply ≡ false) where
   scan_lacks : {w : Went} {b : Store} {g : InFlight} → ScanStep (StepsBy None) a f w b g → w ≡ went.Decided reply → ScanStep (StepsBy None) a f (went.Refused NoMemory) b g
   scan_lacks (Gives given key value more here waits) decided = yields_not decided
-  scan_lacks (Ends g between waits done) decided = absurd (unended (same_reply decided))
+  scan_lacks (Ends g between waits done) decided = true_false (sym (ap is_light (same_reply decided)) ∙ heavy)
   scan_lacks (Lacks given g here) decided = Lacks given g here
   scan_lacks (GoesOn given range w b g here scan waits more steps) decided =
       GoesOn given range (went.Refused NoMemory) b g here scan waits more (lacks None a b (behind f given range) g reply (λ v at o. root_not at) (subst (λ z. StepsBy None a (behind f given range) z b g) decided steps))

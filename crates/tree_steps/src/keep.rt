@@ -1,19 +1,33 @@
 //! What a step keeps of the reply of a call, for programs that record the outcomes of calls.
-ghost use Rattle.std.specs.Prelude.{◌≡◌, ◌≢◌, true, false, IfOk, IfErr};
+ghost use Rattle.std.specs.Prelude.{◌≡◌, true, false, IfOk, IfErr};
 ghost use Rattle.sled_nodes.specs.declared.error.Error.TheVariants.{NoMemory};
 ghost use Rattle.sled_model.specs.declared.outcome.Outcome.TheVariants.{Decided};
-ghost use Rattle.sled_model.specs.declared.reply.Reply.TheVariants.{End};
 ghost use Rattle.tree_steps.specs.Outcomes.{kept_of};
-ghost use Rattle.tree_steps.specs.theory.Outcomes.{IsUnkept};
+ghost use Rattle.tree_steps.specs.theory.Outcomes.{IsUnkept, is_light};
 
-use sled_model::Reply;
+use sled_model::{Reply, Subscriber};
 use sled_nodes::Result;
 
-/// What is kept of a step: nothing (`()`), or two copies of the reply if the step decides its call (`Option<(Reply, Reply)>`).
+// The same reply. Refused with `NoMemory` alone, and only if the reply owns memory.
+fn again(reply: &Reply) -> Result<Reply>
+    ensures ok { IfOk result (λ copy. copy ≡ reply.now) }
+    ensures err { IfErr result (λ e. (e ≡ NoMemory) × (is_light reply.now ≡ false)) }
+{
+    match reply {
+        Reply::Number(number) => Ok(Reply::Number(*number)),
+        Reply::End => Ok(Reply::End),
+        Reply::Done => Ok(Reply::Done),
+        Reply::Flag(flag) => Ok(Reply::Flag(*flag)),
+        Reply::Subscriber(subscriber) => Ok(Reply::Subscriber(Subscriber(subscriber.0))),
+        reply => reply.clone(),
+    }
+}
+
+/// What is kept of a step or of a whole call: nothing (`()`), or two copies of the reply if the call is decided (`Option<(Reply, Reply)>`).
 ///
-/// Copies are made before the action that decides the call: if there is no memory for them the step is refused, and no call is decided. A
-/// call that links a change has its reply before the link. Any other is decided by a page that it read, after which nothing was changed,
-/// and so it may still be refused.
+/// Copies are made before the action that decides the call: if there is no memory for them it is refused, and not decided. A
+/// call that links a change has its reply before the link. A step that links none decides its call by a page that it read, after which
+/// nothing was changed, and so it may still be refused. Of a reply that owns no memory copies are made at any time.
 pub trait Keep: Drop {
     ghost use Rattle.std.specs.Prelude.{Bool};
     ghost use Rattle.sled_model.specs.declared.outcome.Outcome.{Outcome};
@@ -23,17 +37,17 @@ pub trait Keep: Drop {
 
     ghost COPIES: { Bool };
 
-    /// What is kept of a step that comes out so.
+    /// What is kept of a step, or of a whole call, that comes out so.
     ghost kept: { Outcome → Self };
 
-    /// What is kept of a step that does not decide its call.
+    /// What is kept if the call is not decided.
     fn nothing() -> Self
         ensures { (o : Outcome) → IsUnkept COPIES o → result ≡ kept o };
 
-    /// What is kept of a step that decides its call. Refused with `NoMemory` alone; the end of a scan takes no memory.
+    /// What is kept of a call that is decided. Refused with `NoMemory` alone, and only if the reply owns memory.
     fn of(reply: &Reply) -> Result<Self>
         ensures ok { IfOk result (λ all. all ≡ kept (Decided reply.now)) }
-        ensures err { IfErr result (λ e. (e ≡ NoMemory) × (reply.now ≢ End) × (COPIES ≡ true)) };
+        ensures err { IfErr result (λ e. (e ≡ NoMemory) × (is_light reply.now ≡ false) × (COPIES ≡ true)) };
 }
 
 impl Keep for () {
@@ -64,14 +78,11 @@ impl Keep for Option<(Reply, Reply)> {
     }
 
     fn of(reply: &Reply) -> Result<Option<(Reply, Reply)>> {
-        if let Reply::End = reply {
-            return Ok(Some((Reply::End, Reply::End)));
-        }
-        let first = match reply.clone() {
+        let first = match again(reply) {
             Ok(first) => first,
             Err(e) => return Err(e),
         };
-        match reply.clone() {
+        match again(reply) {
             Ok(second) => Ok(Some((first, second))),
             Err(e) => {
                 drop(first);

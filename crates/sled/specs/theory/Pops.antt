@@ -1,17 +1,14 @@
 -- Of Pops, for inner functions. The two ends of a tree.
-use Rattle.std.specs.Prelude.{◌≡◌, ℕ, Option, Some, None}
+use Rattle.std.specs.Prelude.{◌≡◌, Option, Some, None}
 use Rattle.std.specs.declared.ops.Bound.TheVariants.{Unbounded}
 use Rattle.sled_nodes.specs.Order.{Key}
 use Rattle.sled_nodes.specs.Among.{IsSuccessor, IsPredecessor}
 use Rattle.sled_nodes.specs.declared.error.Error.{Error}
 use Rattle.sled_store.specs.Store.{Store}
-use Rattle.sled_model.specs.Maps.{Map, Merge, IsLeast, IsGreatest}
-use Rattle.sled_model.specs.declared.call.Whole.{Whole}
-use Rattle.sled_model.specs.declared.call.Whole.TheVariants.{PopMin, PopMax}
+use Rattle.sled_model.specs.Maps.{Map, Merge}
 use Rattle.sled_model.specs.declared.reply.Reply.{Reply}
 use Rattle.sled_model.specs.declared.reply.Reply.TheVariants.{Pair}
 use Rattle.sled_model.specs.declared.tree.Tree.{Tree}
-use Rattle.tree_reads.specs.Walk.{once, for_each}
 use Rattle.sled.specs.Values.{DbValue}
 use Rattle.sled.specs.Pops.{TakesOut, RefusesToTake}
 use Rattle.sled.specs.declared.whole.Side.{Side}
@@ -21,21 +18,6 @@ use Rattle.sled.specs.declared.whole.Side.TheVariants.{Least, Greatest}
 abbrev pub reads_of : Side → Map → Option (Key × Key) → Type 0
 reads_of Least = IsSuccessor Unbounded
 reads_of Greatest = IsPredecessor Unbounded
-
--- what it is in the map
-abbrev pub end_of : Side → Map → Option (Key × Key) → Type 0
-end_of Least = IsLeast
-end_of Greatest = IsGreatest
-
--- how many pages the read may look at, by those of the tree
-abbrev pub pages_of : Side → ℕ → ℕ
-pages_of Least = once
-pages_of Greatest = for_each
-
--- the call that takes it out
-abbrev pub pop_of : Side → Tree → Whole
-pop_of Least = PopMin
-pop_of Greatest = PopMax
 
 -- the reply is a pair, or that there is none
 pub record IsPair (reply : Reply) : Type 0 where

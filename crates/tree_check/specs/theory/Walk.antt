@@ -67,6 +67,11 @@ pub record IsChained (s : State) (children : ℕ → Bool) (level : Level) (leve
   pub found : level_of levels v.pid ≡ Some level
   pub parent : v.node.merging ≡ true → children v.pid ≡ true
 
+-- the page was read, and was found on this level
+pub record IsFoundOn (s : State) (level : Level) (levels : Levels) (v : View) : Type 0 where
+  pub live : nodes_of s v.pid ≡ Some v.node
+  pub found : level_of levels v.pid ≡ Some level
+
 -- the page v is the next one of a chain that has reached the page pid at the key lo, and was not found before
 pub record AddsPage (s : State) (children : ℕ → Bool) (level : Level) (pid : ℕ) (lo : Key) (v : View) (old new : Levels) : Type 0 where
   pub read : IsRead s pid v

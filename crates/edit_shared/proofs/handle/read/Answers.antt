@@ -11,3 +11,6 @@ returns-clause-err c = assumption
 
 pub returns-clause-number : goal.returns-clause-number
 returns-clause-number c = assumption
+
+pub returns-clause-looks : goal.returns-clause-looks
+returns-clause-looks c = assumption

@@ -7,5 +7,6 @@ abbrev pub invariant-loop-place : goal.invariant-loop-place
 invariant-loop-place g l = record {
   begun : Begun l.pairs;
   all : in_order l.back l.initial.pairs.pairs ≡ l.page.items ++ in_order l.back l.pairs.pairs;
+  same : l.pairs.pages ≡ l.initial.pairs.pages;
   count : length l.page.items ≡ l._place;
 }

@@ -1,6 +1,6 @@
 use Rattle.std.proofs.Common.{◌<◌, length, arith}
 use Rattle.tree_check.proofs.Listed.{at_any}
-use Rattle.tree_check.proofs.Finding.{received_none, pages_more}
+use Rattle.tree_check.proofs.Finding.{received_none, pages_more, found_still}
 use Rattle.tree_check.proofs.pointers.check_pointers.Goals as goal
 
 pub loop-view-init : goal.loop-view-init
@@ -13,3 +13,6 @@ loop-view-preserved g c =
 
 pub returns-clause-adds : goal.returns-clause-adds
 returns-clause-adds g c = c.loop-view.invariant.1
+
+pub check_pointers_of-requires-clause-chain : goal.check_pointers_of-requires-clause-chain
+check_pointers_of-requires-clause-chain g c κs within = found_still _ c.args.level c.args.levels.now c.loop-view.levels c.args.chain.now c.loop-view.invariant.1.kept c.requires.chain

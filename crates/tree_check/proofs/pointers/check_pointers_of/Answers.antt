@@ -1,6 +1,6 @@
 use Rattle.std.proofs.Common.{◌<◌, length, arith}
 use Rattle.tree_check.proofs.Listed.{at_any}
-use Rattle.tree_check.proofs.Finding.{received_none, pointers_more}
+use Rattle.tree_check.proofs.Finding.{received_none, pointers_more, found_still}
 use Rattle.tree_check.proofs.pointers.check_pointers_of.Goals as goal
 
 pub loop-pointer-init : goal.loop-pointer-init
@@ -14,3 +14,6 @@ loop-pointer-preserved g c =
 
 pub returns-clause-adds : goal.returns-clause-adds
 returns-clause-adds g c = c.loop-pointer.invariant.1
+
+pub check_pointer-requires-clause-chain : goal.check_pointer-requires-clause-chain
+check_pointer-requires-clause-chain g c κs within = found_still _ c.args.level c.args.levels.now c.loop-pointer.levels c.args.chain.now c.loop-pointer.invariant.1.kept c.requires.chain

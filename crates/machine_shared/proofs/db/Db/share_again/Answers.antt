@@ -31,5 +31,6 @@ returns-clause-ok g c =
       callers_are = refl;
       none = refl;
       behind = subst (λ es. NoneAbove es c.greatest_in-before.result) c.history.ensures.entries (All-map (λ (e : EntryValue). e.by ≤ c.greatest_in-before.result) entry_value c.history.result.now c.greatest_in-before.ensures.all);
+      next = λ number none. c.greatest_in-before.ensures.least number (of_values number c.history.result.now (subst (λ es. NoneAbove es number) (sym c.history.ensures.entries) none));
       opening = same ∙ ap (λ (s : StateValue _ _). s.opening) c.state.view_is;
     }

@@ -1,11 +1,8 @@
 use Rattle.std.proofs.Common.{ap}
 use Rattle.sled_model.specs.declared.call.Whole.TheVariants as wholes
 use Rattle.machine_shared.specs.Replies.{tell_done}
-use Rattle.machine_shared.proofs.UnderLocks.{whole_refused, whole_told}
+use Rattle.machine_shared.proofs.UnderLocks.{whole_same}
 use Rattle.machine_shared.proofs.handle.Handle.unsubscribe.Goals as goal
 
-pub returns-in-Ok-clause-under_lock : goal.returns-in-Ok-clause-under_lock
-returns-in-Ok-clause-under_lock g c = whole_told g.P.Pages.store g.P.Pages.flush_number g.M.MergeOperator.meant (wholes.Unsubscribe c.args.subscriber.now) c.args.self.now c.reply_to.new.self (wholes.Unsubscribe c.subscriber.inside.0) tell_done c.in-Ok.reply tt (ap (λ k. wholes.Unsubscribe k) c.subscriber.view_is) c.in-Ok.ensures.kind c.in-Ok.ensures.under_lock
-
-pub returns-in-Err-clause-under_lock : goal.returns-in-Err-clause-under_lock
-returns-in-Err-clause-under_lock g c = whole_refused g.P.Pages.store g.P.Pages.flush_number g.M.MergeOperator.meant (wholes.Unsubscribe c.args.subscriber.now) c.args.self.now c.reply_to.new.self (wholes.Unsubscribe c.subscriber.inside.0) tell_done c.in-Err.e (ap (λ k. wholes.Unsubscribe k) c.subscriber.view_is) c.in-Err.ensures.under_lock
+pub returns-clause-under_lock : goal.returns-clause-under_lock
+returns-clause-under_lock g c = whole_same g.P.Pages.store g.P.Pages.flush_number g.M.MergeOperator.meant (wholes.Unsubscribe c.args.subscriber.now) c.args.self.now c.do_whole.new.self (wholes.Unsubscribe c.subscriber.inside.0) tell_done c.do_whole.result (ap (λ k. wholes.Unsubscribe k) c.subscriber.view_is) c.do_whole.ensures.under_lock

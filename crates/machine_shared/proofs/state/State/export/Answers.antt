@@ -1,13 +1,12 @@
-use Rattle.std.proofs.Common.{◌∙◌, ◌++◌, refl, ap}
+use Rattle.std.proofs.Common.{◌∙◌, [], ◌++◌, refl, ap}
 use Rattle.std.proofs.lemmas.List.{length-map}
 use Rattle.sled_model.specs.Collections.{contents_of}
 use Rattle.machine_shared.specs.Made.{entry_value, entry_values, made_values}
 use Rattle.machine_shared.specs.Notes.{entries_of}
 use Rattle.machine_shared.specs.theory.Noting.{first_noted}
-use Rattle.machine_shared.specs.UnderLock.{read_made}
 use Rattle.machine_shared.specs.declared.read.Read.TheVariants as read
 use Rattle.machine_shared.proofs.UnderLocks.{looked, read_noted}
-use Rattle.machine_shared.proofs.ReadMakes.{read_state}
+use Rattle.machine_shared.proofs.ReadMakes.{notes_so, read_state}
 use Rattle.machine_shared.proofs.ScanStates.{after_none, no_shorter}
 use Rattle.machine_shared.proofs.Scanning.{longer_in_order}
 use Rattle.machine_shared.proofs.state.State.export.Goals as goal
@@ -18,7 +17,7 @@ invariant_of-self g c =
     let after = read_state g.P.Pages.store g.P.Pages.flush_number g.M.MergeOperator.meant c.self.inside.machine (contents_of c.self.inside.opening.value.items)
     (entry_values c.self.inside.history.items) (entry_values c.note_and_count.new.history.items) c.self.inside.calls.total c.note_and_count.new.calls.total c.self.invariant.0
     (length-map c.note_and_count.new.history.items entry_value ∙ c.note_and_count.ensures.counted)
-    c.me.inside.number (first_noted c.export_noting-all.result.1) c.export_noting-all.ensures.notes
+    c.me.inside.number (first_noted c.export_noting-all.result.1) (notes_so g.P.Pages.store g.M.MergeOperator.meant c.self.inside.machine [] read.Export c.export_noting-all.result.0 (first_noted c.export_noting-all.result.1) c.export_noting-all.ensures.ok c.export_noting-all.ensures.err c.export_noting-all.ensures.reads)
     longer in (
       after.0,
       longer_in_order c.self.inside.scans.notes c.self.inside.history.items c.note_and_count.new.history.items _ longer c.self.invariant.1,
@@ -28,7 +27,7 @@ invariant_of-self g c =
 pub returns-clause-looks : goal.returns-clause-looks
 returns-clause-looks g c =
     let noted = read_noted read.Export c.export_noting-all.result.0 (first_noted c.export_noting-all.result.1) c.export_noting-all.ensures.ok c.export_noting-all.ensures.err in
-    looked c.self.inside.machine (contents_of c.self.inside.opening.value.items) c.self.inside.scans (entry_values c.self.inside.history.items) (entry_values c.note_and_count.new.history.items) c.me.inside.number (made_values c.me.inside.made.items) (made_values c.note_and_count.new.made.items) (read_made read.Export c.export_noting-all.result.0)
-    _ c.self.view_is _ c.me.view_is
+    looked g.P.Pages.store g.M.MergeOperator.meant [] read.Export c.export_noting-all.result.0 c.self.inside.machine (contents_of c.self.inside.opening.value.items) c.self.inside.scans (entry_values c.self.inside.history.items) (entry_values c.note_and_count.new.history.items) c.me.inside.number (made_values c.me.inside.made.items) (made_values c.note_and_count.new.made.items)
+    _ c.self.view_is _ c.me.view_is c.export_noting-all.ensures.reads c.export_noting-all.ensures.refused
     (c.note_and_count.ensures.history ∙ ap (λ es. entry_values es ++ entries_of c.me.inside.number (first_noted c.export_noting-all.result.1)) c.export_noting-all.ensures.history ∙ ap (λ m. entry_values c.self.inside.history.items ++ entries_of c.me.inside.number m) noted)
     (c.note_and_count.ensures.made ∙ ap (λ ms. made_values ms ++ first_noted c.export_noting-all.result.1) c.export_noting-all.ensures.made ∙ ap (λ m. made_values c.me.inside.made.items ++ m) noted)

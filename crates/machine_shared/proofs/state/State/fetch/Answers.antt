@@ -27,6 +27,6 @@ invariant_of-self g c =
 
 pub returns-clause-once : goal.returns-clause-once
 returns-clause-once g c = fetched g.P.Pages.store g.M.MergeOperator.meant c.self.inside.machine c.fetch_noting-fetched.new.machine (contents_of c.self.inside.opening.value.items) c.self.inside.scans (entry_values c.self.inside.history.items) (entry_values c.note_and_count.new.history.items) c.me.inside.number (made_values c.me.inside.made.items) (made_values c.note_and_count.new.made.items)
-    c.args.tree.now c.args.key.now c.fetch_noting-fetched.result.0 (first_noted c.fetch_noting-fetched.result.1) _ c.self.view_is _ c.me.view_is c.fetch_noting-fetched.ensures.ok c.fetch_noting-fetched.ensures.err c.fetch_noting-fetched.ensures.noted c.fetch_noting-fetched.ensures.none c.fetch_noting-fetched.ensures.same
+    c.args.tree.now c.args.key.now c.fetch_noting-fetched.result.0 (first_noted c.fetch_noting-fetched.result.1) _ c.self.view_is _ c.me.view_is c.fetch_noting-fetched.ensures.ok c.fetch_noting-fetched.ensures.err c.fetch_noting-fetched.ensures.cause c.fetch_noting-fetched.ensures.noted c.fetch_noting-fetched.ensures.none c.fetch_noting-fetched.ensures.same
     (c.note_and_count.ensures.history ∙ ap (λ es. entry_values es ++ entries_of c.me.inside.number (first_noted c.fetch_noting-fetched.result.1)) c.fetch_noting-fetched.ensures.history)
     (c.note_and_count.ensures.made ∙ ap (λ ms. made_values ms ++ first_noted c.fetch_noting-fetched.result.1) c.fetch_noting-fetched.ensures.made)

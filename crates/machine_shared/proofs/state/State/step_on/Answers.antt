@@ -3,7 +3,7 @@ use Rattle.machine_shared.proofs.UnderLocks.{caller_is, ends_stepped, stays_in}
 use Rattle.machine_shared.proofs.state.State.step_on.Goals as goal
 
 pub returns-clause-ends : goal.returns-clause-ends
-returns-clause-ends g c = ends_stepped g.P.Pages.store g.P.Pages.flush_number g.M.MergeOperator.meant _ _ _ c.step_copied-outcome.new.me c.step_copied-outcome.result.0 c.args.slot c.step_copied-outcome.result.1 c.taken_on.result c.taken_on.ensures (EndsBySteps (record {
+returns-clause-ends g c = ends_stepped g.P.Pages.store g.P.Pages.flush_number g.M.MergeOperator.meant _ _ _ c.step_copied-outcome.new.me c.step_copied-outcome.result.0 c.args.slot c.step_copied-outcome.result.1 c.taken_on.result c.taken_on.ensures (EndsBySteps c.requires.began (record {
   old = c.args.self.now;
   new = c.step_copied-outcome.new.self;
   before = c.audit.ensures.held;

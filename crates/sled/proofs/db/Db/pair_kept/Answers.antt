@@ -1,7 +1,8 @@
 use Rattle.std.proofs.Common.{sym, subst}
 use Rattle.sled_nodes.proofs.Basics.{ok_weaker, err_weaker}
 use Rattle.sled.specs.Reads.{ReadsMap}
-use Rattle.sled.specs.theory.Pops.{reads_of, pages_of}
+use Rattle.sled.specs.Pops.{pages_of}
+use Rattle.sled.specs.theory.Pops.{reads_of}
 use Rattle.sled.proofs.Popping.{short_read}
 use Rattle.sled.proofs.db.Db.pair_kept.Goals as goal
 

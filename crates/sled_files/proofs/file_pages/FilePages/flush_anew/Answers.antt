@@ -2,7 +2,7 @@ use Rattle.std.proofs.Common.{◌≡◌, ◌∙◌, inl, inr, ⊎_elim, refl, ap
 use Rattle.sled_store.specs.Store.{now}
 use Rattle.sled_pages.specs.Memory.{store_of}
 use Rattle.sled_files.specs.Stored.{Stored, stored_as}
-use Rattle.sled_files.specs.Lasting.{Limits, AreNoLower}
+use Rattle.sled_files.specs.Lasting.{Limits, AreRaised}
 use Rattle.sled_files.specs.theory.Snapshot.{Makes}
 use Rattle.sled_files.proofs.Coding.{stops_unstored}
 use Rattle.sled_files.proofs.Over.{own_fault}
@@ -15,7 +15,7 @@ pub invariant_of-self : goal.invariant_of-self
 invariant_of-self g c =
     let raised : Limits = record { pids = c.args.pids; versions = c.args.versions } in
     let whole = subst (λ (v : Stored g.row.D.Denot). Makes (store_of v.pages) c.args.whole.now (whole_of v raised)) (sym c.self.view_is) c.requires.whole in
-    let lower : AreNoLower (record { pids = c.self.inside.limit_pids; versions = c.self.inside.limit_versions }) raised = subst (λ (v : Stored g.row.D.Denot). AreNoLower v.limits raised) (sym c.self.view_is) (record { pids = c.requires.pids; versions = c.requires.versions }) in
+    let lower : AreRaised (record { pids = c.self.inside.limit_pids; versions = c.self.inside.limit_versions }) raised = subst (λ (v : Stored g.row.D.Denot). AreRaised v.limits raised) (sym c.self.view_is) c.requires.raised in
     let out : (now (store_of c.self.inside.pages)).in_group ≡ false = ap (λ (v : Stored g.row.D.Denot). (now (stored_as v)).in_group) c.self.view_is ∙ c.requires.out in
     sound_refused _ c.begin_anew.new.files c.self.inside.asked c.begin_anew.new.faults c.self.invariant (⊎_elim (λ e. inl (e, refl)) (λ e. inr e) c.in-Err.ensures.err)
     (moments_anew _ c.begin_anew.new.files c.args.whole.now c.self.invariant out raised lower c.ranges.versions.fits whole c.begin_anew.ensures.first c.begin_anew.ensures.second c.begin_anew.ensures.over c.begin_anew.ensures.any_moment)
@@ -30,7 +30,7 @@ pub returns-in-Err-clause-any_moment : goal.returns-in-Err-clause-any_moment
 returns-in-Err-clause-any_moment g c =
     let raised : Limits = record { pids = c.args.pids; versions = c.args.versions } in
     let whole = subst (λ (v : Stored g.row.D.Denot). Makes (store_of v.pages) c.args.whole.now (whole_of v raised)) (sym c.self.view_is) c.requires.whole in
-    let lower : AreNoLower (record { pids = c.self.inside.limit_pids; versions = c.self.inside.limit_versions }) raised = subst (λ (v : Stored g.row.D.Denot). AreNoLower v.limits raised) (sym c.self.view_is) (record { pids = c.requires.pids; versions = c.requires.versions }) in
+    let lower : AreRaised (record { pids = c.self.inside.limit_pids; versions = c.self.inside.limit_versions }) raised = subst (λ (v : Stored g.row.D.Denot). AreRaised v.limits raised) (sym c.self.view_is) c.requires.raised in
     let out : (now (store_of c.self.inside.pages)).in_group ≡ false = ap (λ (v : Stored g.row.D.Denot). (now (stored_as v)).in_group) c.self.view_is ∙ c.requires.out in
     rw (← c.self.view_is) (moments_anew _ c.begin_anew.new.files c.args.whole.now c.self.invariant out raised lower c.ranges.versions.fits whole c.begin_anew.ensures.first c.begin_anew.ensures.second c.begin_anew.ensures.over c.begin_anew.ensures.any_moment)
 
@@ -38,7 +38,7 @@ pub invariant_of-self-2 : goal.invariant_of-self-2
 invariant_of-self-2 g c =
     let raised : Limits = record { pids = c.args.pids; versions = c.args.versions } in
     let whole = subst (λ (v : Stored g.row.D.Denot). Makes (store_of v.pages) c.args.whole.now (whole_of v raised)) (sym c.self.view_is) c.requires.whole in
-    let lower : AreNoLower (record { pids = c.self.inside.limit_pids; versions = c.self.inside.limit_versions }) raised = subst (λ (v : Stored g.row.D.Denot). AreNoLower v.limits raised) (sym c.self.view_is) (record { pids = c.requires.pids; versions = c.requires.versions }) in
+    let lower : AreRaised (record { pids = c.self.inside.limit_pids; versions = c.self.inside.limit_versions }) raised = subst (λ (v : Stored g.row.D.Denot). AreRaised v.limits raised) (sym c.self.view_is) c.requires.raised in
     let out : (now (store_of c.self.inside.pages)).in_group ≡ false = ap (λ (v : Stored g.row.D.Denot). (now (stored_as v)).in_group) c.self.view_is ∙ c.requires.out in
     rw (c.in_default.ensures.same, c.clear.ensures.items)
     (sound_anew _ c.begin_anew.new.files c.args.whole.now c.self.invariant out raised lower c.ranges.versions.fits whole c.flush_uncounted.new.self c.in_default.ensures.up c.in_default.ensures.ready c.flush_uncounted.ensures.ok)
@@ -47,7 +47,7 @@ pub returns-clause-any_moment : goal.returns-clause-any_moment
 returns-clause-any_moment g c =
     let raised : Limits = record { pids = c.args.pids; versions = c.args.versions } in
     let whole = subst (λ (v : Stored g.row.D.Denot). Makes (store_of v.pages) c.args.whole.now (whole_of v raised)) (sym c.self.view_is) c.requires.whole in
-    let lower : AreNoLower (record { pids = c.self.inside.limit_pids; versions = c.self.inside.limit_versions }) raised = subst (λ (v : Stored g.row.D.Denot). AreNoLower v.limits raised) (sym c.self.view_is) (record { pids = c.requires.pids; versions = c.requires.versions }) in
+    let lower : AreRaised (record { pids = c.self.inside.limit_pids; versions = c.self.inside.limit_versions }) raised = subst (λ (v : Stored g.row.D.Denot). AreRaised v.limits raised) (sym c.self.view_is) c.requires.raised in
     let out : (now (store_of c.self.inside.pages)).in_group ≡ false = ap (λ (v : Stored g.row.D.Denot). (now (stored_as v)).in_group) c.self.view_is ∙ c.requires.out in
     rw (← c.self.view_is) (moments_anew _ c.begin_anew.new.files c.args.whole.now c.self.invariant out raised lower c.ranges.versions.fits whole c.begin_anew.ensures.first c.begin_anew.ensures.second c.begin_anew.ensures.over c.begin_anew.ensures.any_moment)
 

@@ -1,7 +1,7 @@
 use Rattle.std.proofs.Common.{rules, arith, length, ◌≡◌, ◌∙◌, inl, inr, ⊎_elim, refl, ap, sym, subst, false, List, ℕ, [], ◌<◌}
 use Rattle.sled_store.specs.Store.{now}
 use Rattle.sled_pages.specs.Memory.{store_of}
-use Rattle.sled_files.specs.Lasting.{Limits, AreNoLower}
+use Rattle.sled_files.specs.Lasting.{Limits, AreRaised}
 use Rattle.sled_files.specs.Stored.{Stored, stored_as}
 use Rattle.sled_files.specs.theory.Ahead.{IsAhead}
 use Rattle.sled_files.proofs.Over.{own_fault}
@@ -25,7 +25,7 @@ invariant_of-self-in-Err-add g c =
     let out : (now (store_of c.self.inside.pages)).in_group ≡ false = ap (λ (v : Stored g.row.D.Denot). (now (stored_as v)).in_group) c.self.view_is ∙ c.requires in
     let raised : Limits = record { pids = c.ahead-pids.result.0; versions = c.ahead-pids.result.1 } in
     let limits : Limits = record { pids = c.self.inside.limit_pids; versions = c.self.inside.limit_versions } in
-    let lower : AreNoLower limits raised = subst (λ (v : Stored g.row.D.Denot). AreNoLower v.limits raised) (sym c.self.view_is) (record { pids = c.ahead-pids.ensures.pids; versions = c.ahead-pids.ensures.versions }) in
+    let lower : AreRaised limits raised = subst (λ (v : Stored g.row.D.Denot). AreRaised v.limits raised) (sym c.self.view_is) c.ahead-pids.ensures.raised in
     let more : IsAhead limits raised c.self.inside.pending.items c.deref.result.now = subst (λ (l : List ℕ). IsAhead limits raised c.self.inside.pending.items l) (sym c.deref.ensures.value) c.in_default.ensures.ok in
     let same : c.len-len.result ≡ length c.self.inside.pending.items = search rules in
     rw (c.truncate.ensures.items ∙ taken_out c.len-len.result c.in_default.ensures.ok same)
@@ -40,7 +40,7 @@ returns-in-Err-add-clause-any_moment g c =
     let out : (now (store_of c.self.inside.pages)).in_group ≡ false = ap (λ (v : Stored g.row.D.Denot). (now (stored_as v)).in_group) c.self.view_is ∙ c.requires in
     let raised : Limits = record { pids = c.ahead-pids.result.0; versions = c.ahead-pids.result.1 } in
     let limits : Limits = record { pids = c.self.inside.limit_pids; versions = c.self.inside.limit_versions } in
-    let lower : AreNoLower limits raised = subst (λ (v : Stored g.row.D.Denot). AreNoLower v.limits raised) (sym c.self.view_is) (record { pids = c.ahead-pids.ensures.pids; versions = c.ahead-pids.ensures.versions }) in
+    let lower : AreRaised limits raised = subst (λ (v : Stored g.row.D.Denot). AreRaised v.limits raised) (sym c.self.view_is) c.ahead-pids.ensures.raised in
     let more : IsAhead limits raised c.self.inside.pending.items c.deref.result.now = subst (λ (l : List ℕ). IsAhead limits raised c.self.inside.pending.items l) (sym c.deref.ensures.value) c.in_default.ensures.ok in
     rw (← c.self.view_is) (moments_ahead _ c.add.new.files c.deref.result.now c.self.invariant out raised lower more c.add.ensures.first c.add.ensures.second c.add.ensures.over c.add.ensures.any_moment)
 
@@ -49,7 +49,7 @@ invariant_of-self-2 g c =
     let out : (now (store_of c.self.inside.pages)).in_group ≡ false = ap (λ (v : Stored g.row.D.Denot). (now (stored_as v)).in_group) c.self.view_is ∙ c.requires in
     let raised : Limits = record { pids = c.ahead-pids.result.0; versions = c.ahead-pids.result.1 } in
     let limits : Limits = record { pids = c.self.inside.limit_pids; versions = c.self.inside.limit_versions } in
-    let lower : AreNoLower limits raised = subst (λ (v : Stored g.row.D.Denot). AreNoLower v.limits raised) (sym c.self.view_is) (record { pids = c.ahead-pids.ensures.pids; versions = c.ahead-pids.ensures.versions }) in
+    let lower : AreRaised limits raised = subst (λ (v : Stored g.row.D.Denot). AreRaised v.limits raised) (sym c.self.view_is) c.ahead-pids.ensures.raised in
     let more : IsAhead limits raised c.self.inside.pending.items c.deref.result.now = subst (λ (l : List ℕ). IsAhead limits raised c.self.inside.pending.items l) (sym c.deref.ensures.value) c.in_default.ensures.ok in
     rw (c.in_default-add.ensures.same, c.clear.ensures.items)
     (sound_ahead _ c.add.new.files c.deref.result.now c.self.invariant out raised lower more c.flush_uncounted.new.self c.in_default-add.ensures.up c.in_default-add.ensures.ready c.flush_uncounted.ensures.ok)
@@ -59,7 +59,7 @@ returns-clause-any_moment g c =
     let out : (now (store_of c.self.inside.pages)).in_group ≡ false = ap (λ (v : Stored g.row.D.Denot). (now (stored_as v)).in_group) c.self.view_is ∙ c.requires in
     let raised : Limits = record { pids = c.ahead-pids.result.0; versions = c.ahead-pids.result.1 } in
     let limits : Limits = record { pids = c.self.inside.limit_pids; versions = c.self.inside.limit_versions } in
-    let lower : AreNoLower limits raised = subst (λ (v : Stored g.row.D.Denot). AreNoLower v.limits raised) (sym c.self.view_is) (record { pids = c.ahead-pids.ensures.pids; versions = c.ahead-pids.ensures.versions }) in
+    let lower : AreRaised limits raised = subst (λ (v : Stored g.row.D.Denot). AreRaised v.limits raised) (sym c.self.view_is) c.ahead-pids.ensures.raised in
     let more : IsAhead limits raised c.self.inside.pending.items c.deref.result.now = subst (λ (l : List ℕ). IsAhead limits raised c.self.inside.pending.items l) (sym c.deref.ensures.value) c.in_default.ensures.ok in
     rw (← c.self.view_is) (moments_ahead _ c.add.new.files c.deref.result.now c.self.invariant out raised lower more c.add.ensures.first c.add.ensures.second c.add.ensures.over c.add.ensures.any_moment)
 

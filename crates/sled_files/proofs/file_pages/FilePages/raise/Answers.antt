@@ -1,5 +1,5 @@
 use Rattle.std.proofs.Common.{◌∷◌, [], inl, inr, ⊎_elim, refl, sym, ap, ◌∙◌, subst, arith, List, ℕ, ◌⊎◌, ◌≤◌}
-use Rattle.sled_files.specs.Raised.{raised_to}
+use Rattle.sled_files.specs.Raised.{raised_to, ComeNext}
 use Rattle.sled_pages.specs.Memory.{store_of}
 use Rattle.sled_bytes.specs.declared.change.Change.TheVariants.{Limited}
 use Rattle.sled_files.specs.Pending.{Spells}
@@ -7,7 +7,7 @@ use Rattle.sled_files.proofs.Over.{own_fault}
 use Rattle.sled_files.proofs.Sound.{sound_faults}
 use Rattle.sled_files.proofs.Moments.{moments_none}
 use Rattle.sled_files.proofs.Added.{sound_refused, sound_raised, moments_raised}
-use Rattle.sled_files.proofs.Limits.{same_limits, grown_by}
+use Rattle.sled_files.proofs.Limits.{same_limits, grown_by, next_over, raised_by}
 use Rattle.sled_files.proofs.Coding.{unstored_weaker}
 use Rattle.sled_files.proofs.Ungiven.{used_up_at}
 use Rattle.sled_files.proofs.Raising.{limited_length}
@@ -30,18 +30,22 @@ returns-in-Err-clause-any_moment g c = rw (← c.self.view_is) (moments_none c.l
 
 pub invariant_of-self-in-Err-add : goal.invariant_of-self-in-Err-add
 invariant_of-self-in-Err-add g c =
+    let next = subst (λ (v : Stored g.row.D.Denot). ComeNext (stored_as v) c.args.pid c.args.version) (sym c.self.view_is) (next_over c.args.self.now.mark c.args.self.now.faults c.requires) in
+    let lower = raised_by c.raised-pids.result c.raised-versions.result c.self.invariant.within next (c.raised-pids.ensures.is ∙ ap (raised_to c.self.inside.limit_pids) c.pid.view_is) (c.raised-versions.ensures.is ∙ ap (raised_to c.self.inside.limit_versions) c.version.view_is) in
     let spells = subst (λ (l : List ℕ). Spells l (Limited c.raised-pids.result c.raised-versions.result ∷ [])) (sym c.deref.ensures.value) c.in-Ok.ensures.ok in
     sound_refused _ c.add.new.files c.self.inside.asked c.add.new.faults c.self.invariant (⊎_elim (λ e. inl (e, refl)) (λ e. inr e) c.in-Err-add.ensures.err)
-    (moments_raised _ c.add.new.files c.deref.result.now c.add.ensures.first c.add.ensures.second c.self.invariant c.add.ensures.over c.add.ensures.any_moment c.raised-pids.result c.raised-versions.result spells c.raised-pids.ensures.no_lower c.raised-versions.ensures.no_lower)
+    (moments_raised _ c.add.new.files c.deref.result.now c.add.ensures.first c.add.ensures.second c.self.invariant c.add.ensures.over c.add.ensures.any_moment c.raised-pids.result c.raised-versions.result spells lower)
 
 pub returns-in-Err-add-clause-err : goal.returns-in-Err-add-clause-err
 returns-in-Err-add-clause-err g c = rw (← c.self.view_is) (own_fault (store_of c.self.inside.pages) c.in-Err-add.ensures.fault)
 
 pub returns-in-Err-add-clause-any_moment : goal.returns-in-Err-add-clause-any_moment
 returns-in-Err-add-clause-any_moment g c =
+    let next = subst (λ (v : Stored g.row.D.Denot). ComeNext (stored_as v) c.args.pid c.args.version) (sym c.self.view_is) (next_over c.args.self.now.mark c.args.self.now.faults c.requires) in
+    let lower = raised_by c.raised-pids.result c.raised-versions.result c.self.invariant.within next (c.raised-pids.ensures.is ∙ ap (raised_to c.self.inside.limit_pids) c.pid.view_is) (c.raised-versions.ensures.is ∙ ap (raised_to c.self.inside.limit_versions) c.version.view_is) in
     let spells = subst (λ (l : List ℕ). Spells l (Limited c.raised-pids.result c.raised-versions.result ∷ [])) (sym c.deref.ensures.value) c.in-Ok.ensures.ok in
     rw (← c.self.view_is)
-    (moments_raised _ c.add.new.files c.deref.result.now c.add.ensures.first c.add.ensures.second c.self.invariant c.add.ensures.over c.add.ensures.any_moment c.raised-pids.result c.raised-versions.result spells c.raised-pids.ensures.no_lower c.raised-versions.ensures.no_lower)
+    (moments_raised _ c.add.new.files c.deref.result.now c.add.ensures.first c.add.ensures.second c.self.invariant c.add.ensures.over c.add.ensures.any_moment c.raised-pids.result c.raised-versions.result spells lower)
 
 pub invariant_of-self-2 : goal.invariant_of-self-2
 invariant_of-self-2 g c =
@@ -50,9 +54,11 @@ invariant_of-self-2 g c =
 
 pub returns-clause-any_moment : goal.returns-clause-any_moment
 returns-clause-any_moment g c =
+    let next = subst (λ (v : Stored g.row.D.Denot). ComeNext (stored_as v) c.args.pid c.args.version) (sym c.self.view_is) (next_over c.args.self.now.mark c.args.self.now.faults c.requires) in
+    let lower = raised_by c.raised-pids.result c.raised-versions.result c.self.invariant.within next (c.raised-pids.ensures.is ∙ ap (raised_to c.self.inside.limit_pids) c.pid.view_is) (c.raised-versions.ensures.is ∙ ap (raised_to c.self.inside.limit_versions) c.version.view_is) in
     let spells = subst (λ (l : List ℕ). Spells l (Limited c.raised-pids.result c.raised-versions.result ∷ [])) (sym c.deref.ensures.value) c.in-Ok.ensures.ok in
     rw (← c.self.view_is)
-    (moments_raised _ c.add.new.files c.deref.result.now c.add.ensures.first c.add.ensures.second c.self.invariant c.add.ensures.over c.add.ensures.any_moment c.raised-pids.result c.raised-versions.result spells c.raised-pids.ensures.no_lower c.raised-versions.ensures.no_lower)
+    (moments_raised _ c.add.new.files c.deref.result.now c.add.ensures.first c.add.ensures.second c.self.invariant c.add.ensures.over c.add.ensures.any_moment c.raised-pids.result c.raised-versions.result spells lower)
 
 pub returns-clause-limits : goal.returns-clause-limits
 returns-clause-limits g c = rw (← c.self.view_is) (same_limits (c.raised-pids.ensures.is ∙ ap (raised_to c.self.inside.limit_pids) c.pid.view_is) (c.raised-versions.ensures.is ∙ ap (raised_to c.self.inside.limit_versions) c.version.view_is))

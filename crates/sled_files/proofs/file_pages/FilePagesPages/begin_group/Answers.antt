@@ -12,3 +12,9 @@ returns-clause-ok g c = rw (← c.self.view_is) (if_ok c.begin_group.result (λ 
 
 pub returns-clause-err : goal.returns-clause-err
 returns-clause-err g c = rw (← c.self.view_is) (if_err c.begin_group.result (λ e h. refused_over c.self.inside.mark c.self.inside.faults h) c.begin_group.ensures.err)
+
+pub returns-clause-adds : goal.returns-clause-adds
+returns-clause-adds g c = rw (← c.self.view_is) c.begin_group.ensures.adds
+
+pub returns-clause-kept : goal.returns-clause-kept
+returns-clause-kept g c = rw (← c.self.view_is) c.begin_group.ensures.kept

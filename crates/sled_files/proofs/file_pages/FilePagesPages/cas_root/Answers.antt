@@ -10,3 +10,9 @@ returns-clause-ok g c = rw (← c.self.view_is) (if_ok c.cas_root.result (λ a h
 
 pub returns-clause-err : goal.returns-clause-err
 returns-clause-err g c = rw (← c.self.view_is) (if_err c.cas_root.result (λ e h. refused_over c.self.inside.mark c.self.inside.faults h) c.cas_root.ensures.err)
+
+pub returns-clause-adds : goal.returns-clause-adds
+returns-clause-adds g c = rw (← c.self.view_is) c.cas_root.ensures.adds
+
+pub returns-clause-kept : goal.returns-clause-kept
+returns-clause-kept g c = rw (← c.self.view_is) c.cas_root.ensures.kept

@@ -10,3 +10,9 @@ returns-clause-ok g c = rw (← c.self.view_is) (if_ok c.free.result (λ a h. fr
 
 pub returns-clause-err : goal.returns-clause-err
 returns-clause-err g c = rw (← c.self.view_is) (if_err c.free.result (λ e h. refused_over c.self.inside.mark c.self.inside.faults h) c.free.ensures.err)
+
+pub returns-clause-adds : goal.returns-clause-adds
+returns-clause-adds g c = rw (← c.self.view_is) c.free.ensures.adds
+
+pub returns-clause-kept : goal.returns-clause-kept
+returns-clause-kept g c = rw (← c.self.view_is) c.free.ensures.kept

@@ -49,3 +49,13 @@ returns-in-Ok-clause-stops g c = goes_on_err g.D.Disk.faults c.args.self.now _ c
 
 pub returns-in-Ok-clause-goes_on : goal.returns-in-Ok-clause-goes_on
 returns-in-Ok-clause-goes_on g c = goes_on_ok c.replace.result (ap (λ (v : Stored g.row.D.Denot). v.files.failed) c.self.view_is ∙ reaches_calm _ _ c.in-Ok.ensures.limits)
+
+pub returns-in-Ok-clause-adds : goal.returns-in-Ok-clause-adds
+returns-in-Ok-clause-adds g c =
+    let same : c.self.inside.pending.items ≡ c.args.self.now.pending = ap (λ (v : Stored g.row.D.Denot). v.pending) c.self.view_is ∙ c.in-Ok.ensures.pages.pending in
+    rw (← same) c.replace.ensures.adds
+
+pub returns-in-Ok-clause-kept : goal.returns-in-Ok-clause-kept
+returns-in-Ok-clause-kept g c =
+    let same : c.self.inside.pending.items ≡ c.args.self.now.pending = ap (λ (v : Stored g.row.D.Denot). v.pending) c.self.view_is ∙ c.in-Ok.ensures.pages.pending in
+    rw (← same) c.replace.ensures.kept
