@@ -79,7 +79,11 @@ fn look<L: Ledger, R: Wait + Abort>(rt: &R, scene: &Scene, one: &mut Way<L>) -> 
         refused
     };
     require(rt, refused <= 1, "one refusal");
-    require(rt, one.made().len() == 3 - lost, "what was made");
+    require(
+        rt,
+        one.made().len().wrapping_add(lost) == 3,
+        "what was made",
+    );
     require(
         rt,
         !closed || group == Told::Io && is_closed(rt, scene, one),
