@@ -121,16 +121,17 @@ where
     requires parts { blank.parts ≡ L.parts }
     requires each { blank.parts ≡ 2 }
 {
+    let (slot, scan) = slots;
     let Ok(mut shared) = shared::Db::<_, L, _>::share_again(rt, alloc, state, blank, 1) else {
         panic!(rt; "not shared")
     };
     let mut one: Way<L> = shared.handle(alloc).expect(rt, "a handle");
     require(rt, one.number() == 2, "the next number");
     require(rt, one.made().is_empty(), "nothing made yet");
-    go_on(rt, alloc, tree, &mut one, slots);
+    go_on(rt, alloc, tree, &mut one, (slot, scan));
     require(rt, one.made().len() == 2, "a read and a get");
     let handles = vec![in alloc; one].expect(rt, "memory");
-    look(rt, gathered(rt, shared, handles), slots.1);
+    look(rt, gathered(rt, shared, handles), scan);
 }
 
 // Shares it, and then its state again.
