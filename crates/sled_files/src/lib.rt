@@ -4,6 +4,7 @@
 //! once it has grown long the other is begun anew, with what the store is then.
 #![tactic(auto)]
 
+mod ahead;
 mod begin;
 mod file_pages;
 mod files;

@@ -8,6 +8,7 @@ ghost use Rattle.sled_files.specs.theory.Replay.{replayed_of, numbers_of, number
 ghost use Rattle.sled_files.specs.Opening.{IsReopened};
 ghost use Rattle.sled_pages.specs.Memory.{store_of, calls_refused};
 
+use crate::ahead::look_ahead;
 use sled_bytes::{Change, Refusal, decode_change};
 use sled_nodes::{IVec, Link, Node, Pid, Version};
 use sled_pages::{MemPages, Rebuild};
@@ -157,7 +158,9 @@ impl Replay {
         ensures cause { IfErr result (λ e. halts e (changes_of payload.now)) }
     {
         let mut at = 0;
+        let mut looked = 0;
         'changes: while at < payload.len() {
+            looked = look_ahead(&self.rebuild, payload, at, looked);
             let (change, behind) = match next_change(alloc, payload, at) {
                 Ok(next) => next,
                 Err(e) => return Err(e),

@@ -7,7 +7,7 @@ ghost use Rattle.sled_pages.specs.Parts.{node_of, alone, linked, unlinked, is_fu
 ghost use Rattle.sled_pages.specs.theory.Parts.{IsJoined, IsReady, parts_under};
 ghost use Rattle.sled_nodes.specs.Node.{after_link};
 
-use sled_nodes::{Link, Node, Result, Shared};
+use sled_nodes::{Data, IVec, Link, Node, Result, Shared};
 use std::alloc::{AllocError, Global};
 use std::marker::Model;
 
@@ -145,6 +145,27 @@ fn link_first(alloc: Global, node: &mut Shared, link: Link) -> Result<Under>
     let mut under = Under::new(alloc, base)?;
     link_more(alloc, node, &mut under, link)?;
     Ok(under)
+}
+
+// How many bytes the key at a place has, 0 if there is none.
+#[inline(always)]
+fn len_at<V>(entries: &[(IVec, V)], place: usize) -> usize {
+    match entries.get(place) {
+        Some(entry) => entry.0.len(),
+        None => 0,
+    }
+}
+
+// How many bytes the longest of five keys has.
+#[inline(always)]
+fn longest<V>(entries: &[(IVec, V)]) -> usize {
+    let quarter = entries.len() / 4;
+    let half = entries.len() / 2;
+    let first = len_at(entries, 0).max(len_at(entries, quarter));
+    let middle = len_at(entries, half).max(len_at(entries, quarter.saturating_add(half)));
+    first
+        .max(middle)
+        .max(len_at(entries, entries.len().saturating_sub(1)))
 }
 
 // What is below a page's node.
@@ -358,6 +379,24 @@ impl Linked {
         match &self.below {
             Below::Apart(under) => under.joined(alloc),
             _ => share(&self.node),
+        }
+    }
+
+    /// How many bytes the longest key of the node has behind what all keys begin with.
+    #[inline(always)]
+    pub fn look(&self) -> usize {
+        match &self.node.content {
+            Data::Leaf(leaf) => longest(leaf.rests()),
+            Data::Index(index) => longest(index.rests()),
+        }
+    }
+
+    /// How many entries the node has.
+    #[inline(always)]
+    pub fn count(&self) -> usize {
+        match &self.node.content {
+            Data::Leaf(leaf) => leaf.len(),
+            Data::Index(index) => index.len(),
         }
     }
 

@@ -123,6 +123,37 @@ impl Rebuild {
         Ok(())
     }
 
+    /// How many bytes the longest key of a page has behind what all its keys begin with, and 0 if there is no page. All keys are looked at for
+    /// it: so a look at several pages has their memory come at once, where links of one page after the other wait for each.
+    ///
+    /// ```
+    /// let longest = rebuild.look(Pid(1));
+    /// ```
+    pub fn look(&self, pid: Pid) -> usize
+    {
+        // Numbers begin at 1.
+        if pid.0 == 0 {
+            return 0;
+        }
+        match self.pages.get(place_of(pid)) {
+            Some(slot) => slot.page.look(),
+            None => 0,
+        }
+    }
+
+    /// How many entries a page has, and 0 if there is no page. Of the page none of its entries is looked at.
+    #[inline(always)]
+    pub fn count(&self, pid: Pid) -> usize {
+        // Numbers begin at 1.
+        if pid.0 == 0 {
+            return 0;
+        }
+        match self.pages.get(place_of(pid)) {
+            Some(slot) => slot.page.count(),
+            None => 0,
+        }
+    }
+
     /// Takes a page out, if there is one. It takes no memory.
     ///
     /// ```
