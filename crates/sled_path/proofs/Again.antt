@@ -27,7 +27,7 @@ unpaired_alike one two same (host.Io error) why = tt
 module _ (old : Stored (Once HostFile)) (lasts : LastsAsRead outcomes_of old) where
   pub goes_on : GoesOnOnce old
   goes_on opening is_locked files found is h =
-      let w = is.whole in
+      let w = is.are in
       let m = w.mended in
       let asked : List ℕ = asked_of old.asked in
       let read : AreReadLasting asked old.limits (stored_as old) (bytes_of m.first_found) (bytes_of m.second_found) = lasts (bytes_of m.first_found) (bytes_of m.second_found) h.first_found h.second_found h.first_told h.second_told in

@@ -1,5 +1,5 @@
 -- The outcome of opening a database in a folder.
-use Rattle.std.specs.Prelude.{◌≡◌, ◌⊎◌, Bool, true}
+use Rattle.std.specs.Prelude.{◌≡◌, ◌⊎◌, ℕ, List, Bool, true}
 use Rattle.sled_nodes.specs.Order.{Key}
 use Rattle.sled_nodes.specs.declared.error.Error.{Error}
 use Rattle.sled_nodes.specs.declared.error.Error.TheVariants as error
@@ -20,36 +20,36 @@ use Rattle.sled.specs.Checked.{RefusesChecked, IsFit}
 use Rattle.sled_path.specs.declared.error.OpenError.{OpenError}
 use Rattle.sled_path.specs.declared.error.OpenError.TheVariants.{NotAStore, OtherFormat, Decayed, Locked, Io, Disk, Database}
 
--- the store that two files stand for as they were found, or a new one if both are blank
-pub record StoreIn (opening : Opening) (is_locked : Bool) (files : Files HostFile) (store : Store) : Type 0 where
+-- the store that two files stand for, of which this is known, or a new one if both are blank
+pub record StoreOver {D : Type 0} (seen : D → List ℕ) (may_leave : D → List ℕ → Type 0) (known : HostFile → HostFile → Type 0) (files : Files D) (store : Store) : Type 0 where
   pub first : HostFile
   pub second : HostFile
-  pub pair : OpensPair opening first second is_locked
-  pub opens : OpensTo bytes_of outcomes_of (bytes_of first) (bytes_of second) files store
+  pub are : known first second
+  pub opens : OpensTo seen may_leave (bytes_of first) (bytes_of second) files store
 
 -- a database of this name was opened over it. Its pages are those of a database
-pub record OpensIn {M : Type 0} (opening : Opening) (is_locked : Bool) (name : Key) (db : DbValue (Stored HostFile) M) : Type 0 where
-  pub files : Files HostFile
+pub record OpensOver {D M : Type 0} (seen : D → List ℕ) (may_leave : D → List ℕ → Type 0) (known : HostFile → HostFile → Type 0) (name : Key) (db : DbValue (Stored D) M) : Type 0 where
+  pub files : Files D
   pub store : Store
-  pub is : StoreIn opening is_locked files store
+  pub is : StoreOver seen may_leave known files store
   pub fit : IsFit (now store)
   pub opens : Opens stored_as store name db
 
--- two files are refused for this, the first thing that is wrong with them as they were found
-pub record AreRefused (opening : Opening) (e : file.OpenError) : Type 0 where
+-- two files, of which this is known, are refused for this, the first thing that is wrong with them
+pub record AreRefused (known : Bool → HostFile → HostFile → Type 0) (e : file.OpenError) : Type 0 where
   pub first : HostFile
   pub second : HostFile
   pub is_locked : Bool
-  pub pair : OpensPair opening first second is_locked
+  pub are : known is_locked first second
   pub why : is_why_unopened e (bytes_of first) (bytes_of second)
 
 -- the store that was opened is refused by a database for this
-pub record IsUnfit (opening : Opening) (e : Error) : Type 0 where
-  pub files : Files HostFile
+pub record IsUnfit {D : Type 0} (seen : D → List ℕ) (may_leave : D → List ℕ → Type 0) (known : Bool → HostFile → HostFile → Type 0) (e : Error) : Type 0 where
+  pub files : Files D
   pub store : Store
   pub left : Store
   pub is_locked : Bool
-  pub is : StoreIn opening is_locked files store
+  pub is : StoreOver seen may_leave (known is_locked) files store
   pub why : RefusesChecked store e left
 
 -- What the operating system refused: want of memory, and a database that is open elsewhere, have names of their own. That there are no
@@ -65,14 +65,26 @@ is_of_system opening e = is_why_unpaired opening e
 -- `Locked`: the system answered that a file is locked. `Io`: it refused a call of the folder, or one that opens a file.
 -- `Disk`: both files were opened, and a later call of one was refused, but not for want of memory.
 -- `Database`: there was no memory, or the files have a store and its pages are none of a database.
+abbrev pub is_why_closed_over : {D : Type 0} → (D → List ℕ) → (D → List ℕ → Type 0) → (Bool → HostFile → HostFile → Type 0) → Opening → OpenError → Type 0
+is_why_closed_over seen may_leave known opening NotAStore = AreRefused known file.TheVariants.NotAStore
+is_why_closed_over seen may_leave known opening (OtherFormat other) = AreRefused known (file.TheVariants.OtherFormat other)
+is_why_closed_over seen may_leave known opening (Decayed place) = AreRefused known (file.TheVariants.Decayed place)
+is_why_closed_over seen may_leave known opening Locked = Unit {0}
+is_why_closed_over seen may_leave known opening (Io e) = is_of_system opening e
+is_why_closed_over seen may_leave known opening (Disk e) = is_fault e
+is_why_closed_over seen may_leave known opening (Database e) = (e ≡ error.NoMemory) ⊎ IsUnfit seen may_leave known e
+
+-- two files as they were found
+abbrev pub AreAsFound : Opening → Bool → HostFile → HostFile → Type 0
+AreAsFound opening is_locked first second = OpensPair opening first second is_locked
+
+-- a database was opened of them
+abbrev pub OpensIn : {M : Type 0} → Opening → Bool → Key → DbValue (Stored HostFile) M → Type 0
+OpensIn opening is_locked name db = OpensOver bytes_of outcomes_of (AreAsFound opening is_locked) name db
+
+-- why none was
 abbrev pub is_why_closed : Opening → OpenError → Type 0
-is_why_closed opening NotAStore = AreRefused opening file.TheVariants.NotAStore
-is_why_closed opening (OtherFormat other) = AreRefused opening (file.TheVariants.OtherFormat other)
-is_why_closed opening (Decayed place) = AreRefused opening (file.TheVariants.Decayed place)
-is_why_closed opening Locked = Unit {0}
-is_why_closed opening (Io e) = is_of_system opening e
-is_why_closed opening (Disk e) = is_fault e
-is_why_closed opening (Database e) = (e ≡ error.NoMemory) ⊎ IsUnfit opening e
+is_why_closed opening e = is_why_closed_over bytes_of outcomes_of (AreAsFound opening) opening e
 
 -- the options of an opening that makes what is missing, and needs locks
 abbrev pub usual : Opening
