@@ -1,17 +1,16 @@
 //! Each call of a disk refused in turn, and crashes after that; and crashes after each call of a script.
 use crate::runs::{Run, flush, flush_all, is_fault, look, run_script};
 use crate::script::STEPS;
-use crate::seeds::crash;
+use test_report::seeds::crash;
 use crate::starts::{Kind, Start, prepare};
 use crate::store::{Disks, Files, Store, image, into_disks, open};
-use crate::tally::{Numbered, Tally};
-use crate::trouble::{Result, Trouble, expect};
+use test_report::trouble::{Result, Trouble, expect};
 use example_parts::Adds;
 use sled::Db;
 use sled_files::{FilePages, OpenError};
 use std::alloc::Global;
 use std::fmt::{self, Display, Formatter, Write};
-use test_report::Report;
+use test_report::{Numbered, Report, Tally};
 
 // How many seeds each crash is chosen by.
 const SEEDS: u64 = 6;

@@ -14,11 +14,8 @@ mod maps;
 mod numbers;
 mod runs;
 mod script;
-mod seeds;
 mod starts;
 mod store;
-mod tally;
-mod trouble;
 
 use std::process::ExitCode;
 use std::{env, io};

@@ -2,7 +2,7 @@
 use crate::maps::{Maps, SIDE, key_of, value_of};
 use crate::script::{Kind, Step, step_of};
 use crate::store::{Files, image, image_of};
-use crate::trouble::{Result, Trouble, expect};
+use test_report::trouble::{Result, Trouble, expect};
 use sled::{Batch, Error, Fault, Tree};
 use std::alloc::Global;
 

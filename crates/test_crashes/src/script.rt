@@ -1,6 +1,6 @@
 //! Calls in a row.
 use crate::maps::KEYS;
-use crate::seeds::number;
+use test_report::seeds::number;
 
 /// How many steps a script has.
 pub const STEPS: u64 = 36;

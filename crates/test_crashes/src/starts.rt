@@ -2,7 +2,7 @@
 use crate::maps::Maps;
 use crate::runs::{Run, flush_all, run_script};
 use crate::store::{Disks, Files, into_disks, open};
-use crate::trouble::{Result, Trouble};
+use test_report::trouble::{Result, Trouble};
 use sled_disk::{Disk, MemoryDisk};
 use sled_files::begin_file;
 use sled_log::read_log;

@@ -1,6 +1,6 @@
 //! A database in two files, and what it has, as bytes.
 use crate::maps::{KEYS, Map, Maps, SIDE, key_of, value_of};
-use crate::trouble::{Result, Trouble};
+use test_report::trouble::{Result, Trouble};
 use example_parts::Adds;
 use sled::{DEFAULT_TREE, Db, IVec, Tree};
 use sled_disk::MemoryDisk;

@@ -1,5 +1,5 @@
 //! Pairs of a database in two files whose blocks are brought to the disk in one sync.
-use crate::trouble::{Result, Trouble, expect};
+use test_report::trouble::{Result, Trouble, expect};
 use example_parts::Adds;
 use files_once::{OneSync, open_once};
 use sled::{Db, Error};

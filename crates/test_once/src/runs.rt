@@ -1,7 +1,7 @@
 //! A run whose disks refuse a call, and crash.
 use crate::pairs::{Disks, Files, count, insert, into_disks, open};
-use crate::seeds::crash;
-use crate::trouble::{Result, Trouble, expect};
+use test_report::seeds::crash;
+use test_report::trouble::{Result, Trouble, expect};
 use sled_disk::MemoryDisk;
 use std::alloc::Global;
 

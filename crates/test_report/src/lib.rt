@@ -1,5 +1,12 @@
-//! What programs of tests print, and whether something failed that should not.
+//! What programs of tests print, and whether something failed that should not; and for cases of disks that crash how many passed, why one did
+//! not (`trouble`), and what crashes leave (`seeds`).
 #![tactic(auto)]
+
+pub mod seeds;
+mod tally;
+pub mod trouble;
+
+pub use tally::{Numbered, Tally};
 
 use sled_nodes::{IVec, Result};
 use std::alloc::Global;
