@@ -39,7 +39,7 @@ module _ {P M : Type 0} (store : P → Store) (meant : M → Merge) (old new : D
 
   -- ---- a flush
 
-  flush_rests : (e : Error) → RefusesFlush store meant old new e → Rests (store old.pages) (store new.pages)
+  pub flush_rests : (e : Error) → RefusesFlush store meant old new e → Rests (store old.pages) (store new.pages)
   flush_rests e r = rests_only_faults e (store old.pages) (store new.pages) r.is
 
   pub flush_keeps : (flush_number : P → ℕ) (r : Result ℕ Error) → IfOk r (λ number. FlushesDb store flush_number meant old number new) → IfErr r (RefusesFlush store meant old new) → KeepsMaps store meant old new

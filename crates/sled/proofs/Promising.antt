@@ -44,7 +44,7 @@ put_stays : (k v : Key) (m : Map) → T (is_sorted key_cmp m) → find key_cmp k
 put_stays k v m sorted there =
     sym (same_entries key_cmp key_total key_same (put key_cmp k v m) m (is_sorted-put key_cmp key_total k v m sorted) sorted (find_stays k v m there))
 
-insert_puts : (merge : Option Merge) (k v : Key) (m : Map) → T (is_sorted key_cmp m) → (answer_of merge (Insert k v) m).map ≡ put key_cmp k v m
+pub insert_puts : (merge : Option Merge) (k v : Key) (m : Map) → T (is_sorted key_cmp m) → (answer_of merge (Insert k v) m).map ≡ put key_cmp k v m
 insert_puts merge k v m sorted = go (find key_cmp k m) refl
   where
     over : (old : Key) (b : Bool) → bytes_eq old v ≡ b → find key_cmp k m ≡ Some old → map_after (cond b effect.Nothing (effect.Set v)) k m ≡ put key_cmp k v m
