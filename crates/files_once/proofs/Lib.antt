@@ -1,3 +1,4 @@
 pub mod Alike
 pub mod Refusals
 pub mod Whole
+pub mod Meanwhile

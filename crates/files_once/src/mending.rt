@@ -1,14 +1,14 @@
 //! A file of a store that a crash may have torn is made whole.
 ghost use Rattle.std.specs.Prelude.{◌≡◌, ◌⊎◌, ◌↔◌, ◌∷◌, [], ◌++◌, ℕ, List, true, false, take, IsTrue, IfOk, IfErr, OnOk, Ok};
-ghost use Rattle.sled_disk.specs.Disk.{Only, HasCause};
+ghost use Rattle.sled_disk.specs.Disk.{Only, LeavesOnly, HasCause};
 ghost use Rattle.sled_disk.specs.declared.disk.DiskError.TheVariants.{NoMemory};
 ghost use Rattle.sled_log.specs.Digest.{digest};
 ghost use Rattle.sled_log.specs.Log.{closed, log_of};
 ghost use Rattle.sled_log.specs.Tear.{log_to_tear};
 ghost use Rattle.sled_files.specs.Header.{magic, header};
-ghost use Rattle.files_once.specs.Mended.{IsOfStore, BeginsAsStore, IsMended};
+ghost use Rattle.files_once.specs.Mended.{IsOfStore, BeginsAsStore, IsMended, LeftMeanwhile};
 
-use sled_disk::{Disk, DiskError, Result};
+use sled_disk::{Disk, DiskError, Result, law_only_now};
 use sled_log::{mend, read_all, read_to_tear};
 use std::alloc::Global;
 
@@ -86,8 +86,11 @@ pub fn mend_store<D: Disk>(alloc: Global, disk: &mut D) -> Result<bool>
     // A file of anything else is not changed.
     ensures kept { IfOk result (λ is. is ≡ true → BeginsAsStore (D.seen disk.old)) }
     ensures durable { OnOk result (Only (D.seen disk.new) (D.may_leave disk.new)) }
+    // A crash at any moment of the call leaves what it might have left before, or a file that is read as this one was.
+    ensures any_moment { LeavesOnly D.moment D.left_since disk.old disk.new (LeftMeanwhile (D.may_leave disk.old) (D.seen disk.old)) }
     ensures cause { HasCause (D.faults disk.old) (D.faults disk.new) result }
 {
+    law_only_now(disk);
     disk.sync()?;
     let bytes = read_all(disk, alloc)?;
     let is_torn = is_torn(alloc, &bytes)?;

@@ -1,20 +1,22 @@
 //! A store is opened in two files whose blocks are brought to the disk in one sync.
-ghost use Rattle.std.specs.Prelude.{◌≡◌, ℕ, false, List, IfOk, IfErr, OnOk};
+ghost use Rattle.std.specs.Prelude.{◌≡◌, ◌+◌, ℕ, false, List, IfOk, IfErr, OnOk};
 ghost use Rattle.sled_store.specs.Store.{Store};
-ghost use Rattle.sled_disk.specs.Disk.{Only};
+ghost use Rattle.sled_disk.specs.Disk.{Only, LeavesOnly, HasCause};
 ghost use Rattle.sled_pages.specs.Memory.{empty_store};
 ghost use Rattle.sled_files.specs.Change.{Durable};
 ghost use Rattle.sled_files.specs.Standing.{AreFor, AreBlank};
-ghost use Rattle.sled_files.specs.Lasting.{Limits};
+ghost use Rattle.sled_files.specs.Lasting.{Limits, AreLimits};
 ghost use Rattle.sled_files.specs.Laws.{GoesOn};
-ghost use Rattle.sled_files.specs.Opening.{IsReopened, OpensTo, AreOpenable, is_refusal, is_why_closed};
+ghost use Rattle.sled_files.specs.Opening.{IsReopened, OpensTo, AreOpenable, IsTold, IsFresh, is_refusal, is_why_closed};
+ghost use Rattle.sled_files.specs.Flaws.{is_flaw};
+ghost use Rattle.sled_files.specs.declared.found.OpenError.{OpenError};
 ghost use Rattle.sled_files.specs.Stored.{stored_as};
 ghost use Rattle.sled_once.specs.Once.{bytes_of, outcomes_of};
-ghost use Rattle.files_once.specs.Mended.{IsMended};
+ghost use Rattle.files_once.specs.Mended.{IsMended, LeftMeanwhile};
 ghost use Rattle.files_once.specs.Lasting.{AreReadFor, AreReadLasting, LastsAsRead, MendedLasts, OpensMended, IsWhyUnmended};
 
 use crate::mending::mend_store;
-use sled_disk::{Disk, DiskError};
+use sled_disk::{Disk, DiskError, law_only_now};
 use sled_files::{FilePages, NotOpened, OpenError, law_lasts, law_opened_goes_on};
 use sled_once::{OneSync, law_read_as_left};
 use std::alloc::Global;
@@ -40,7 +42,12 @@ pub fn mend_both<D: Disk>(alloc: Global, first: &mut D, second: &mut D) -> sled_
     ensures same { IfOk result (λ is. is ≡ false → (D.seen first.new ≡ D.seen first.old) × (D.seen second.new ≡ D.seen second.old)) }
     ensures first_durable { OnOk result (Only (D.seen first.new) (D.may_leave first.new)) }
     ensures second_durable { OnOk result (Only (D.seen second.new) (D.may_leave second.new)) }
+    // A crash at any moment of the call leaves of each what it might have left before, or a file that is read as it was.
+    ensures first_any_moment { LeavesOnly D.moment D.left_since first.old first.new (LeftMeanwhile (D.may_leave first.old) (D.seen first.old)) }
+    ensures second_any_moment { LeavesOnly D.moment D.left_since second.old second.new (LeftMeanwhile (D.may_leave second.old) (D.seen second.old)) }
+    ensures cause { HasCause (D.faults first.old + D.faults second.old) (D.faults first.new + D.faults second.new) result }
 {
+    law_only_now(second);
     let is_first = mend_store(alloc, first)?;
     let is_second = mend_store(alloc, second)?;
     Ok(is_first || is_second)
@@ -95,7 +102,13 @@ pub fn open_mended<D: Disk>(
     // Of what files stand for, they stand for nothing else.
     ensures recovers { IfOk result (λ f. (d : Durable) → AreFor (D.seen first) (D.seen second) d → IsReopened d (stored_as f)) }
     ensures begins { IfOk result (λ f. AreBlank (D.seen first) (D.seen second) → stored_as f ≡ empty_store) }
+    // The limits are those of the files, and nothing was asked of it yet.
+    ensures limits { IfOk result (λ f. (d : Durable) → AreFor (D.seen first) (D.seen second) d → AreLimits f.limits d) }
+    ensures fresh { IfOk result IsFresh }
     ensures err { IfErr result (λ x. is_why_closed x.error (D.seen first) (D.seen second)) }
+    // And if something is wrong with them, the error says it, unless a disk refuses a call or there is no memory.
+    ensures sound { IfOk result (λ _. (e : OpenError) → is_flaw e (D.seen first) (D.seen second) → ⊥) }
+    ensures told { IfErr result (λ x. (e : OpenError) → is_flaw e (D.seen first) (D.seen second) → IsTold e x.error) }
     // If they stand for a store, or for one that is still to be made, it is refused for want of memory or by a disk alone.
     ensures refused { IfErr result (λ x. AreOpenable (D.seen first) (D.seen second) → is_refusal x.error) }
 {
@@ -144,6 +157,7 @@ pub fn open_once<D: Disk>(
     // So of files that a crash left in one sync it goes on from the store, as after two syncs.
     ensures goes_on { IfOk result (λ f. (asked : List ℕ) (limits : Limits) (s : Store) → AreReadLasting asked limits s (D.seen first) (D.seen second) → GoesOn asked limits s (stored_as f)) }
     ensures begins { IfOk result (λ f. AreBlank (D.seen first) (D.seen second) → stored_as f ≡ empty_store) }
+    ensures fresh { IfOk result IsFresh }
     ensures err { IfErr result (λ x. IsWhyUnmended (D.seen first) (D.seen second) x.error) }
     // And it is refused for want of memory or by a disk alone.
     ensures refused { IfErr result (λ x. (d : Durable) → AreReadFor (D.seen first) (D.seen second) d → is_refusal x.error) }

@@ -1,5 +1,5 @@
 -- How far a block has come that is brought to the disk in one sync, and what the disk has meanwhile.
-use Rattle.std.specs.Prelude.{◌≡◌, ◌⊎◌, ◌+◌, ◌<◌, ◌^◌, ℕ, Bool, true, List, [], ◌∷◌, length, drop, Some, Ok}
+use Rattle.std.specs.Prelude.{◌≡◌, ◌⊎◌, ◌+◌, ◌<◌, ◌^◌, ℕ, Bool, true, false, List, [], ◌∷◌, length, drop, Some, Ok}
 use Rattle.sled_disk.specs.Disk.{written, Torn, Only, NoMore}
 use Rattle.sled_log.specs.Digest.{digest}
 use Rattle.sled_log.specs.Log.{opened, next_of, IsLog}
@@ -59,6 +59,11 @@ IsTold (Held gate block) c = Unit {0}
 IsTold (Opened gate block) c = IsToldAt gate block.items c
 IsTold (TornOff gate block) c = IsToldAt gate block.items c
 IsTold Stopped c = Unit {0}
+
+-- whether no block is under way
+abbrev pub is_through : Stage → Bool
+is_through (Through end synced) = true
+is_through _ = false
 
 -- no block is under way: the disk has what the calls made of it
 pub record IsThrough {D : Type 0} (seen : D → List ℕ) (may_leave : D → List ℕ → Type 0) (end : End) (synced : Bool) (disk : D) (calls : List Event) : Type 0 where

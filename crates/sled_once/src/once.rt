@@ -1,11 +1,11 @@
 //! A disk that brings a block and its gate to another one in one sync.
-ghost use Rattle.std.specs.Prelude.{◌≡◌, ◌≤◌, ◌+◌, ℕ, List, length, IfOk, IfErr, [], ◌∷◌};
+ghost use Rattle.std.specs.Prelude.{◌≡◌, ◌≤◌, ◌+◌, ◌&&◌, ℕ, List, false, length, IfOk, IfErr, [], ◌∷◌};
 ghost use Rattle.std.proofs.Common.{inl, refl};
-ghost use Rattle.sled_disk.specs.Disk.{Only, HasCause, is_caused};
+ghost use Rattle.sled_disk.specs.Disk.{Only, NoMore, HasCause, is_caused};
 ghost use Rattle.sled_host.specs.Event.{opened};
 ghost use Rattle.sled_host.specs.Outcomes.{seen_after_all, MayLeave, LeftSince};
 ghost use Rattle.sled_once.specs.Once.{Once, LeavesAsRead};
-ghost use Rattle.sled_once.specs.Stages.{Stands};
+ghost use Rattle.sled_once.specs.Stages.{Stands, EndsAs, is_through};
 
 use crate::holding::end_found;
 use crate::stage::{End, Stage};
@@ -45,6 +45,32 @@ impl<D: Disk> Model for OneSync<D> {
     ghost invariant = { λ f. Stands D.seen D.may_leave f.stage f.disk f.noted.events };
 }
 
+// What is known of where the log of a file ends that has these bytes, and a record of its opening.
+fn found_in(alloc: Global, bytes: &[u8]) -> (End, Record)
+    ensures end { EndsAs result.0 bytes.now }
+    ensures noted { result.1.events ≡ opened false bytes.now ∷ [] }
+{
+    let end = end_found(alloc, bytes);
+    (end, Record::new().and(&Call::Opened(false, bytes)))
+}
+
+// The same of the file on a disk, which is read if the disk does not lend it.
+fn found_on<D: Disk>(alloc: Global, disk: &mut D) -> Result<(End, Record)>
+    ensures end { IfOk result (λ found. EndsAs found.0 (D.seen disk.new)) }
+    ensures noted { IfOk result (λ found. found.1.events ≡ opened false (D.seen disk.new) ∷ []) }
+    ensures seen { D.seen disk.new ≡ D.seen disk.old }
+    ensures crash { NoMore (D.may_leave disk.old) (D.may_leave disk.new) }
+    ensures cause { HasCause (D.faults disk.old) (D.faults disk.new) result }
+{
+    if let Some(bytes) = disk.lent() {
+        return Ok(found_in(alloc, bytes));
+    }
+    let bytes = read_all(disk, alloc)?;
+    let found = found_in(alloc, &bytes);
+    drop(bytes);
+    Ok(found)
+}
+
 impl<D: Disk> OneSync<D> {
     ghost use Rattle.sled_once.specs.Once.{bytes_of, outcomes_of};
 
@@ -68,13 +94,10 @@ impl<D: Disk> OneSync<D> {
         if let Err(e) = disk.sync() {
             return Err((disk, e));
         }
-        let bytes = match read_all(&mut disk, alloc) {
-            Ok(bytes) => bytes,
+        let (end, noted) = match found_on(alloc, &mut disk) {
+            Ok(found) => found,
             Err(e) => return Err((disk, e)),
         };
-        let end = end_found(alloc, &bytes);
-        let noted = Record::new().and(&Call::Opened(false, &bytes));
-        drop(bytes);
         Ok(OneSync {
             alloc,
             disk,
@@ -133,6 +156,8 @@ impl<D: Disk> Disk for OneSync<D> {
 
     ghost faults = { λ f. D.faults f.disk + f.refused };
 
+    ghost lends = { λ f. is_through f.stage && D.lends f.disk };
+
     ghost counts_now = { λ f t c le left. counts f.calls t c le left };
 
     ghost only_now = { λ f c left. only f.calls c left };
@@ -168,7 +193,10 @@ impl<D: Disk> Disk for OneSync<D> {
     }
 
     fn lent(&self) -> Option<&[u8]> {
-        None
+        match &self.stage {
+            Stage::Through(_, _) => self.disk.lent(),
+            _ => None,
+        }
     }
 
     fn write_at(&mut self, at: usize, bytes: &[u8]) -> Result<()> {

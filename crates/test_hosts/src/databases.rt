@@ -4,20 +4,22 @@ use sled::{Db, IVec};
 use sled_disk::{Disk, DiskError};
 use sled_files::FilePages;
 use sled_host::{HostError, HostFile, Opening, Pair, open_pair};
-use sled_log::{append, block_of, write_through};
+use sled_log::{append, block_of};
 use sled_path::{OpenError, open_with};
 use std::alloc::Global;
 use std::io::ErrorKind;
 
-const NAME: &[u8] = b"test_hosts";
+/// The name of each database.
+pub const NAME: &[u8] = b"test_hosts";
 
-// The header of a file of a store in format 2, in the first generation.
-const FORMAT_2: [u8; 20] = *b"donnavek\x02\0\0\0\x01\0\0\0\0\0\0\0";
+/// The header of a file of a store in format 2, in the first generation.
+pub const FORMAT_2: [u8; 20] = *b"donnavek\x02\0\0\0\x01\0\0\0\0\0\0\0";
 
-type Files = Db<FilePages<HostFile>, Adds>;
+/// A database in the files of a folder.
+pub type Files = Db<FilePages<HostFile>, Adds>;
 
-// Puts a pair into the database, and brings it to the disk.
-fn put(db: &mut Files) -> sled::Result<()> {
+/// Puts a pair into the database, and brings it to the disk.
+pub fn put(db: &mut Files) -> sled::Result<()> {
     let tree = db.default_tree()?;
     let put = db.insert(&tree, b"ulm", b"21");
     drop(tree);
@@ -81,8 +83,8 @@ pub fn tell_database(rt: &HostRuntime, path: &str, opening: Opening) {
 // Writes over one byte of a file, and brings it to the disk.
 fn spoil_file(file: &mut HostFile, at: usize) -> Result<(), DiskError> {
     if at < file.len()? {
-        file.sync()?;
-        write_through(file, at, b"?")
+        file.write_at(at, b"?")?;
+        file.sync()
     } else {
         Err(DiskError::Failed)
     }
@@ -107,8 +109,8 @@ pub fn spoil(rt: &HostRuntime, path: &str, opening: Opening, at: usize) -> Resul
 // Makes of a file without a byte one of a store in format 2.
 fn write_format_2(alloc: Global, file: &mut HostFile) -> Result<(), DiskError> {
     let block = block_of(alloc, &FORMAT_2)?;
+    file.write_at(0, &[0])?;
     file.sync()?;
-    write_through(file, 0, &[0])?;
     append(file, 0, &block)
 }
 

@@ -5,6 +5,7 @@
 
 mod act;
 mod databases;
+mod refused;
 
 use act::Act;
 use databases::{make_format_2, spoil, tell_database};
@@ -121,6 +122,7 @@ fn tell_other(rt: &HostRuntime) -> io::Result<()> {
 
 // A database is opened again with what was brought to the disk, and once as long as one of its files is held, locked if that can be.
 fn tell_databases(rt: &HostRuntime) {
+    tell_database(rt, "nowhere/people", USUAL);
     tell_database(rt, "people", AS_IS);
     tell_database(rt, "people", USUAL);
     tell_database(rt, "people", AS_IS);
@@ -175,5 +177,6 @@ fn main(rt: HostRuntime) -> io::Result<()> {
     tell_databases(&rt);
     tell_decayed(&rt);
     tell_format(&rt);
-    tell_as_is(&rt)
+    tell_as_is(&rt)?;
+    refused::tell_all(&rt)
 }
