@@ -248,11 +248,16 @@ impl<M: MergeOperator> Bench<M> {
             Workload::Follows => return Ok((1, self.follow()?)),
             _ => {}
         }
+        Ok((calls, self.turns(workload, calls)?))
+    }
+
+    // Makes the call of each turn: a checksum of their answers.
+    fn turns(&mut self, workload: Workload, calls: u64) -> Result<u64> {
         let mut sum = 0u64;
         for turn in 0..calls {
             sum = sum.rotate_left(1) ^ self.turn(workload, turn)?;
         }
-        Ok((calls, sum))
+        Ok(sum)
     }
 
     // Makes the call of this turn.

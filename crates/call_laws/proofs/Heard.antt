@@ -1,6 +1,6 @@
 -- What a subscriber hears of one call, and of calls one after the other, by what they make of the state.
 use Rattle.std.proofs.Common.{◌≡◌, ◌∙◌, ℕ, ◌≤◌, Bool, true, false, cond, ◌&&◌, not, List, [], ◌∷◌, ◌++◌, Option, Some, None, option_map, refl, sym, ap, subst, ◌⊎◌, inl, inr, arith}
-use Rattle.std.specs.Prelude.{map}
+use Rattle.std.specs.Prelude.{map, is_none}
 use Rattle.std.specs.Option.{option_to_list}
 use Rattle.std.specs.Str.{bytes_eq}
 use Rattle.std.proofs.lemmas.List.{map-append}
@@ -12,11 +12,11 @@ use Rattle.sled_store.specs.Update.{put_name}
 use Rattle.sled_store.specs.theory.Facts.{same_name, name_itself}
 use Rattle.sled_model.specs.Answer.{answer_of}
 use Rattle.sled_model.specs.Maps.{Maps, Merge}
-use Rattle.sled_model.specs.State.{State, NamedTree, CallInFlight, Queue, maps_of, after_decision_on, after_decision}
+use Rattle.sled_model.specs.State.{State, NamedTree, CallInFlight, Queue, maps_of, after_decision_on}
 use Rattle.sled_model.specs.Refusal.{ToPoint, MustRefuse, IsForeign, IsDropped, HasNoOperator, first_of, is_number, must_refuse, needs_operator, has_operator}
-use Rattle.sled_model.specs.Groups.{Write, call_of_write, call_with, answer_of_write, after_write_on, after_write, after_writes, events_of_write, events_of_writes, tag_of, Closes}
+use Rattle.sled_model.specs.Groups.{Write, call_with, after_write_on, after_writes, events_of_write, events_of_writes, Closes}
 use Rattle.sled_model.specs.Imports.{Part, OpensName, Puts, does_part_as, DoesParts, NoPart, OnePart}
-use Rattle.sled_model.specs.Whole.{DecidesPoint, SetsOperator, OpensTree, number_opened, state_opened, maps_opened}
+use Rattle.sled_model.specs.Whole.{DecidesPoint, SetsOperator, OpensTree, number_opened, state_opened, maps_if}
 use Rattle.sled_model.specs.Transition.{Configuration, transition_as, Decide}
 use Rattle.sled_model.specs.declared.call.Call.{Call}
 use Rattle.sled_model.specs.declared.call.Call.TheVariants.{Insert}
@@ -30,6 +30,7 @@ use Rattle.sled_model.specs.declared.outcome.Step.{Step}
 use Rattle.sled_model.specs.declared.outcome.Step.TheVariants as step
 use Rattle.sled_model.specs.declared.outcome.Outcome.{Outcome}
 use Rattle.sled_model.specs.declared.outcome.Outcome.TheVariants as outcome
+use Rattle.sled_model.proofs.Shapes.{after_decision, after_write, answer_of_write, call_of_write, tag_of}
 use Rattle.sled_queues.specs.Events.{Turn, Comes, after_turns, taken_by, Stays}
 use Rattle.sled_queues.specs.Turns.{turns_of_event, turns_of_call, turns_of_part, turns_of_parts, turns_of_events, turns_of, told_at, gives_up}
 use Rattle.sled_queues.specs.Trees.{AreNumbered, drops, IsTreeAfter}
@@ -221,9 +222,9 @@ module _ (x : Store) where
   opened None s name here =
       let a : State = record s { is_open = true } in
       let b : State = state_opened None a name in
-      let d : OpensTree a name (reply.Tree (record { database = a.name; name = name; number = number_opened (a.trees name) a })) b (maps_opened (a.trees name) b) = record { free = refl; replies = refl; is = ap (λ o. state_opened o a name) (sym here); added = refl } in
+      let d : OpensTree a name (reply.Tree (record { database = a.name; name = name; number = number_opened (a.trees name) a })) b (maps_if (is_none (a.trees name)) b) = record { free = refl; replies = refl; is = ap (λ o. state_opened o a name) (sym here); added = refl } in
       as_open s (state_opened None s name) [] nothing_told all_kept all_stay (λ o. o)
-      (when (λ n. refl) (λ n k. refl) (λ name k. refl) (by_step (at a) (step.Whole (OpenTree name)) (outcome.Decided (reply.Tree (record { database = a.name; name = name; number = number_opened (a.trees name) a }))) (at b) (maps_opened (a.trees name) b) d))
+      (when (λ n. refl) (λ n k. refl) (λ name k. refl) (by_step (at a) (step.Whole (OpenTree name)) (outcome.Decided (reply.Tree (record { database = a.name; name = name; number = number_opened (a.trees name) a }))) (at b) (maps_if (is_none (a.trees name)) b) d))
 
   part : (a : State) (p : Part) (b : State) (maps : List Maps) (d : does_part_as a p b maps) → Heard a b (turns_of_part a p b maps d) nothing_told all_kept all_stay
   part a (OpensName name) b maps d = told_again a (state_opened (a.trees name) a name) b [] nothing_told all_kept all_stay d.0 (opened (a.trees name) a name refl)

@@ -9,7 +9,7 @@ use Rattle.sled_store.specs.State.{nodes_of}
 use Rattle.sled_store.specs.Store.{Store, now}
 use Rattle.sled_model.specs.Answer.{key_of}
 use Rattle.sled_model.specs.Maps.{Merge}
-use Rattle.sled_model.specs.Refusal.{MustRefuse, ToStep, ToPoint, must_refuse, may_refuse_as, TellsTurns, turns_limit}
+use Rattle.sled_model.specs.Refusal.{MustRefuse, ToStep, ToPoint, must_refuse, may_refuse_as, TellsTurns, turns_limit, cause_of}
 use Rattle.sled_model.specs.State.{State, CallInFlight, IsOnKey, range_of}
 use Rattle.sled_model.specs.declared.call.Call.{Call}
 use Rattle.sled_model.specs.declared.tree.Tree.{Tree}
@@ -102,7 +102,7 @@ module _ {P M : Type 0} (store : P → Store) (meant : M → Merge) where
       let k = (flies.step.steps (everywhere f) 0 0 0 0 refl).is.0 in
       ap (λ (z : CallInFlight). z.turns) (some_is k.here) ∙ go (state_of store meant b (everywhere f) 0) (store b.pages) (store c.pages) k.flying e (must_refuse (state_of store meant b (everywhere f) 0) (ToStep k.flying)) tells k.may.is
     where
-      go : (s : State) (x y : Store) (f : CallInFlight) (e : Error) (o : Option MustRefuse) → TellsTurns e → may_refuse_as o s x y (ToStep f) e → f.turns ≡ turns_limit
+      go : (s : State) (x y : Store) (f : CallInFlight) (e : Error) (o : Option MustRefuse) → TellsTurns e → may_refuse_as o (cause_of s x y (ToStep f)) e → f.turns ≡ turns_limit
       go s x y f (error.ReportableBug text) None tells t = t.1
       go s x y f e (Some must) tells t = absurd (untold_turns (Some must) e t tells)
       go s x y f other None tells t = absurd tells
@@ -211,7 +211,7 @@ module _ {P M : Type 0} (store : P → Store) (meant : M → Merge) where
     ];
   }
     where
-      told : (s : State) (x y : Store) (e : Error) (o : Option MustRefuse) → o ≢ None → TellsTurns e → may_refuse_as o s x y (ToPoint tree call) e → ⊥
+      told : (s : State) (x y : Store) (e : Error) (o : Option MustRefuse) → o ≢ None → TellsTurns e → may_refuse_as o (cause_of s x y (ToPoint tree call)) e → ⊥
       told s x y e None off tells t = off refl
       told s x y e (Some must) off tells t = untold_turns (Some must) e t tells
 

@@ -16,8 +16,9 @@ use Rattle.sled_model.specs.Answer.{answer_of}
 use Rattle.sled_model.specs.Collections.{Content}
 use Rattle.sled_model.specs.Imports.{Part, OpensName, Puts, puts_of, parts_of, DoesPart, DoesParts, NoPart, OnePart}
 use Rattle.sled_model.specs.State.{State, NamedTree, maps_of}
-use Rattle.sled_model.specs.Whole.{new_tree, state_opened}
+use Rattle.sled_model.specs.Whole.{state_opened}
 use Rattle.sled_model.specs.declared.call.Call.TheVariants.{Insert}
+use Rattle.sled_model.proofs.Shapes.{new_tree}
 use Rattle.tree_laws.specs.Contents.{trees_of}
 use Rattle.sled.specs.Values.{DbValue, db_state, numbers_of, named}
 use Rattle.sled.specs.Sound.{IsDb, MapsAscend}

@@ -15,7 +15,7 @@ use Rattle.sled_store.specs.theory.Facts.{put_name_here, put_name_elsewhere}
 use Rattle.sled_store.specs.Store.{Store}
 use Rattle.sled_nodes.specs.declared.error.Error.{Error}
 use Rattle.sled_model.specs.Maps.{Map, Merge}
-use Rattle.sled_model.specs.Answer.{answer_of, map_after, effect_of_write, same_value}
+use Rattle.sled_model.specs.Answer.{answer_of, map_after, effect_of_write}
 use Rattle.sled_model.specs.State.{State, NamedTree, maps_of}
 use Rattle.sled_model.specs.Refusal.{has_operator}
 use Rattle.sled_model.specs.Whole.{DecidesPoint, RefusesPoint}
@@ -26,6 +26,7 @@ use Rattle.sled_model.specs.declared.decision.Effect.TheVariants as effect
 use Rattle.sled_model.specs.declared.reply.Reply.{Reply}
 use Rattle.sled_model.specs.declared.reply.Reply.TheVariants.{Swapped}
 use Rattle.sled_model.specs.declared.tree.Tree.{Tree}
+use Rattle.sled_model.proofs.Shapes.{same_value}
 use Rattle.sled.specs.Values.{DbValue, db_state, named}
 use Rattle.sled.specs.Reads.{ReadsMap}
 use Rattle.sled.specs.Fetch.{Closure, FetchDecided, FetchRefused}

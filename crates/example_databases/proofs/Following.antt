@@ -13,13 +13,15 @@ use Rattle.tree_reads.specs.Prefixes.{IsBytes}
 use Rattle.tree_reads.specs.Ranges.{Coming}
 use Rattle.sled.specs.Reads.{ReadsMap, BeginsWith}
 use Rattle.sled.specs.Values.{DbValue}
-use Rattle.sled_model.specs.Backlog.{Backlog, no_backlog, comes, next_of, after_next, queue_limit, most_missed}
+use Rattle.sled_store.specs.Update.{put_at}
+use Rattle.sled_model.specs.Backlog.{Backlog, no_backlog, comes, next_of, after_next, queue_limit}
 use Rattle.sled_model.specs.Maps.{Map, Merge}
 use Rattle.sled_model.specs.Queues.{backlog_in, waiting_in, without_next}
 use Rattle.sled_model.specs.Answer.{key_of, decision_of, map_after, event_of}
 use Rattle.sled_model.specs.Refusal.{IsClosed, IsDropped, foreign_test, is_number, must_refuse_of}
 use Rattle.sled_model.specs.State.{State, NamedTree, Queue, matches, queues_after}
-use Rattle.sled_model.specs.Whole.{TakesNext, Watches, DecidesPoint, GivesUpQueue}
+use Rattle.sled_model.specs.Whole.{TakesNext, Watches, DecidesPoint}
+use Rattle.sled_model.specs.Ids.{greatest_of_all}
 use Rattle.sled_model.specs.declared.call.Call.{Call}
 use Rattle.sled_model.specs.declared.decision.Effect.{Effect}
 use Rattle.sled_model.specs.declared.decision.Effect.TheVariants.{Nothing, Set}
@@ -386,16 +388,20 @@ none_late : (o : Option Event) (es : List Event) → option_to_list o ++ es ≡ 
 none_late None es e = refl
 none_late (Some x) es e = absurd cc
 
+-- a subscriber has no queue any more
+abbrev GivesUpQueue : State → ℕ → State → Type 0
+GivesUpQueue old n new = new ≡ record old { queues = put_at old.queues n None }
+
 module _ (old : State) (i : EndingsValue) (mid new : State) (j : EndingsValue) (b : BeginsIndex mid i.tree i.prefix j) (w : Watches old i.tree i.prefix j.subscriber mid) (g : GivesUpQueue mid i.subscriber new) where
   trees_kept : new.trees ≡ mid.trees
-  trees_kept = ap (λ (s : State). s.trees) g.is
+  trees_kept = ap (λ (s : State). s.trees) g
 
   -- a subscriber that had a queue is not the new one
   another : IsIndex old i → j.subscriber ≢ i.subscriber
   another f e = none_some (sym w.fresh ∙ ap old.queues e ∙ f.watches)
 
   queue_kept : (n : ℕ) → n ≢ i.subscriber → new.queues n ≡ mid.queues n
-  queue_kept n off = ap (λ (s : State). s.queues n) g.is ∙ put_elsewhere mid.queues i.subscriber n None off
+  queue_kept n off = ap (λ (s : State). s.queues n) g ∙ put_elsewhere mid.queues i.subscriber n None off
 
   pub begins_anew : BeginsAnew old i new j
   begins_anew = record {
@@ -404,7 +410,7 @@ module _ (old : State) (i : EndingsValue) (mid new : State) (j : EndingsValue) (
         ∙ ap (λ o. record j { tree = i.tree; prefix = i.prefix; late = o }) (none_late j.late (waiting_in (mid.queues j.subscriber)) b.none)
         ∙ ap (λ z. record j { tree = i.tree; prefix = i.prefix; late = None; is_lost = z }) (first_false j.is_lost _ b.follows.all);
     begins = λ f. kept_begun mid new i.tree i.prefix j trees_kept (queue_kept j.subscriber (another f)) b;
-    gone = ap (λ (s : State). s.queues i.subscriber) g.is ∙ put_here mid.queues i.subscriber None;
+    gone = ap (λ (s : State). s.queues i.subscriber) g ∙ put_here mid.queues i.subscriber None;
     others = λ n off other. queue_kept n off ∙ ap (λ (s : State). s.queues n) w.is ∙ put_elsewhere old.queues j.subscriber n _ other;
     trees = trees_kept ∙ ap (λ (s : State). s.trees) w.is;
   }
@@ -520,7 +526,7 @@ module _ (old new : State) (tree : Tree) (call : Call) (reply : Reply) (d : Deci
       added : length (b.events ++ e ∷ []) ≤ length b.events + 1
       added = le_of_eq (length-append b.events (e ∷ []))
 
-      go : (t : Bool) → length (cond t (record { missed = min (b.missed + 1) most_missed; events = drop 1 b.events ++ e ∷ [] }) (record b { events = b.events ++ e ∷ [] })).events ≤ length b.events + 1
+      go : (t : Bool) → length (cond t (record { missed = min (b.missed + 1) greatest_of_all; events = drop 1 b.events ++ e ∷ [] }) (record b { events = b.events ++ e ∷ [] })).events ≤ length b.events + 1
       go true = dropped
       go false = added
 
@@ -584,7 +590,7 @@ keeps_both old mid new tree k l = record {
 
 -- the subscriber is ended, and the tree stays
 pub finds_then : (old new : State) (n : ℕ) (tree : Tree) (prefix ending : Key) (found : Map) → GivesUpQueue old n new → FindsInTree old tree prefix ending found → FindsInTree new tree prefix ending found
-finds_then old new n tree prefix ending found g f = record { named = f.named; there = ap (λ (s : State). s.trees tree.name) g.is ∙ f.there; is = f.is }
+finds_then old new n tree prefix ending found g f = record { named = f.named; there = ap (λ (s : State). s.trees tree.name) g ∙ f.there; is = f.is }
 
 pub follows_to_end : (a b c d : State) (tree : Tree) (prefix ending : Key) (i : EndingsValue) (found : Map) (n : ℕ) → BeginsIndex a tree prefix i → KeepsFollowing a tree 2 b
     → (IsIndex b i → FindsInTree c i.tree i.prefix ending found) → GivesUpQueue c n d → FindsInTree d tree prefix ending found

@@ -12,8 +12,9 @@ use Rattle.sled_model.specs.Answer.{answer_of}
 use Rattle.sled_model.specs.Collections.{Content}
 use Rattle.sled_model.specs.Imports.{Part, OpensName, Puts, DoesPart, DoesParts, NoPart, OnePart}
 use Rattle.sled_model.specs.State.{State, NamedTree}
-use Rattle.sled_model.specs.Whole.{new_tree, state_opened}
+use Rattle.sled_model.specs.Whole.{state_opened}
 use Rattle.sled_model.specs.declared.call.Call.TheVariants.{Insert}
+use Rattle.sled_model.proofs.Shapes.{new_tree}
 use Rattle.sled.specs.Values.{DbValue, db_state}
 use Rattle.sled.specs.Imports.{ImportDecided, ImportRefused}
 use Rattle.example_parts.proofs.Keys.{insert_there}

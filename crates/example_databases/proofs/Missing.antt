@@ -3,12 +3,14 @@ use Rattle.std.proofs.Common.{◌≡◌, ◌≤◌, ◌<◌, ◌+◌, ℕ, min, 
 use Rattle.std.proofs.lemmas.Bool.{eq-eqb, eqb-true}
 use Rattle.std.proofs.lemmas.Bool.Decides.{nat_tests}
 use Rattle.std.specs.Option.{option_to_list}
-use Rattle.sled_model.specs.Backlog.{Backlog, comes, next_of, queue_limit, most_missed}
-use Rattle.sled_model.specs.Queues.{backlog_in, next_in, without_next}
+use Rattle.sled_model.specs.Backlog.{Backlog, comes, next_of, queue_limit}
+use Rattle.sled_model.specs.Queues.{backlog_in, without_next}
 use Rattle.sled_model.specs.State.{Queue, matches}
+use Rattle.sled_model.specs.Ids.{greatest_of_all}
 use Rattle.sled_model.specs.declared.event.Event.{Event}
 use Rattle.sled_model.specs.declared.event.Next.{Next}
 use Rattle.sled_model.specs.declared.event.Next.TheVariants as next
+use Rattle.sled_model.proofs.Shapes.{next_in}
 use Rattle.sled_queues.specs.Events.{Turn, Comes, Watches, Takes, Ends, after_turn, after_turns, taken_at, taken_by, brought_at, brought, Stays}
 use Rattle.sled_queues.proofs.Hearing.{turned, turned_tree, turned_prefix, after_one, brought_all}
 
@@ -35,8 +37,8 @@ counted_on m last l e = omega arith
 pub comes_counted : (e : Event) (b : Backlog) → (comes e b).missed ≡ 0 → b.missed ≡ 0
 comes_counted e b = go (nat_le queue_limit (length b.events))
   where
-    go : (t : Bool) → (cond t (record { missed = min (b.missed + 1) most_missed; events = drop 1 b.events ++ e ∷ [] }) (record b { events = b.events ++ e ∷ [] })).missed ≡ 0 → b.missed ≡ 0
-    go true z = counted_on b.missed most_missed (omega arith) z
+    go : (t : Bool) → (cond t (record { missed = min (b.missed + 1) greatest_of_all; events = drop 1 b.events ++ e ∷ [] }) (record b { events = b.events ++ e ∷ [] })).missed ≡ 0 → b.missed ≡ 0
+    go true z = counted_on b.missed greatest_of_all (omega arith) z
     go false z = z
 
 -- .. and where there is room for it, it stays
@@ -50,7 +52,7 @@ comes_fits e b more fits = go (nat_le queue_limit (length b.events)) refl
     longer n m e f = omega arith
 
     made : Bool → Backlog
-    made t = cond t (record { missed = min (b.missed + 1) most_missed; events = drop 1 b.events ++ e ∷ [] }) (record b { events = b.events ++ e ∷ [] })
+    made t = cond t (record { missed = min (b.missed + 1) greatest_of_all; events = drop 1 b.events ++ e ∷ [] }) (record b { events = b.events ++ e ∷ [] })
 
     go : (t : Bool) → nat_le queue_limit (length b.events) ≡ t → ((made t).missed ≡ b.missed) × (length (made t).events + more ≤ queue_limit)
     go true t = absurd (room (length b.events) queue_limit t fits)

@@ -7,10 +7,11 @@ use Rattle.sled_store.specs.theory.Facts.{same_name}
 use Rattle.sled_store.specs.Store.{Store}
 use Rattle.sled_model.specs.Maps.{Merge}
 use Rattle.sled_model.specs.State.{State, NamedTree, maps_of}
-use Rattle.sled_model.specs.Whole.{state_opened, new_tree}
+use Rattle.sled_model.specs.Whole.{state_opened}
 use Rattle.sled_model.specs.declared.call.Whole.TheVariants.{OpenTree}
 use Rattle.sled_model.specs.declared.reply.Reply.TheVariants as told
 use Rattle.sled_model.specs.declared.tree.Tree.{Tree}
+use Rattle.sled_model.proofs.Shapes.{new_tree}
 use Rattle.sled.specs.Direct.{WholeDecided}
 use Rattle.sled.specs.Opens.{or_empty, with_tree}
 use Rattle.sled.specs.Values.{DbValue, db_state}

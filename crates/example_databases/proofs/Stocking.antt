@@ -1,5 +1,6 @@
 -- What the calls on a stock make of its two trees, now and after a crash.
 use Rattle.std.proofs.Common.{◌≡◌, ◌≢◌, ℕ, true, false, not, List, [], ◌∷◌, ◌++◌, Option, Some, None, option_map, unwrap_or, sym, refl, ap, ◌∙◌, subst, inl, inr}
+use Rattle.std.specs.Prelude.{is_none}
 use Rattle.std.specs.FinMap.Entries.{find}
 use Rattle.sled_nodes.proofs.Basics.{none_some}
 use Rattle.ordered_keys.specs.Keys.{IsOneToOne}
@@ -15,7 +16,7 @@ use Rattle.sled_model.specs.Maps.{Maps, Merge}
 use Rattle.sled_model.specs.Groups.{writes_on, after_writes, DecidesGroup}
 use Rattle.sled_model.specs.Refusal.{MustRefuse, first_of, must_refuse_of}
 use Rattle.sled_model.specs.State.{State, NamedTree, default_name, maps_of}
-use Rattle.sled_model.specs.Whole.{maps_opened}
+use Rattle.sled_model.specs.Whole.{maps_if}
 use Rattle.sled_model.specs.declared.call.Whole.TheVariants.{OpenTree}
 use Rattle.sled_model.specs.declared.reply.Reply.TheVariants as told
 use Rattle.sled_model.specs.declared.tree.Tree.{Tree}
@@ -91,7 +92,7 @@ module _ {P M : Type 0} (store : P → Store) (meant : M → Merge) where
       -- ---- a tree is opened
 
       module _ (name : Key) where
-        opened_added : (o : Option NamedTree) (maps : List Maps) → maps ≡ maps_opened o (db_state store meant new) → AgreeIn (maps_now store meant new) table index → (x : Maps) → In x maps → AgreeIn x table index
+        opened_added : (o : Option NamedTree) (maps : List Maps) → maps ≡ maps_if (is_none o) (db_state store meant new) → AgreeIn (maps_now store meant new) table index → (x : Maps) → In x maps → AgreeIn x table index
         opened_added (Some t) maps e after = no_maps maps e
         opened_added None maps e after = one_map maps e after
 

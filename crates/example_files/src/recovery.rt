@@ -36,7 +36,7 @@ fn crashed(
 }
 
 /// Makes steps on a machine over a store in two files, crashes both disks, and opens what is left. The numbers choose what each disk
-/// leaves, among all that it may leave. Returns the outcomes of the steps and the database that was found.
+/// leaves, among outcomes that it may leave. Returns the outcomes of the steps and the database that was found.
 pub fn survive<M: MergeOperator>(
     alloc: Global,
     machine: &mut Machine<FilePages<MemoryDisk>, M>,

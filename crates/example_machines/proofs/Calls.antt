@@ -14,7 +14,7 @@ use Rattle.sled_store.specs.Crash.{crash_states}
 use Rattle.tree_laws.specs.Contents.{trees_of}
 use Rattle.tree_laws.proofs.Crashing.{matches_same}
 use Rattle.sled_model.specs.Maps.{Maps, Merge}
-use Rattle.sled_model.specs.State.{State, NamedTree, CallInFlight, call_begun}
+use Rattle.sled_model.specs.State.{State, NamedTree, CallInFlight}
 use Rattle.sled_model.specs.Answer.{answer_of}
 use Rattle.sled_model.specs.Transition.{Configuration, Transition, Decide}
 use Rattle.sled_model.specs.Runs.{RunsBy, NoSteps, OneMore}
@@ -34,6 +34,7 @@ use Rattle.sled.specs.Opens.{IsOnePage}
 use Rattle.tree_laws.specs.Paths.{IsClean}
 use Rattle.sled_model.specs.Refusal.{TellsTurns}
 use Rattle.sled_nodes.specs.declared.error.Error.{Error}
+use Rattle.sled_model.proofs.Shapes.{call_begun}
 use Rattle.machine_alone.proofs.Runs.{model_run}
 use Rattle.example_parts.specs.Reads.{found_in, maps_now}
 use Rattle.example_parts.proofs.Keys.{insert_here, insert_there}
@@ -85,7 +86,7 @@ decides old new slot reply tree call m d =
     (record { was = d.tree; there = d.there; replies = d.replies; is = ap (λ (s : State). s.trees) d.is }))
 
 pub step_told : (old new : Configuration) (slot : ℕ) (o : Outcome) (maps : List Maps) (tree : Tree) (call : Call) → Means old.state.slots slot tree call → Transition old (step.Step slot) o new maps → told_as o old.state.trees new.state.trees tree call
-step_told old new slot outcome.NoSuchSlot maps tree call m s = ap (λ (z : State). z.trees) s.is.0.is
+step_told old new slot outcome.NoSuchSlot maps tree call m s = ap (λ (z : State). z.trees) s.is.0.1
 step_told old new slot outcome.Moved maps tree call m s = ap (λ (z : State). z.trees) s.is.0.is
 step_told old new slot (outcome.Yielded key value) maps tree call m s = ap (λ (z : State). z.trees) s.is.0.is
 step_told old new slot (outcome.Decided reply) maps tree call m s = decides old.state new.state slot reply tree call m s.is.0
@@ -95,7 +96,7 @@ step_told old new slot outcome.Abandoned maps tree call m s = absurd s.is
 
 -- a step of one slot leaves in every slot the call that was there
 pub step_means : (old new : Configuration) (at : ℕ) (o : Outcome) (maps : List Maps) (slot : ℕ) (tree : Tree) (call : Call) → Transition old (step.Step at) o new maps → Means old.state.slots slot tree call → Means new.state.slots slot tree call
-step_means old new at outcome.NoSuchSlot maps slot tree call s m = subst (λ (z : State). Means z.slots slot tree call) (sym s.is.0.is) m
+step_means old new at outcome.NoSuchSlot maps slot tree call s m = subst (λ (z : State). Means z.slots slot tree call) (sym s.is.0.1) m
 step_means old new at outcome.Moved maps slot tree call s m =
     let k = s.is.0 in
     subst (λ (z : State). Means z.slots slot tree call) (sym k.is)

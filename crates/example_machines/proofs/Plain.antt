@@ -11,11 +11,11 @@ use Rattle.sled_nodes.specs.declared.error.Error.{Error}
 use Rattle.sled_nodes.specs.declared.error.Error.TheVariants as error
 use Rattle.sled_model.specs.Maps.{Map, Maps, Merge, IsLeast}
 use Rattle.sled_model.specs.State.{State, CallInFlight, maps_of}
-use Rattle.sled_model.specs.Refusal.{MustRefuse, Asked, ToStep, ToPoint, must_refuse, must_refuse_of}
+use Rattle.sled_model.specs.Refusal.{MustRefuse, Asked, ToStep, ToPoint, must_refuse, must_refuse_of, cause_of_import, may_refuse_as}
 use Rattle.sled_model.specs.Groups.{writes_of, events_of_writes}
 use Rattle.sled_model.specs.Transition.{Configuration, Transition}
 use Rattle.sled_model.specs.Collections.{Content}
-use Rattle.sled_model.specs.Imports.{Part, OpensName, Puts, tree_at, IsAbsent, overwrites_as, refuses_import_as, StopsAtPart}
+use Rattle.sled_model.specs.Imports.{Part, OpensName, Puts, tree_at, HasAt, overwrites_as, StopsAtPart}
 use Rattle.sled_model.specs.Whole.{DecidesPoint, RefusesPoint}
 use Rattle.sled_model.specs.declared.call.Call.{Call}
 use Rattle.sled_model.specs.declared.call.Call.TheVariants.{Insert, Remove}
@@ -265,7 +265,7 @@ module _ {P M : Type 0} (store : P → Store) (meant : M → Merge) where
         same = ap plain unread.same;
       }))
       | inr (inr unput) ↦ inr (inr (record {
-        absent = subst (λ (s : State). IsAbsent s name key) (sym (same_db old)) unput.absent;
+        absent = subst (λ (s : State). HasAt s name key None) (sym (same_db old)) unput.absent;
         refused = subst (λ (s : State). PointRefused store (λ m. m) (plain old) (tree_at s name) (Insert key value) e (plain new)) (sym (same_db old)) (plain_refused old new (tree_at (db_state store meant old) name) (Insert key value) e unput.refused);
       }))
     ];
@@ -291,7 +291,7 @@ module _ {P M : Type 0} (store : P → Store) (meant : M → Merge) where
   plain_imports_not all old e new h = record {
     maps = h.maps;
     refuses = elim h.refuses [
-      | inl (cause, same, none) ↦ inl (subst (λ (s : State). refuses_import_as (must_refuse_of s []) all e) (sym (same_db old)) cause, ap plain same, none)
+      | inl (cause, same, none) ↦ inl (subst (λ (s : State). may_refuse_as (must_refuse_of s []) (cause_of_import all) e) (sym (same_db old)) cause, ap plain same, none)
       | inr stops ↦ inr (plain_import_stops all old e new h.maps stops)
     ];
     acts = h.acts;

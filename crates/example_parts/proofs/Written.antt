@@ -10,10 +10,11 @@ use Rattle.sled_batch.specs.Batch.{Writes}
 use Rattle.sled_store.specs.theory.Facts.{put_name_here}
 use Rattle.sled_model.specs.Maps.{Map, Merge}
 use Rattle.sled_model.specs.Answer.{answer_of, map_after}
-use Rattle.sled_model.specs.Groups.{writes_on, call_with, after_write, after_write_on, after_writes}
+use Rattle.sled_model.specs.Groups.{writes_on, call_with, after_write_on, after_writes}
 use Rattle.sled_model.specs.State.{State, NamedTree}
 use Rattle.sled_model.specs.declared.decision.Effect.TheVariants as effect
 use Rattle.sled_model.specs.declared.tree.Tree.{Tree}
+use Rattle.sled_model.proofs.Shapes.{after_write}
 use Rattle.example_parts.proofs.Keys.{apart, insert_here, insert_there}
 
 -- ---- one write

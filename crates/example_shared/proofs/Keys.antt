@@ -11,10 +11,11 @@ use Rattle.sled_nodes.specs.Order.{Key, key_cmp}
 use Rattle.sled_nodes.specs.Node.{without}
 use Rattle.sled_store.specs.theory.Facts.{same_name, name_itself}
 use Rattle.sled_model.specs.Maps.{Map}
-use Rattle.sled_model.specs.Answer.{map_after, effect_of_write, same_value}
+use Rattle.sled_model.specs.Answer.{map_after, effect_of_write}
 use Rattle.sled_model.specs.declared.decision.Effect.{Effect}
 use Rattle.sled_model.specs.declared.decision.Effect.TheVariants as effect
 use Rattle.sled_model.specs.declared.tree.Tree.{Tree}
+use Rattle.sled_model.proofs.Shapes.{same_value}
 use Rattle.example_parts.proofs.Written.{tied_back}
 use Rattle.example_shared.specs.Places.{is_at}
 

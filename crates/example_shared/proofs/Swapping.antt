@@ -5,11 +5,11 @@ use Rattle.std.specs.FinMap.Entries.{find}
 use Rattle.std.specs.List.{AllByRecursion}
 use Rattle.sled_nodes.proofs.Basics.{false_true}
 use Rattle.sled_nodes.specs.Order.{Key, key_cmp}
-use Rattle.sled_model.specs.Answer.{effect_of_write, same_value}
+use Rattle.sled_model.specs.Answer.{effect_of_write}
 use Rattle.sled_batch.specs.Batch.{Writes}
 use Rattle.sled_store.specs.Update.{put_name}
 use Rattle.sled_store.specs.theory.Facts.{put_name_here}
-use Rattle.sled_model.specs.Groups.{Write, call_of_write, call_with}
+use Rattle.sled_model.specs.Groups.{Write, call_with}
 use Rattle.sled_model.specs.Maps.{Map, Maps}
 use Rattle.sled_model.specs.declared.call.Call.TheVariants.{CompareAndSwap, Insert}
 use Rattle.sled_model.specs.declared.decision.Decision.{Decision}
@@ -18,6 +18,7 @@ use Rattle.sled_model.specs.declared.reply.CompareAndSwapError.{CompareAndSwapEr
 use Rattle.sled_model.specs.declared.reply.Reply.{Reply}
 use Rattle.sled_model.specs.declared.reply.Reply.TheVariants.{Swapped}
 use Rattle.sled_model.specs.declared.tree.Tree.{Tree}
+use Rattle.sled_model.proofs.Shapes.{call_of_write, same_value}
 use Rattle.machine_shared.specs.History.{MakesPoint, makes_as}
 use Rattle.machine_shared.specs.Made.{MadeValue, PointMade, TransactionMade}
 use Rattle.machine_shared.specs.WholeMade.{HasMap, map_with, maps_with_write}

@@ -7,7 +7,7 @@ use Rattle.std.proofs.lemmas.Cmp.{tied_itself}
 use Rattle.sled_nodes.proofs.Basics.{none_some, some_is, false_true, key_total}
 use Rattle.sled_nodes.specs.Order.{Key, key_cmp}
 use Rattle.sled_store.specs.theory.Facts.{name_itself, put_name_here}
-use Rattle.sled_model.specs.Answer.{map_after, same_value}
+use Rattle.sled_model.specs.Answer.{map_after}
 use Rattle.sled_model.specs.Maps.{Map, Maps, IsLeast}
 use Rattle.sled_model.specs.declared.call.Call.TheVariants.{Insert}
 use Rattle.sled_model.specs.declared.decision.Decision.{Decision}
@@ -15,6 +15,7 @@ use Rattle.sled_model.specs.declared.decision.Effect.TheVariants as effect
 use Rattle.sled_model.specs.declared.reply.Reply.{Reply}
 use Rattle.sled_model.specs.declared.reply.Reply.TheVariants.{Pair}
 use Rattle.sled_model.specs.declared.tree.Tree.{Tree}
+use Rattle.sled_model.proofs.Shapes.{same_value}
 use Rattle.machine_shared.specs.History.{MakesPoint, makes_as, IsLegal}
 use Rattle.machine_shared.specs.Made.{MadeValue, PointMade, WholeMade, EntryValue}
 use Rattle.machine_shared.specs.WholeMade.{MakesPop, map_popped}

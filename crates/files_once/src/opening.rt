@@ -84,7 +84,8 @@ fn both_once<D: Disk>(
 }
 
 /// Opens a store in two files that are whole, as `FilePages::open` does, and from then on each block is brought to the disk in one sync. Files
-/// of which one is torn are refused as decayed: `open_once` mends them first, and `mend_both` does that alone.
+/// of which one is torn are refused as decayed: `open_once` mends them first, and `mend_both` does that alone. Whatever refuses it, both
+/// disks come back.
 ///
 /// ```
 /// mend_both(alloc, &mut first, &mut second)?;

@@ -10,7 +10,7 @@ use Rattle.sled_store.specs.theory.Facts.{put_here, put_elsewhere}
 use Rattle.sled_nodes.specs.declared.error.Error.{Error}
 use Rattle.sled_model.specs.Maps.{Maps, Merge}
 use Rattle.sled_model.specs.Answer.{answer_of}
-use Rattle.sled_model.specs.State.{CallInFlight, maps_of, range_of, call_begun}
+use Rattle.sled_model.specs.State.{CallInFlight, maps_of, range_of}
 use Rattle.sled_model.specs.Refusal.{MustRefuse, MayRefuse, must_refuse, may_refuse_as, cause_of, ToBegin, ToStep, turns_limit}
 use Rattle.sled_model.specs.Transition.{Transition}
 use Rattle.sled_model.specs.declared.event.Event.{Event}
@@ -23,6 +23,7 @@ use Rattle.sled_model.specs.declared.outcome.Outcome.{Outcome}
 use Rattle.sled_model.specs.declared.outcome.Outcome.TheVariants as outcome
 use Rattle.sled_model.specs.declared.outcome.Step.{Step}
 use Rattle.sled_model.specs.declared.outcome.Step.TheVariants as step
+use Rattle.sled_model.proofs.Shapes.{call_begun}
 use Rattle.tree_laws.specs.Crashes.{StutterEquivalent}
 use Rattle.tree_laws.specs.Snapshot.{Snapshot}
 use Rattle.tree_laws.specs.Contents.{trees_of}
@@ -102,7 +103,7 @@ module _ {P M : Type 0} (store : P → Store) (number : P → ℕ) (meant : M �
   -- no call has the slot
   pub missing_step : (slot : ℕ) → kept_at v.flights slot ≡ None → MachineStepContract store number meant v (step.Step slot) outcome.NoSuchSlot v
   missing_step slot e = record {
-    step = idle (step.Step slot) outcome.NoSuchSlot v refl (record { is = (record { free = ap (option_map call_in_flight_of) e; is = refl }, refl) }) (λ kept. refl);
+    step = idle (step.Step slot) outcome.NoSuchSlot v refl (record { is = ((ap (option_map call_in_flight_of) e, refl), refl) }) (λ kept. refl);
     sound = record { keeps = λ d. d };
     does = record { is = refl };
     follows = record { is = λ f there. none_some (sym e ∙ there) };
@@ -117,7 +118,7 @@ module _ {P M : Type 0} (store : P → Store) (number : P → ℕ) (meant : M �
 
   pub missing_abandon : (slot : ℕ) → kept_at v.flights slot ≡ None → MachineStepContract store number meant v (step.Abandon slot) outcome.NoSuchSlot v
   missing_abandon slot e = record {
-    step = idle (step.Abandon slot) outcome.NoSuchSlot v refl (record { is = (record { free = ap (option_map call_in_flight_of) e; is = refl }, refl) }) (λ kept. refl);
+    step = idle (step.Abandon slot) outcome.NoSuchSlot v refl (record { is = ((ap (option_map call_in_flight_of) e, refl), refl) }) (λ kept. refl);
     sound = record { keeps = λ d. d };
     does = record { is = refl };
     follows = record { is = tt };
@@ -288,7 +289,7 @@ module _ {P M : Type 0} (store : P → Store) (number : P → ℕ) (meant : M �
   pub begin_untested : (tree : Tree) (call : Call) (e : Error) → MustBeRefused (must_refuse (db_state store meant v.db) (ToBegin tree call)) e → MachineStepContract store number meant v (step.Begin tree call) (outcome.Refused e) v
   begin_untested tree call e tested = begin_refused tree call e (record { is = go (must_refuse (db_state store meant v.db) (ToBegin tree call)) tested.is })
     where
-      go : (o : Option MustRefuse) → must_be_refused_as o e → may_refuse_as o (state_of store meant v.db (slots_of v.flights) v.slots_given) (store v.db.pages) (store v.db.pages) (ToBegin tree call) e
+      go : (o : Option MustRefuse) → must_be_refused_as o e → may_refuse_as o (cause_of (state_of store meant v.db (slots_of v.flights) v.slots_given) (store v.db.pages) (store v.db.pages) (ToBegin tree call)) e
       go None t = absurd t
       go (Some m) t = t
 
@@ -301,7 +302,7 @@ module _ {P M : Type 0} (store : P → Store) (number : P → ℕ) (meant : M �
 
   module _ (tree : Tree) (call : Call) (must : must_refuse (db_state store meant v.db) (ToBegin tree call) ≡ None) where
     pub begin_caused : (e : Error) → cause_of (state_of store meant v.db (slots_of v.flights) v.slots_given) (store v.db.pages) (store v.db.pages) (ToBegin tree call) e → MachineStepContract store number meant v (step.Begin tree call) (outcome.Refused e) v
-    begin_caused e cause = begin_refused tree call e (record { is = subst (λ o. may_refuse_as o (state_of store meant v.db (slots_of v.flights) v.slots_given) (store v.db.pages) (store v.db.pages) (ToBegin tree call) e) (sym must) cause })
+    begin_caused e cause = begin_refused tree call e (record { is = subst (λ o. may_refuse_as o (cause_of (state_of store meant v.db (slots_of v.flights) v.slots_given) (store v.db.pages) (store v.db.pages) (ToBegin tree call)) e) (sym must) cause })
 
     module _ (f : InFlight) (is : f ≡ record { job = record { tree = tree; call = call }; aim = Own; stage = Root; turns = 0 }) (slot : ℕ) (next : slot ≡ v.slots_given + 1) (gs : List (ℕ × InFlight)) (added : (q : ℕ) → kept_at gs q ≡ put_at (kept_at v.flights) slot (Some f) q) where
       pub begun_call : MachineStepContract store number meant v (step.Begin tree call) (outcome.Begun slot) (record v { flights = gs; slots_given = slot })

@@ -4,7 +4,7 @@ use Rattle.sled_nodes.specs.Order.{Key}
 use Rattle.sled_store.specs.Store.{Store}
 use Rattle.sled_model.specs.Maps.{Maps, Merge}
 use Rattle.sled_model.specs.Answer.{answer_of}
-use Rattle.sled_model.specs.Groups.{Write, writes_of, after_write_on, after_write, after_writes}
+use Rattle.sled_model.specs.Groups.{Write, writes_of, after_write_on, after_writes}
 use Rattle.sled_model.specs.Imports.{Part, OpensName, Puts, DoesPart, DoesParts, NoPart, OnePart}
 use Rattle.sled_model.specs.State.{State, NamedTree, after_decision_on}
 use Rattle.sled_model.specs.Transition.{Configuration, transition_as}
@@ -19,6 +19,7 @@ use Rattle.sled_model.specs.declared.outcome.Outcome.TheVariants as outcome
 use Rattle.sled_model.specs.declared.reply.Reply.{Reply}
 use Rattle.sled_model.specs.declared.reply.Reply.TheVariants as told
 use Rattle.sled_model.specs.declared.tree.Tree.{Tree}
+use Rattle.sled_model.proofs.Shapes.{after_write}
 use Rattle.machine_alone.specs.Ids.{id_of, ids_of, RiseBetween}
 use Rattle.machine_alone.specs.Run.{MachineSteps, NoCalls, OneCall}
 use Rattle.machine_alone.specs.Values.{MachineValue, configuration_of}
@@ -89,7 +90,7 @@ whole_rises a b GenerateId (outcome.Decided reply) maps t = one_given a.state.gr
 whole_rises a b (Import collections) (outcome.Decided reply) maps t = at_most _ _ (parts_done t.1.does)
 whole_rises a b (Watch tree prefix) (outcome.Decided reply) maps t = at_most _ _ (ap (λ (s : State). s.greatest_id) t.2.is)
 whole_rises a b (Next subscriber) (outcome.Decided reply) maps t = at_most _ _ (ap (λ (s : State). s.greatest_id) t.2.is)
-whole_rises a b (Unsubscribe subscriber) (outcome.Decided reply) maps t = at_most _ _ (ap (λ (s : State). s.greatest_id) t.1.is)
+whole_rises a b (Unsubscribe subscriber) (outcome.Decided reply) maps t = at_most _ _ (ap (λ (s : State). s.greatest_id) t.1)
 whole_rises a b (Clear tree) (outcome.Refused e) maps t = at_most _ _ (removed tree a.state b.state t.parts maps t.removes)
 whole_rises a b (Group batches) (outcome.Refused e) maps t = elim t.is [
   | inl same ↦ stays a.state b.state same
@@ -109,11 +110,11 @@ step_rises a b (step.Whole w) o maps t = whole_rises a b w o maps t
 step_rises a b (step.Begin tree call) (outcome.Begun slot) maps t = at_most _ _ (ap (λ (s : State). s.greatest_id) t.0.is)
 step_rises a b (step.Begin tree call) (outcome.Refused e) maps t = stays a.state b.state t.1
 step_rises a b (step.Begin tree call) other maps t = absurd t
-step_rises a b (step.Step slot) outcome.NoSuchSlot maps t = stays a.state b.state t.0.is
+step_rises a b (step.Step slot) outcome.NoSuchSlot maps t = stays a.state b.state t.0.1
 step_rises a b (step.Step slot) (outcome.Begun i) maps t = absurd t
 step_rises a b (step.Step slot) outcome.Abandoned maps t = absurd t
 step_rises a b (step.Step slot) other maps t = at_most _ _ (ap (λ (s : State). s.greatest_id) t.0.is)
-step_rises a b (step.Abandon slot) outcome.NoSuchSlot maps t = stays a.state b.state t.0.is
+step_rises a b (step.Abandon slot) outcome.NoSuchSlot maps t = stays a.state b.state t.0.1
 step_rises a b (step.Abandon slot) outcome.Abandoned maps t = at_most _ _ (ap (λ (s : State). s.greatest_id) t.0.is)
 step_rises a b (step.Abandon slot) other maps t = absurd t
 

@@ -11,14 +11,7 @@ use Rattle.machine_alone.specs.Values.{MachineValue}
 pub db_over : {P M : Type 0} (inside old : MachineValue P M) → inside ≡ old → (so : DbValue P M → Type 0) → so inside.db → so old.db
 db_over {P} {M} inside old e so h = subst (λ (m : MachineValue P M). so m.db) e h
 
-module _ {P M A E : Type 0} (store : P → Store) (inside old : MachineValue P M) (e : inside ≡ old) (db : DbValue P M) (made : DbValue P M → A → Type 0) (fails : DbValue P M → E → Type 0) where
-  -- what holds of its database holds of the database
-  pub made_over : (r : Result A E) → IfOk r (made inside.db) → IfOk r (made old.db)
-  made_over r d = subst (λ (m : MachineValue P M). IfOk r (made m.db)) e d
-
-  pub fails_over : (r : Result A E) → IfErr r (fails inside.db) → IfErr r (fails old.db)
-  fails_over r d = subst (λ (m : MachineValue P M). IfErr r (fails m.db)) e d
-
+module _ {P M A E : Type 0} (store : P → Store) (inside : MachineValue P M) (db : DbValue P M) (made : DbValue P M → A → Type 0) (fails : DbValue P M → E → Type 0) where
   -- what the calls in flight know stays true, and none of them moves
   module _ (im : IsMachine (snapshot_of_db store inside.db) inside.flights inside.slots_given)
       (made_knows : (a : A) → made inside.db a → (h : InFlight) → IsKnown (snapshot_of_db store inside.db) h → IsKnown (snapshot_of_db store db) h)

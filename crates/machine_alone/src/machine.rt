@@ -4,7 +4,9 @@ ghost use Rattle.std.specs.Option.{option_map, option_copied};
 ghost use Rattle.sled_nodes.specs.Order.{Key};
 ghost use Rattle.sled_nodes.specs.declared.error.Error.TheVariants.{NoMemory};
 ghost use Rattle.sled_model.specs.Refusal.{must_refuse, ToBegin};
+ghost use Rattle.sled_model.specs.Whole.{RefusesPoint};
 ghost use Rattle.sled_model.specs.declared.call.Call.{Call};
+ghost use Rattle.sled_model.specs.declared.call.Call.TheVariants as call;
 ghost use Rattle.sled_model.specs.declared.outcome.Outcome.TheVariants as outcome;
 ghost use Rattle.sled_model.specs.declared.outcome.Step.TheVariants as step;
 ghost use Rattle.tree_steps.specs.Outcomes.{kept_of};
@@ -65,6 +67,8 @@ impl<P: Pages, M: MergeOperator> Machine<P, M> {
     ghost use Rattle.sled.specs.Values.{db_state, snapshot_of_db};
     ghost use Rattle.sled.specs.Operators.{OperatorSet, OperatorNotSet};
     ghost use Rattle.sled.specs.Fetch.{Stands, FetchDecided, FetchRefused};
+    ghost use Rattle.sled.specs.Promises.{ChangesMap, leaves_as};
+    ghost use Rattle.sled.specs.Written.{Updates, WritesOnTree, RefusesOnTree, WritesOnList, RefusesOnList, LeavesOrFlushes};
     ghost use Rattle.sled.specs.Transactions.{CanTransact, TransactionMade, TransactionNotMade, CanTransactAll, ListMade, ListNotMade, trees_of_list};
     ghost use Rattle.machine_alone.specs.Step.{MachineStep, MachineSound, MachineActs, MachineFollows, MachinePasses, MachineSlots, MachineKeepsTreePages, MachineLeaksNoPage, MachineStepContract};
     ghost use Rattle.machine_alone.specs.Run.{MachineRun, MachineSteps};
@@ -161,6 +165,9 @@ impl<P: Pages, M: MergeOperator> Machine<P, M> {
         requires { (stood : Option Key) → Stands P.store M.meant self.old.db tree.now key.now stood → (shown : _) → option_copied shown ≡ stood → F.pre f shown }
         ensures ok { IfOk result (λ made. (stood : Option Key) × FetchDecided P.store M.meant F.FnMut f self.old.db tree.now key.now stood made self.new.db) }
         ensures err { IfErr result (λ e. FetchRefused P.store M.meant F.FnMut f self.old.db tree.now key.now e self.new.db) }
+        ensures updates { IfOk result (λ made. (stood : Option Key) × ChangesMap P.store M.meant self.old.db tree.now (Updates F.FnMut f key.now stood made) self.new.db) }
+        ensures refuses { IfErr result (λ e. RefusesPoint (db_state P.store M.meant self.old.db) (P.store self.old.db.pages) (P.store self.new.db.pages) tree.now (call.Get key.now) e (db_state P.store M.meant self.new.db)) }
+        ensures leaves { leaves_as P.store M.meant result self.old.db self.new.db }
         ensures same { self.new ≡ record (self.old) { db = self.new.db } }
     {
         self.db.update_and_fetch(tree, key, f)
@@ -177,6 +184,9 @@ impl<P: Pages, M: MergeOperator> Machine<P, M> {
         requires { (stood : Option Key) → Stands P.store M.meant self.old.db tree.now key.now stood → (shown : _) → option_copied shown ≡ stood → F.pre f shown }
         ensures ok { IfOk result (λ stood. (made : Option Key) × FetchDecided P.store M.meant F.FnMut f self.old.db tree.now key.now stood made self.new.db) }
         ensures err { IfErr result (λ e. FetchRefused P.store M.meant F.FnMut f self.old.db tree.now key.now e self.new.db) }
+        ensures updates { IfOk result (λ stood. (made : Option Key) × ChangesMap P.store M.meant self.old.db tree.now (Updates F.FnMut f key.now stood made) self.new.db) }
+        ensures refuses { IfErr result (λ e. RefusesPoint (db_state P.store M.meant self.old.db) (P.store self.old.db.pages) (P.store self.new.db.pages) tree.now (call.Get key.now) e (db_state P.store M.meant self.new.db)) }
+        ensures leaves { leaves_as P.store M.meant result self.old.db self.new.db }
         ensures same { self.new ≡ record (self.old) { db = self.new.db } }
     {
         self.db.fetch_and_update(tree, key, f)
@@ -203,6 +213,9 @@ impl<P: Pages, M: MergeOperator> Machine<P, M> {
         requires { CanTransact P.store M.meant (F.pre f) self.old.db tree.now }
         ensures ok { IfOk (R.answer_of result) (λ answer. TransactionMade P.store P.flush_number M.meant F.Fn R.result_of f self.old.db tree.now answer self.new.db) }
         ensures err { IfErr (R.answer_of result) (λ e. TransactionNotMade P.store P.flush_number M.meant F.Fn R.result_of f self.old.db tree.now e self.new.db) }
+        ensures writes { IfOk (R.answer_of result) (λ answer. WritesOnTree P.store M.meant F.Fn R.result_of f self.old.db tree.now answer self.new.db) }
+        ensures refuses { IfErr (R.answer_of result) (λ e. RefusesOnTree P.store M.meant F.Fn R.result_of f self.old.db tree.now e self.new.db) }
+        ensures leaves { LeavesOrFlushes P.store M.meant self.old.db self.new.db }
         ensures same { self.new ≡ record (self.old) { db = self.new.db } }
     {
         self.db.transaction(tree, f)
@@ -229,6 +242,9 @@ impl<P: Pages, M: MergeOperator> Machine<P, M> {
         requires { CanTransactAll P.store M.meant (F.pre f) self.old.db (trees_of_list trees.now) }
         ensures ok { IfOk (R.answer_of result) (λ answer. ListMade P.store P.flush_number M.meant F.Fn R.result_of f self.old.db (trees_of_list trees.now) answer self.new.db) }
         ensures err { IfErr (R.answer_of result) (λ e. ListNotMade P.store P.flush_number M.meant F.Fn R.result_of f self.old.db (trees_of_list trees.now) e self.new.db) }
+        ensures writes { IfOk (R.answer_of result) (λ answer. WritesOnList P.store M.meant F.Fn R.result_of f self.old.db (trees_of_list trees.now) answer self.new.db) }
+        ensures refuses { IfErr (R.answer_of result) (λ e. RefusesOnList P.store M.meant F.Fn R.result_of f self.old.db (trees_of_list trees.now) e self.new.db) }
+        ensures leaves { LeavesOrFlushes P.store M.meant self.old.db self.new.db }
         ensures same { self.new ≡ record (self.old) { db = self.new.db } }
     {
         self.db.transaction_all(trees, f)
@@ -365,6 +381,18 @@ impl<P: Pages, M: MergeOperator> Machine<P, M> {
             return Outcome::Abandoned;
         }
         Outcome::NoSuchSlot
+    }
+
+    /// How many slots were given so far. The first that is given has the number 1, and each has one more than that before it; so none
+    /// above this number was ever given.
+    ///
+    /// ```
+    /// let given = machine.slots_given(); // 0, until the first call begins.
+    /// ```
+    pub fn slots_given(&self) -> u64
+        ensures { result ≡ self.now.slots_given }
+    {
+        self.slots_given
     }
 
     /// What the call in the slot is to do, if there is one.

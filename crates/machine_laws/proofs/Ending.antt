@@ -105,7 +105,7 @@ module _ {P M : Type 0} (store : P → Store) (number : P → ℕ) (meant : M �
     ])
 
     step_ends : (o : Outcome) (maps : List Maps) → Others → transition_as (configuration_of store number meant a) (step.Step slot) o (configuration_of store number meant b) maps → Comes o
-    step_ends outcome.NoSuchSlot maps others t = none_some (sym t.0.free ∙ ap (option_map call_in_flight_of) there)
+    step_ends outcome.NoSuchSlot maps others t = none_some (sym t.0.0 ∙ ap (option_map call_in_flight_of) there)
     step_ends outcome.Moved maps others t = inl (refl, goes_on _ (ap (λ (s : State). s.slots) t.0.is) (ap (λ (s : State). s.slots_given) t.0.is) others)
     step_ends (outcome.Yielded key value) maps others t =
         let g = flying_there (kept_at a.flights slot) t.0.flying t.0.here in

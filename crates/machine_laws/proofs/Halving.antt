@@ -139,7 +139,7 @@ module _ {P M : Type 0} (store : P → Store) (number : P → ℕ) (meant : M �
         subst (λ (z : InFlight). HasHalves (nodes_of (now (store b.db.pages))) z.stage) more.1 (followed (range_of f.0.job.call) (store a.db.pages) (store b.db.pages) f.0 at.next at.went more.0 at.follows)
 
     stepped : (o : Outcome) (maps : List Maps) → MachineStepContract store number meant a (step.Step q) o b → transition_as (configuration_of store number meant a) (step.Step q) o (configuration_of store number meant b) maps → Has
-    stepped outcome.NoSuchSlot maps k t = free (ap (λ (s : State). s.slots) t.0.is) t.0.free
+    stepped outcome.NoSuchSlot maps k t = free (ap (λ (s : State). s.slots) t.0.1) t.0.0
     stepped outcome.Moved maps k t = follow outcome.Moved k t.0.flying t.0.here t.0.free t.0.fits
     stepped (outcome.Yielded key value) maps k t = follow (outcome.Yielded key value) k t.0.flying t.0.here t.0.free t.0.fits
     stepped (outcome.Decided reply) maps k t = follow (outcome.Decided reply) k t.0.flying t.0.here t.0.free t.0.fits
@@ -148,7 +148,7 @@ module _ {P M : Type 0} (store : P → Store) (number : P → ℕ) (meant : M �
     stepped outcome.Abandoned maps k t = absurd t
 
     abandoned : (o : Outcome) (maps : List Maps) → transition_as (configuration_of store number meant a) (step.Abandon q) o (configuration_of store number meant b) maps → Has
-    abandoned outcome.NoSuchSlot maps t = free (ap (λ (s : State). s.slots) t.0.is) t.0.free
+    abandoned outcome.NoSuchSlot maps t = free (ap (λ (s : State). s.slots) t.0.1) t.0.0
     abandoned outcome.Abandoned maps t = gone None (ap (λ (s : State). s.slots) t.0.is) refl
     abandoned outcome.Moved maps t = absurd t
     abandoned (outcome.Yielded key value) maps t = absurd t

@@ -33,8 +33,9 @@ use Rattle.sled_tree.specs.declared.flight.Went.TheVariants.{Moved, Yielded, Dec
 use Rattle.tree_progress.proofs.Landing.{aims_low}
 use Rattle.move_laws.specs.Among.{bound_behind, SetsOut}
 use Rattle.move_laws.specs.Meant.{Flight, flight}
+use Rattle.tree_scans.proofs.Scanning.{range_up, range_down}
 use Rattle.tree_scans.proofs.Stepping.{same_way}
-use Rattle.tree_scans.specs.Scans.{ScanStep, Gives, Ends, GoesOn, Walks, Lacks, aim_behind, behind, range_from, range_up, range_down, rest_in, rest_of}
+use Rattle.tree_scans.specs.Scans.{ScanStep, Gives, Ends, GoesOn, Walks, Lacks, aim_behind, behind, range_from, rest_in, rest_of}
 use Rattle.sled.specs.Flights.{WalksOn, follows_as, keeps_aim}
 
 abbrev pub flight_of : InFlight → Flight

@@ -9,7 +9,7 @@ use Rattle.sled_nodes.specs.Order.{Key}
 use Rattle.sled_batch.specs.Batch.{Writes}
 use Rattle.sled_store.specs.theory.Facts.{same_name}
 use Rattle.std.specs.declared.ops.Bound.{Bound}
-use Rattle.sled_model.specs.Collections.{Content, content_of, contents_of}
+use Rattle.sled_model.specs.Collections.{Content, contents_of}
 use Rattle.sled_model.specs.declared.call.Call.{Call}
 use Rattle.sled_model.specs.declared.call.Whole.{Whole}
 use Rattle.sled_model.specs.declared.call.Whole.TheVariants.{Flush, PopMin, PopMax, Clear, Group, OpenTree, DropTree, GenerateId, Import, Watch, Next, Unsubscribe}
@@ -19,6 +19,7 @@ use Rattle.sled_model.specs.contracts.call.CallPartialEq.TheImpl as call
 use Rattle.sled_model.specs.contracts.call.WholePartialEq.TheImpl as whole
 use Rattle.sled_model.specs.contracts.reply.ReplyPartialEq.TheImpl as reply
 use Rattle.sled_model.specs.contracts.tree.TreePartialEq.TheImpl as tree
+use Rattle.sled_model.proofs.Shapes.{content_of}
 use Rattle.machine_shared.specs.Made.{PointMade, WholeMade, PartsMade, ReadMade, TransactionMade, made_value, whole_value}
 use Rattle.machine_shared.specs.contracts.entry.MadePartialEq.TheImpl as made
 use Rattle.machine_shared.specs.contracts.read.AnswerPartialEq.TheImpl as answer

@@ -6,13 +6,14 @@ use Rattle.sled_nodes.specs.Order.{Key}
 use Rattle.sled_store.specs.In.{In}
 use Rattle.sled_store.specs.Update.{put_at}
 use Rattle.sled_model.specs.Maps.{Maps}
-use Rattle.sled_model.specs.State.{State, CallInFlight, IsOnKey, call_begun, range_of}
+use Rattle.sled_model.specs.State.{State, CallInFlight, IsOnKey, range_of}
 use Rattle.sled_model.specs.Transition.{Configuration, transition_as}
 use Rattle.sled_model.specs.declared.reply.Reply.TheVariants as told
 use Rattle.sled_model.specs.declared.outcome.Step.{Step}
 use Rattle.sled_model.specs.declared.outcome.Step.TheVariants as step
 use Rattle.sled_model.specs.declared.outcome.Outcome.{Outcome}
 use Rattle.sled_model.specs.declared.outcome.Outcome.TheVariants as outcome
+use Rattle.sled_model.proofs.Shapes.{call_begun}
 use Rattle.scan_laws.proofs.Staying.{whole_stays}
 use Rattle.machine_shared.specs.Scanned.{AreOfScans, HasBegun, IsBegin, is_of_scan}
 use Rattle.machine_shared.specs.Scans.{noted_at, scanned_of}
@@ -70,7 +71,7 @@ pub going_after : (a b : Configuration) (s : Step) (o : Outcome) (maps : List Ma
 going_after a b (step.Begin tree call) (outcome.Begun slot) maps t notes more h new =
     put_going a.state.slots b.state.slots slot (Some (call_begun tree call)) notes more (ap (λ (z : State). z.slots) t.0.is) h (λ f e. quiet_begun (notes ++ more) slot (call_begun tree call) f new refl refl e)
 going_after a b (step.Begin tree call) (outcome.Refused x) maps t notes more h new = same_going a.state.slots b.state.slots notes more (ap (λ (z : State). z.slots) t.1) h
-going_after a b (step.Step i) outcome.NoSuchSlot maps t notes more h new = same_going a.state.slots b.state.slots notes more (ap (λ (z : State). z.slots) t.0.is) h
+going_after a b (step.Step i) outcome.NoSuchSlot maps t notes more h new = same_going a.state.slots b.state.slots notes more (ap (λ (z : State). z.slots) t.0.1) h
 going_after a b (step.Step i) outcome.Moved maps t notes more h new =
     put_going a.state.slots b.state.slots i _ notes more (ap (λ (z : State). z.slots) t.0.is) h (λ f e.
     subst (λ (z : CallInFlight). Going (notes ++ more) i z) (some_is e)
@@ -86,7 +87,7 @@ going_after a b (step.Step i) (outcome.Yielded key value) maps t notes more h ne
     (λ q. no_pair (sym q.waits ∙ t.0.waits))))
 going_after a b (step.Step i) (outcome.Decided reply) maps t notes more h new = put_going a.state.slots b.state.slots i None notes more (ap (λ (z : State). z.slots) t.0.is) h (λ f e. none_some e)
 going_after a b (step.Step i) (outcome.Refused x) maps t notes more h new = put_going a.state.slots b.state.slots i None notes more (ap (λ (z : State). z.slots) t.0.is) h (λ f e. none_some e)
-going_after a b (step.Abandon i) outcome.NoSuchSlot maps t notes more h new = same_going a.state.slots b.state.slots notes more (ap (λ (z : State). z.slots) t.0.is) h
+going_after a b (step.Abandon i) outcome.NoSuchSlot maps t notes more h new = same_going a.state.slots b.state.slots notes more (ap (λ (z : State). z.slots) t.0.1) h
 going_after a b (step.Abandon i) outcome.Abandoned maps t notes more h new = put_going a.state.slots b.state.slots i None notes more (ap (λ (z : State). z.slots) t.0.is) h (λ f e. none_some e)
 going_after a b (step.Whole w) o maps t notes more h new = same_going a.state.slots b.state.slots notes more (whole_stays a w o b maps t).slots h
 going_after a b (step.Begin tree call) other maps t notes more h new = absurd t

@@ -1,5 +1,6 @@
 -- What a history leads to, and what a crash may leave on its way, at every step.
 use Rattle.std.proofs.Common.{◌≡◌, ◌∙◌, ℕ, zero, suc, Bool, true, false, not, cond, List, [], ◌∷◌, ◌++◌, append-nil, append_assoc, length, map, Option, Some, None, Result, Ok, Err, IfOk, IfErr, is_some, is_eq, sym, refl, ap, subst, ◌⊎◌, inl, inr, arith}
+use Rattle.std.specs.Prelude.{is_none}
 use Rattle.std.proofs.lemmas.List.{map-append}
 use Rattle.std.proofs.lemmas.Cmp.{tied_itself}
 use Rattle.std.specs.FinMap.Entries.{find, find-where_key}
@@ -19,12 +20,12 @@ use Rattle.tree_laws.proofs.Crashing.{matches_same, matches_back, matches_append
 use Rattle.sled_model.specs.Answer.{answer_of, map_after, key_of}
 use Rattle.sled_model.specs.Collections.{Content, contents_of}
 use Rattle.sled_model.specs.Groups.{Closes}
-use Rattle.sled_model.specs.Imports.{Part, OpensName, Puts, DoesParts, NoPart, OnePart, does_part_as, refuses_import_as}
+use Rattle.sled_model.specs.Imports.{Part, OpensName, Puts, DoesParts, NoPart, OnePart, does_part_as}
 use Rattle.sled_model.specs.Maps.{Map, Maps, Merge}
-use Rattle.sled_model.specs.Refusal.{Asked, ToStep, ToCall, must_refuse, must_refuse_of, trees_asked, trees_of_batches}
+use Rattle.sled_model.specs.Refusal.{Asked, ToStep, ToCall, must_refuse, must_refuse_of, trees_asked, trees_of_batches, cause_of_import, may_refuse_as}
 use Rattle.sled_model.specs.State.{State, NamedTree, maps_of, range_of}
 use Rattle.sled_model.specs.Transition.{transition_as, Decide, WholeDecides, WholeRefuses}
-use Rattle.sled_model.specs.Whole.{RemovesLeast, RemovesNone, RemovesOne, StopsClearing, state_opened, maps_opened as maps_added, state_dropped, maps_dropped}
+use Rattle.sled_model.specs.Whole.{RemovesLeast, RemovesNone, RemovesOne, StopsClearing, state_opened, maps_if, state_dropped}
 use Rattle.sled_model.specs.declared.call.Call.{Call}
 use Rattle.sled_model.specs.declared.call.Call.TheVariants.{Remove}
 use Rattle.sled_model.specs.declared.call.Whole.{Whole}
@@ -118,7 +119,7 @@ goes_on a m b (OpensName name) ps added maps d g = (
       subst (λ x. StutterEquivalent (left ++ (x ++ maps)) (left ++ maps_of m ∷ g.0)) (sym d.1) (opened left e (a.trees name) d.0),
 )
   where
-    opened : (left : List Maps) → Ends left (maps_of a) → (o : Option NamedTree) → m ≡ state_opened o a name → StutterEquivalent (left ++ (maps_added o m ++ maps)) (left ++ maps_of m ∷ g.0)
+    opened : (left : List Maps) → Ends left (maps_of a) → (o : Option NamedTree) → m ≡ state_opened o a name → StutterEquivalent (left ++ (maps_if (is_none o) m ++ maps)) (left ++ maps_of m ∷ g.0)
     opened left e None is = goes_new (maps_of m) left maps g.0 (g.2 (left ++ maps_of m ∷ []) (left, refl))
     opened left e (Some t) is =
         let ends : Ends left (maps_of m) = subst (λ x. Ends left x) (sym (ap maps_of is)) e in
@@ -324,6 +325,7 @@ module _ {P M : Type 0} (store : P → Store) (number : P → ℕ) (meant : M �
       go (outcome.Decided reply) maps t k e = decided longer n slot reply t.0 e (subst (λ x. Are (l.left ++ x)) t.1 k) (range_of t.0.flying.call) refl
       go (outcome.Begun i) maps t k e = absurd t
       go outcome.Abandoned maps t k e = absurd t
+      go outcome.NoSuchSlot maps t k e = rests longer e (still (ap (λ (s : State). s.is_open) t.0.1) (ap maps_of t.0.1)) (none_added maps t.1 k)
       go other maps t k e = rests longer e (still (ap (λ (s : State). s.is_open) t.0.is) (ap maps_of t.0.is)) (none_added maps t.1 k)
 
   -- what notes nothing and changes no map: a begin, and the end of a call
@@ -340,7 +342,7 @@ module _ {P M : Type 0} (store : P → Store) (number : P → ℕ) (meant : M �
   abandon_leaves slot o s = go o s.maps s.step.is (s.keeps l.left l.leaves)
     where
       go : (o : Outcome) (maps : List Maps) → transition_as (configuration_of store number meant a) (step.Abandon slot) o (configuration_of store number meant b) maps → Are (crash_maps_after (step.Abandon slot) o maps (maps_of B) l.left) → Leaves history
-      go outcome.NoSuchSlot maps t k = quietly (ap (λ (s : State). s.is_open) t.0.is) (ap maps_of t.0.is) maps t.1 k
+      go outcome.NoSuchSlot maps t k = quietly (ap (λ (s : State). s.is_open) t.0.1) (ap maps_of t.0.1) maps t.1 k
       go outcome.Abandoned maps t k = quietly (ap (λ (s : State). s.is_open) t.0.is) (ap maps_of t.0.is) maps t.1 k
       go other maps t k = absurd t
 
@@ -361,11 +363,11 @@ module _ {P M : Type 0} (store : P → Store) (number : P → ℕ) (meant : M �
     unmoved : A.is_open ≡ true → maps_of B ≡ maps_of A → (maps : List Maps) → maps ≡ [] → Are (l.left ++ maps) → Are (l.left ++ maps_of B ∷ [])
     unmoved opens same maps none k = once_more (maps_of B) (same ∙ sym (led opens)) (none_added maps none k)
 
-    opened_left : A.is_open ≡ true → (name : Key) (o : Option NamedTree) → B ≡ state_opened o A name → (maps : List Maps) → maps ≡ maps_added o B → Are (l.left ++ maps) → Are (l.left ++ maps_of B ∷ [])
+    opened_left : A.is_open ≡ true → (name : Key) (o : Option NamedTree) → B ≡ state_opened o A name → (maps : List Maps) → maps ≡ maps_if (is_none o) B → Are (l.left ++ maps) → Are (l.left ++ maps_of B ∷ [])
     opened_left opens name None is maps added k = alone maps added k
     opened_left opens name (Some t) is maps added k = unmoved opens (ap maps_of is) maps added k
 
-    dropped_left : A.is_open ≡ true → (name : Key) (o : Option NamedTree) → B ≡ state_dropped o A name → (maps : List Maps) → maps ≡ maps_dropped o B → Are (l.left ++ maps) → Are (l.left ++ maps_of B ∷ [])
+    dropped_left : A.is_open ≡ true → (name : Key) (o : Option NamedTree) → B ≡ state_dropped o A name → (maps : List Maps) → maps ≡ maps_if (is_some o) B → Are (l.left ++ maps) → Are (l.left ++ maps_of B ∷ [])
     dropped_left opens name (Some t) is maps added k = alone maps added k
     dropped_left opens name None is maps added k = unmoved opens (ap maps_of is) maps added k
 
@@ -401,7 +403,7 @@ module _ {P M : Type 0} (store : P → Store) (number : P → ℕ) (meant : M �
     decided_whole (Next subscriber) reply maps k t e r =
         quiet (value.Next subscriber) Done e (refl, refl) refl (ap (λ (s : State). s.is_open) t.2.is) (ap maps_of t.2.is) (once_more l.last refl (none_added maps t.3 r))
     decided_whole (Unsubscribe subscriber) reply maps k t e r =
-        quiet (value.Unsubscribe subscriber) reply e (t.0, refl) refl (ap (λ (s : State). s.is_open) t.1.is) (ap maps_of t.1.is) (once_more l.last refl (none_added maps t.2 r))
+        quiet (value.Unsubscribe subscriber) reply e (t.0, refl) refl (ap (λ (s : State). s.is_open) t.1) (ap maps_of t.1) (once_more l.last refl (none_added maps t.2 r))
 
     -- what changes nothing and is not noted
     unnoted : (v : WholeValue) (k : ℕ) → k ≡ 0 → longer ≡ history ++ entries_of n (noted_with v None k) → B ≡ A → (maps : List Maps) → maps ≡ [] → Are (l.left ++ maps) → Leaves longer
@@ -486,7 +488,7 @@ module _ {P M : Type 0} (store : P → Store) (number : P → ℕ) (meant : M �
               (λ o. maps_same store meant b number)
               (matched (store b.db.pages) (l.left ++ maps) (l.left ++ g.0) r (g.2 l.left (subst (λ x. Ends l.left x) (led opens) ends)))
 
-      pub import_refused : (k : ℕ) (maps : List Maps) (r : (refuses_import_as (must_refuse_of (db_state store meant a.db) []) all x × (b.db ≡ a.db) × (maps ≡ [])) ⊎ ImportStops store meant a.db all x b.db maps)
+      pub import_refused : (k : ℕ) (maps : List Maps) (r : (may_refuse_as (must_refuse_of (db_state store meant a.db) []) (cause_of_import all) x × (b.db ≡ a.db) × (maps ≡ [])) ⊎ ImportStops store meant a.db all x b.db maps)
           → k ≡ told_parts (parts_before store meant r) → longer ≡ history ++ entries_of n (noted_with (value.Import all) None k) → Are (l.left ++ maps) → Leaves longer
       import_refused k maps (inl none) told e r = rests longer (e ∙ ap (λ i. history ++ entries_of n (noted_with (value.Import all) None i)) told)
           (still (opens_between (ap (λ (s : State). s.is_open) (same_between none.1))) (between ∙ ap maps_of (same_between none.1))) (none_added maps none.2 r)

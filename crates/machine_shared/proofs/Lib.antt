@@ -21,6 +21,7 @@ pub mod Paging
 pub mod PageReads
 pub mod Parts
 pub mod ReadMakes
+pub mod Valued
 pub mod Replying
 pub mod Scanning
 pub mod Copied

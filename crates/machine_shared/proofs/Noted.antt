@@ -6,7 +6,7 @@ use Rattle.sled_nodes.specs.declared.error.Error.{Error}
 use Rattle.sled_nodes.specs.Ranges.{Range}
 use Rattle.sled_store.specs.Store.{Store}
 use Rattle.sled_model.specs.Maps.{Maps, Merge}
-use Rattle.sled_model.specs.Answer.{decision_of, effect_of_write, same_value}
+use Rattle.sled_model.specs.Answer.{decision_of, effect_of_write}
 use Rattle.sled_model.specs.State.{State, CallInFlight, IsOnKey, range_of}
 use Rattle.sled_model.specs.Transition.{transition_as, Decide}
 use Rattle.sled_model.specs.declared.call.Call.{Call}
@@ -19,6 +19,7 @@ use Rattle.sled_model.specs.declared.reply.Reply.TheVariants as told
 use Rattle.sled_model.specs.declared.outcome.Outcome.{Outcome}
 use Rattle.sled_model.specs.declared.outcome.Outcome.TheVariants as outcome
 use Rattle.sled_model.specs.declared.outcome.Step.TheVariants as step
+use Rattle.sled_model.proofs.Shapes.{same_value}
 use Rattle.machine_alone.specs.Values.{MachineValue, configuration_of, slots_of}
 use Rattle.machine_shared.specs.Made.{MadeValue, PointMade}
 use Rattle.machine_shared.specs.Notes.{noted_as, noted_in, AddsReply, AddsStep}

@@ -37,7 +37,7 @@ use Rattle.machine_shared.specs.theory.Copied.{BeganStepped, EndsStepped, StaysI
 use Rattle.machine_shared.specs.theory.Replying.{IsGroupOf}
 use Rattle.machine_shared.specs.Scans.{ScansValue, NotesScan, AreNoted, AreNotKept, AreInOrder, begun_of, noted_at}
 use Rattle.machine_shared.specs.Sound.{IsState}
-use Rattle.machine_shared.specs.UnderLock.{AddsMade, IsHeld, AbandonsSlot, BeginsCall, BeginsUnderLock, EndsUnderLock, GroupsUnderLock, Looks, ReadsNow, ReadsUnderLock, RefusesNow, UnderLock, WholesUnderLock, read_made}
+use Rattle.machine_shared.specs.UnderLock.{AddsMade, IsHeld, AbandonsSlot, BeginsCall, BeginsUnderLock, EndsUnderLock, GroupsUnderLock, IsDone, IsTakenOut, Looks, ReadsNow, ReadsUnderLock, RefusesNow, UnderLock, WholesUnderLock, read_made}
 use Rattle.machine_shared.specs.UnderWay.{MachineScans}
 use Rattle.machine_shared.specs.Values.{CallerValue, StateValue}
 use Rattle.machine_shared.proofs.ScanStates.{has_scans}
@@ -99,7 +99,7 @@ pub begins : {P M : Type 0} (store : P → Store) (number : P → ℕ) (meant : 
     → new.history ≡ old.history → new.opening ≡ old.opening → IfOk r (λ slot. NotesScan old.scans (noted_at slot (length old.history) (begun_of tree call)) new.scans) → OnErr r (new.scans ≡ old.scans)
     → BeginsUnderLock store number meant tree call r
 begins store number meant old new tree call r before after ok err history opening scans same =
-    inr (record { old = old; new = new; before = before; after = after; is = begins_as store number meant old new tree call r ok err history opening scans same })
+    IsDone (record { old = old; new = new; before = before; after = after; is = begins_as store number meant old new tree call r ok err history opening scans same })
 
 -- where a call has ended it was stepped under the lock
 pub ends_stepped : {P M : Type 0} (store : P → Store) (number : P → ℕ) (meant : M → Merge) (tree : Tree) (call : Call) (me more : CallerValue) (o : Outcome) (slot : ℕ) (left : Option (Job × Job)) (r : Stepped) → TakesOn o slot left r
@@ -220,6 +220,6 @@ stays_in o slot left (On s jobs) t = t.0
 -- a begin that took a slot
 pub begun_under : {P M : Type 0} (store : P → Store) (number : P → ℕ) (meant : M → Merge) (tree : Tree) (call : Call) (slot : ℕ) → BeginsUnderLock store number meant tree call (Ok slot) → UnderLock store (BeginsCall store number meant tree call (Ok slot))
 begun_under store number meant tree call slot b = elim b [
-  | inl f ↦ ok_err slot Closed (Ok slot) refl f
-  | inr u ↦ u
+  | IsDone u ↦ u
+  | IsTakenOut f ↦ ok_err slot Closed (Ok slot) refl f
 ]

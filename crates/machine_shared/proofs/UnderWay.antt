@@ -117,7 +117,7 @@ pub record WentOn (slot : ℕ) (s : State) (g : CallInFlight) : Type 0 where
   pub same : (g.tree ≡ flying.tree) × (g.call ≡ flying.call)
 
 went_on : (a b : Configuration) (slot : ℕ) (o : Outcome) (maps : List Maps) → transition_as a (step.Step slot) o b maps → (g : CallInFlight) → b.state.slots slot ≡ Some g → WentOn slot a.state g
-went_on a b slot outcome.NoSuchSlot maps t g e = none_some (sym (ap (λ (z : State). z.slots slot) t.0.is ∙ t.0.free) ∙ e)
+went_on a b slot outcome.NoSuchSlot maps t g e = none_some (sym (ap (λ (z : State). z.slots slot) t.0.1 ∙ t.0.0) ∙ e)
 went_on a b slot outcome.Moved maps t g e = record {
   flying = t.0.flying;
   here = t.0.here;

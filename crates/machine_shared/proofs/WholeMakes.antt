@@ -8,7 +8,7 @@ use Rattle.sled_store.specs.Update.{put_name}
 use Rattle.sled_store.specs.theory.Facts.{same_name}
 use Rattle.sled_model.specs.Maps.{Map, Maps, IsLeast, IsGreatest}
 use Rattle.sled_model.specs.Answer.{Answer, answer_of, decision_of, map_after}
-use Rattle.sled_model.specs.Groups.{Write, writes_of, call_with, after_write, after_write_on, after_writes, answer_of_write}
+use Rattle.sled_model.specs.Groups.{Write, writes_of, call_with, after_write_on, after_writes}
 use Rattle.sled_model.specs.Imports.{Part, OpensName, Puts, does_part_as, DoesParts, NoPart, OnePart}
 use Rattle.sled_model.specs.State.{State, NamedTree, maps_of, after_decision_on}
 use Rattle.sled_model.specs.Transition.{Configuration, WholeDecides}
@@ -21,6 +21,7 @@ use Rattle.sled_model.specs.declared.call.Whole.TheVariants.{Flush, PopMin, PopM
 use Rattle.sled_model.specs.declared.tree.Tree.{Tree}
 use Rattle.sled_model.specs.declared.reply.Reply.{Reply}
 use Rattle.sled_model.specs.declared.reply.Reply.TheVariants.{Flag, Done}
+use Rattle.sled_model.proofs.Shapes.{after_write, answer_of_write}
 use Rattle.machine_shared.specs.Made.{whole_value}
 use Rattle.machine_shared.proofs.WholeTests.{BatchPasses, own, pass_each}
 use Rattle.machine_shared.specs.WholeMade.{HasMap, map_with, map_popped, MakesPop, MakesClear, maps_with_write, maps_with_writes, maps_opened, TakesLeast, TakesNone, TakesOne, makes_part_as, MakesParts, MakesNone, MakesOne, makes_whole_as}
@@ -181,7 +182,7 @@ stays_open a GenerateId reply b maps t = open_of _ b t.is
 stays_open a (Import collections) reply b maps t = parts_open t.1.does
 stays_open a (Watch tree prefix) reply b maps t = open_of _ b t.2.is
 stays_open a (Next subscriber) reply b maps t = open_of _ b t.2.is
-stays_open a (Unsubscribe subscriber) reply b maps t = open_of _ b t.1.is
+stays_open a (Unsubscribe subscriber) reply b maps t = open_of _ b t.1
 
 -- the reply that is noted: of what a subscriber was told `Done`
 abbrev pub noted_reply : Whole → Reply → Reply
@@ -201,4 +202,4 @@ makes a GenerateId reply b maps t = ((a.state.greatest_id + 1, t.replies), ap ma
 makes a (Import collections) reply b maps t = (t.1.trees, t.0, parts t.1.does)
 makes a (Watch tree prefix) reply b maps t = ((t.0, t.1), ap maps_of t.2.is)
 makes a (Next subscriber) reply b maps t = (refl, ap maps_of t.2.is)
-makes a (Unsubscribe subscriber) reply b maps t = (t.0, ap maps_of t.1.is)
+makes a (Unsubscribe subscriber) reply b maps t = (t.0, ap maps_of t.1)

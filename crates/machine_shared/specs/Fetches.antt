@@ -1,5 +1,5 @@
 -- The new value at a key that a closure makes from the one that is there, noted as the swap of the one for the other.
-use Rattle.std.specs.Prelude.{◌≡◌, ◌⊎◌, ℕ, List, [], ◌∷◌, ◌++◌, Option, None, Ok, Err, Result}
+use Rattle.std.specs.Prelude.{◌≡◌, ℕ, List, [], ◌∷◌, ◌++◌, Option, None, Ok, Err, Result}
 use Rattle.std.specs.Option.{option_map}
 use Rattle.std.specs.declared.vec.Vec.{Vec}
 use Rattle.std.specs.declared.alloc.Global.{Global}
@@ -20,7 +20,7 @@ use Rattle.sled.specs.Reads.{GivesUpGet, RefusesReading}
 use Rattle.sled.specs.Values.{DbValue, db_state}
 use Rattle.machine_alone.specs.Values.{MachineValue}
 use Rattle.machine_shared.specs.Made.{MadeValue, PointMade}
-use Rattle.machine_shared.specs.UnderLock.{AddsMade, UnderLock}
+use Rattle.machine_shared.specs.UnderLock.{AddsMade, AsHeld}
 use Rattle.machine_shared.specs.Values.{CallerValue, StateValue}
 
 -- a swap of the one value for the other, which succeeded
@@ -75,6 +75,6 @@ pub record FetchesOnce {P M : Type 0} (store : P → Store) (meant : M → Merge
   pub adds : AddsMade old me (fetch_made tree key result) new more
   pub scans : new.scans ≡ old.scans
 
--- it was made under the lock, or the database was taken out of that and nothing was done
+-- it was made under the lock
 abbrev pub FetchesUnderLock : {P M : Type 0} → (P → Store) → (M → Merge) → Tree → Key → Result (Option Key × Option Key) Error → CallerValue → CallerValue → Type 0
-FetchesUnderLock store meant tree key result me more = ((result ≡ Err Closed) × (more ≡ me)) ⊎ UnderLock store (FetchesOnce store meant tree key result me more)
+FetchesUnderLock store meant tree key result me more = AsHeld store ((result ≡ Err Closed) × (more ≡ me)) (FetchesOnce store meant tree key result me more)

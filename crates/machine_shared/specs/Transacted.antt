@@ -1,5 +1,5 @@
 -- How a transaction by a caller comes out, as one step under the lock.
-use Rattle.std.specs.Prelude.{◌≡◌, ◌⊎◌, ℕ, Bool, true, false, ◌&&◌, List, [], ◌∷◌, Some, Result, Ok, Err, slice_get}
+use Rattle.std.specs.Prelude.{◌≡◌, ℕ, Bool, true, false, ◌&&◌, List, [], ◌∷◌, Some, Result, Ok, Err, slice_get}
 use Rattle.std.specs.Global.{Vec}
 use Rattle.sled_nodes.specs.declared.error.Error.{Error}
 use Rattle.sled_nodes.specs.declared.error.Error.TheVariants.{Closed, NoMemory}
@@ -20,7 +20,7 @@ use Rattle.sled.specs.Reads.{RefusesReading}
 use Rattle.sled.specs.Values.{DbValue, db_state}
 use Rattle.machine_alone.specs.Step.{MachineStepContract}
 use Rattle.machine_shared.specs.Transactions.{transaction_made}
-use Rattle.machine_shared.specs.UnderLock.{AddsMade, MakesWhole, UnderLock}
+use Rattle.machine_shared.specs.UnderLock.{AddsMade, AsHeld, MakesWhole}
 use Rattle.machine_shared.specs.Values.{CallerValue, StateValue}
 
 -- nothing was done
@@ -91,6 +91,6 @@ module _ {P M A E W : Type 0} (store : P → Store) (flush_number : P → ℕ) (
   transacts_as (Err (Abort e)) me more old new = runs old.machine.db (Err (Abort e)) × DoesNothing me more old new
   transacts_as (Err (Storage e)) me more old new = RefusesTransaction e me more old new
 
-  -- it was made so under the lock; or the database was taken out of that, and nothing was done
+  -- it was made so under the lock
   abbrev pub TransactsUnderLock : Result A (TransactionError E) → CallerValue → CallerValue → Type 0
-  TransactsUnderLock ended me more = ((ended ≡ Err (Storage Closed)) × (more ≡ me)) ⊎ UnderLock store (transacts_as ended me more)
+  TransactsUnderLock ended me more = AsHeld store ((ended ≡ Err (Storage Closed)) × (more ≡ me)) (transacts_as ended me more)

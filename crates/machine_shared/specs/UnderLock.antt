@@ -1,5 +1,5 @@
 -- What callers do under the lock.
-use Rattle.std.specs.Prelude.{◌≡◌, ◌≢◌, ◌⊎◌, ℕ, List, [], ◌∷◌, ◌++◌, length, Some, None, Result, Ok, Err, IfErr, IfOk}
+use Rattle.std.specs.Prelude.{◌≡◌, ◌≢◌, ◌≤◌, ◌⊎◌, ℕ, List, [], ◌∷◌, ◌++◌, length, Some, None, Result, Ok, Err, IfErr, IfOk}
 use Rattle.std.specs.Option.{option_map}
 use Rattle.std.specs.Global.{Vec}
 use Rattle.sled_store.specs.Store.{Store}
@@ -51,6 +51,11 @@ pub record UnderLock {P M : Type 0} (store : P → Store) (does : StateValue P M
   pub after : IsHeld store new
   pub is : does old new
 
+-- this was done under the lock; or the database was taken out of that, as `closed` says, and nothing was done
+pub data AsHeld {P M : Type 0} (store : P → Store) (closed : Type 0) (does : StateValue P M → StateValue P M → Type 0) : Type 0 where
+  IsDone : UnderLock store does → AsHeld store closed does
+  IsTakenOut : closed → AsHeld store closed does
+
 -- what a caller made comes behind all others in the history, and in its own list
 pub record AddsMade {P M : Type 0} (old : StateValue P M) (me : CallerValue) (noted : List MadeValue) (new : StateValue P M) (more : CallerValue) : Type 0 where
   pub history : new.history ≡ old.history ++ entries_of me.number noted
@@ -100,18 +105,18 @@ module _ {P M : Type 0} (store : P → Store) (flush_number : P → ℕ) (meant 
     pub adds : AddsMade old me (noted_of o tree call) new more
     pub scans : new.scans ≡ old.scans
 
-  -- Each of these was done under the lock; or the database was taken out of it, and nothing was done
+  -- each of these, under the lock
   abbrev pub StepsUnderLock : ℕ → Outcome → CallerValue → CallerValue → Type 0
-  StepsUnderLock slot o me more = ((o ≡ Refused Closed) × (more ≡ me)) ⊎ UnderLock store (StepsSlot slot o me more)
+  StepsUnderLock slot o me more = AsHeld store ((o ≡ Refused Closed) × (more ≡ me)) (StepsSlot slot o me more)
 
   abbrev pub BeginsUnderLock : Tree → Call → Result ℕ Error → Type 0
-  BeginsUnderLock tree call begun = (begun ≡ Err Closed) ⊎ UnderLock store (BeginsCall tree call begun)
+  BeginsUnderLock tree call begun = AsHeld store (begun ≡ Err Closed) (BeginsCall tree call begun)
 
   abbrev pub AbandonsUnderLock : ℕ → Outcome → Type 0
-  AbandonsUnderLock slot o = (o ≡ Refused Closed) ⊎ UnderLock store (AbandonsSlot slot o)
+  AbandonsUnderLock slot o = AsHeld store (o ≡ Refused Closed) (AbandonsSlot slot o)
 
   abbrev pub WholesUnderLock : Whole → Outcome → CallerValue → CallerValue → Type 0
-  WholesUnderLock whole o me more = ((o ≡ Refused Closed) × (more ≡ me)) ⊎ UnderLock store (MakesWhole whole o me more)
+  WholesUnderLock whole o me more = AsHeld store ((o ≡ Refused Closed) × (more ≡ me)) (MakesWhole whole o me more)
 
   -- a whole call that is made of what a caller gives, for which there may be no memory; then nothing is done
   abbrev pub CallsUnderLock : Whole → Outcome → CallerValue → CallerValue → Type 0
@@ -121,8 +126,9 @@ module _ {P M : Type 0} (store : P → Store) (flush_number : P → ℕ) (meant 
   abbrev pub GroupsUnderLock : List (Tree × Writes) → Outcome → CallerValue → CallerValue → Type 0
   GroupsUnderLock batches o me more = ((o ≡ Refused NoMemory) × (more ≡ me)) ⊎ ((group : Vec (Tree × Writes)) × (group.items ≡ batches) × WholesUnderLock (Group group) o me more)
 
--- the slot has this call no more, and nothing is done
+-- the slot was given and has this call no more, and nothing is done
 pub record LacksCall {P M : Type 0} (tree : Tree) (call : Call) (slot : ℕ) (old new : StateValue P M) : Type 0 where
+  pub given : slot ≤ old.machine.slots_given
   pub gone : option_map job_of_call (slots_of old.machine.flights slot) ≢ Some (tree, call)
   pub same : new ≡ old
 

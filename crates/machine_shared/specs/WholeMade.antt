@@ -7,7 +7,7 @@ use Rattle.sled_store.specs.Update.{put_name}
 use Rattle.sled_model.specs.Maps.{Map, Maps, IsLeast, IsGreatest}
 use Rattle.sled_model.specs.Answer.{answer_of}
 use Rattle.sled_model.specs.Collections.{Content, are_trees}
-use Rattle.sled_model.specs.Groups.{Write, writes_of, call_of_write}
+use Rattle.sled_model.specs.Groups.{Write, writes_of, call_with}
 use Rattle.sled_model.specs.Imports.{Part, OpensName, Puts, parts_of}
 use Rattle.sled_model.specs.declared.call.Call.{Call}
 use Rattle.sled_model.specs.declared.call.Call.TheVariants.{Remove}
@@ -51,7 +51,7 @@ HasMap old batch = is_some (old batch.0.name) ≡ true
 -- a write is made in the map of its tree, as its insert or its removal would be
 abbrev pub maps_with_write : Option Map → Write → Maps → Maps
 maps_with_write None w maps = maps
-maps_with_write (Some map) w maps = put_name maps w.tree.name (Some (map_with (call_of_write w) map))
+maps_with_write (Some map) w maps = put_name maps w.tree.name (Some (map_with (call_with w.key w.value) map))
 
 -- .. and all these are, one after the other
 abbrev pub maps_with_writes : List Write → Maps → Maps

@@ -1,5 +1,5 @@
 //! Steps of a call with copies of it: they are made once, before it begins, and a step that does not decide the call makes none.
-ghost use Rattle.std.specs.Prelude.{◌≡◌, ◌++◌, IfNone, IfSome, Ok, Some};
+ghost use Rattle.std.specs.Prelude.{◌≡◌, ◌≤◌, ◌++◌, true, IfNone, IfSome, Ok, Some};
 ghost use Rattle.std.specs.Option.{option_map};
 ghost use Rattle.sled_model.specs.State.{IsOnKey};
 ghost use Rattle.machine_alone.specs.Values.{slots_of, job_of_call};
@@ -13,6 +13,7 @@ use crate::caller::Caller;
 use crate::noting::{Jobs, step_noting_jobs};
 use crate::state::State;
 use crate::steps::has_job;
+use machine_alone::Machine;
 use sled_model::{Call, MergeOperator, Outcome, Slot, Tree};
 use sled_nodes::Error;
 use sled_store::Pages;
@@ -145,7 +146,15 @@ pub(crate) fn begin_on<P: Pages, L: Ledger, M: MergeOperator>(
     }
 }
 
-// One step of the call in the slot, if it is this one on a key. Else no step is made, and there is no such slot for the caller.
+// Whether the machine gave this slot at some time.
+fn has_given<P: Pages, M: MergeOperator>(machine: &Machine<P, M>, slot: Slot) -> bool
+    ensures { result ≡ true → slot ≤ machine.now.slots_given }
+{
+    slot.0 <= machine.slots_given()
+}
+
+// One step of the call in the slot, if it is this one on a key. Else no step is made, and there is no such slot for the caller, if it was
+// given; if it was not, the database that gave it was taken out of the lock.
 pub(crate) fn step_on<P: Pages, L: Ledger, M: MergeOperator>(
     held: &mut Option<State<P, L, M>>,
     me: &mut Caller<L>,
@@ -164,9 +173,13 @@ pub(crate) fn step_on<P: Pages, L: Ledger, M: MergeOperator>(
             state.audit();
             if has_job(state.machine(), slot, jobs.first()) {
                 state.step_on(me, slot, jobs)
-            } else {
+            } else if has_given(state.machine(), slot) {
                 drop(jobs);
                 Stepped::Ended(Outcome::NoSuchSlot)
+            } else {
+                // a machine that never gave the slot is not the one in which the call began
+                drop(jobs);
+                Stepped::Ended(Outcome::Refused(Error::Closed))
             }
         }
         None => {

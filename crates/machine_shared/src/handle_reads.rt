@@ -4,7 +4,7 @@ ghost use Rattle.std.specs.Prelude.{◌≡◌, ◌++◌, ◌∷◌, [], IfErr, I
 ghost use Rattle.sled_nodes.specs.Among.{bound_of};
 ghost use Rattle.sled_nodes.specs.declared.error.Error.TheVariants.{NoMemory};
 ghost use Rattle.machine_shared.specs.Made.{ReadMade};
-ghost use Rattle.machine_shared.specs.Reads.{IsAnswerTo, IsCount, IsFlag, IsPair, IsPart, IsValue};
+ghost use Rattle.machine_shared.specs.Reads.{IsAnswerTo, IsCount, IsFlag, IsPair, IsPart};
 ghost use Rattle.machine_shared.specs.declared.read.Answer.TheVariants as told;
 ghost use Rattle.machine_shared.specs.theory.Orders.{IsPage};
 ghost use Rattle.machine_shared.specs.declared.read.Question.TheVariants as asks;
@@ -13,7 +13,7 @@ ghost use Rattle.machine_shared.specs.UnderLock.{ReadsUnderLock};
 
 use crate::handle::Handle;
 use crate::read::{Answer, Question};
-use crate::state_reads::{export_in, read_in, tree_names_in};
+use crate::state_reads::{export_in, read_in, tree_names_in, value_in};
 use crate::told::{Collections, Names, Pairs};
 use sled_model::{MergeOperator, Tree};
 use sled_nodes::{IVec, Result, own_bound};
@@ -22,17 +22,6 @@ use std::alloc::Global;
 use std::ops::Bound;
 use std::sync::Wait;
 use std::sync::ledger::Ledger;
-
-// The value of an answer.
-fn value_of(answer: Answer) -> Option<IVec>
-    requires { IsValue answer }
-    ensures { answer ≡ told.Value result }
-{
-    match answer {
-        Answer::Value(value) => value,
-        _ => unreachable!(),
-    }
-}
 
 // Yes or no, of an answer.
 fn flag_of(answer: Answer) -> bool
@@ -119,6 +108,19 @@ impl<P: Pages, L: Ledger, M: MergeOperator> Handle<P, L, M> {
         answer
     }
 
+    // The value at a key, in one step under the lock.
+    fn value(&mut self, rt: &impl Wait, tree: &Tree, key: IVec) -> Result<Option<IVec>>
+        ensures ok { IfOk result (λ it. self.new.made ≡ self.old.made ++ ReadMade (read.Tree tree.now (asks.Get key) (told.Value it)) ∷ []) }
+        ensures err { OnErr result (self.new.made ≡ self.old.made) }
+        ensures number { self.new.number ≡ self.old.number }
+        ensures looks { ReadsUnderLock P.store M.meant (tree.now ∷ []) (λ it. read.Tree tree.now (asks.Get key) (told.Value it)) result self.old self.new }
+    {
+        let mut guard = self.lock.lock(rt);
+        let value = value_in(&mut *guard, &mut self.me, tree, key);
+        drop(guard);
+        value
+    }
+
     /// The value at a key, or `None` if it is absent, in one step under the lock. Refused as `read` is, as all that follow.
     ///
     /// ```
@@ -136,11 +138,8 @@ impl<P: Pages, L: Ledger, M: MergeOperator> Handle<P, L, M> {
         ensures number { self.new.number ≡ self.old.number }
         ensures looks { ReadsUnderLock P.store M.meant (tree.now ∷ []) (λ it. read.Tree tree.now (asks.Get key.now) (told.Value it)) result self.old self.new }
     {
-        let question = Question::Get(IVec::from_slice(alloc, key)?);
-        match self.read(rt, tree, question) {
-            Ok(answer) => Ok(value_of(answer)),
-            Err(e) => Err(e),
-        }
+        let key = IVec::from_slice(alloc, key)?;
+        self.value(rt, tree, key)
     }
 
     /// Whether a key is present.

@@ -34,6 +34,7 @@ mod db;
 mod entry;
 mod fetches;
 mod gather;
+mod gets;
 mod grouping;
 mod handle;
 mod handle_reads;

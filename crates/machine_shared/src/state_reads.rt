@@ -2,17 +2,20 @@
 ghost use Rattle.std.specs.Prelude.{◌≡◌, ◌++◌, ◌∷◌, [], IfOk, OnErr};
 ghost use Rattle.machine_shared.specs.Made.{ReadMade};
 ghost use Rattle.machine_shared.specs.Reads.{IsAnswerTo};
+ghost use Rattle.machine_shared.specs.declared.read.Answer.TheVariants as told;
+ghost use Rattle.machine_shared.specs.declared.read.Question.TheVariants as asks;
 ghost use Rattle.machine_shared.specs.declared.read.Read.TheVariants as read;
 ghost use Rattle.machine_shared.specs.UnderLock.{Looks, ReadsUnderLock};
 
 use crate::caller::Caller;
+use crate::gets::value_noting;
 use crate::noting::note_and_count;
 use crate::read::{Answer, Question};
 use crate::reading::{answer_noting, export_noting, names_noting};
 use crate::state::State;
 use crate::told::{Collections, Names};
 use sled_model::{MergeOperator, Tree};
-use sled_nodes::{Error, Result};
+use sled_nodes::{Error, IVec, Result};
 use sled_store::Pages;
 use std::sync::ledger::Ledger;
 
@@ -42,6 +45,33 @@ impl<P: Pages, L: Ledger, M: MergeOperator> State<P, L, M> {
             share,
             tree,
             question,
+        )
+    }
+
+    // The value at a key.
+    fn value(&mut self, me: &mut Caller<L>, tree: &Tree, key: IVec) -> Result<Option<IVec>>
+        ensures ok { IfOk result (λ it. me.new.made ≡ me.old.made ++ ReadMade (read.Tree tree.now (asks.Get key) (told.Value it)) ∷ []) }
+        ensures err { OnErr result (me.new.made ≡ me.old.made) }
+        ensures number { me.new.number ≡ me.old.number }
+        ensures machine { self.new.machine ≡ self.old.machine }
+        ensures scans { self.new.scans ≡ self.old.scans }
+        ensures looks { Looks P.store M.meant (tree.now ∷ []) (λ it. read.Tree tree.now (asks.Get key) (told.Value it)) result me.old me.new self.old self.new }
+    {
+        self.machine.audit();
+        let Caller {
+            number,
+            made,
+            share,
+        } = me;
+        value_noting(
+            &self.machine,
+            &mut self.history,
+            &mut self.calls,
+            *number,
+            made,
+            share,
+            tree,
+            key,
         )
     }
 
@@ -125,6 +155,32 @@ pub(crate) fn read_in<P: Pages, L: Ledger, M: MergeOperator>(
             let answer = state.read(me, tree, question);
             state.audit();
             answer
+        }
+    }
+}
+
+// The value at a key.
+pub(crate) fn value_in<P: Pages, L: Ledger, M: MergeOperator>(
+    held: &mut Option<State<P, L, M>>,
+    me: &mut Caller<L>,
+    tree: &Tree,
+    key: IVec,
+) -> Result<Option<IVec>>
+    ensures ok { IfOk result (λ it. me.new.made ≡ me.old.made ++ ReadMade (read.Tree tree.now (asks.Get key) (told.Value it)) ∷ []) }
+    ensures err { OnErr result (me.new.made ≡ me.old.made) }
+    ensures number { me.new.number ≡ me.old.number }
+    ensures looks { ReadsUnderLock P.store M.meant (tree.now ∷ []) (λ it. read.Tree tree.now (asks.Get key) (told.Value it)) result me.old me.new }
+{
+    match held {
+        None => {
+            drop(key);
+            Err(Error::Closed)
+        }
+        Some(state) => {
+            state.audit();
+            let value = state.value(me, tree, key);
+            state.audit();
+            value
         }
     }
 }

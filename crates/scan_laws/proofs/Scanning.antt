@@ -232,7 +232,7 @@ own : (slot : ℕ) (tree : Tree) (bounds : Range) (given : List Pair) (was : Pai
     → Holds slot tree bounds (given ++ given_by o) (λ e. was e ⊎ HasPair tree e a.state) (λ k. kept k × HasKey tree k a.state) b.state
 own slot tree bounds given was kept a outcome.NoSuchSlot b maps t h =
     let l = leaves slot a (step.Step slot) outcome.NoSuchSlot b maps t in
-    with_none a.state h (gone a.state h (l.ascend h.ascend) l.given (ap (λ (z : State). z.slots slot) t.0.is ∙ t.0.free))
+    with_none a.state h (gone a.state h (l.ascend h.ascend) l.given (ap (λ (z : State). z.slots slot) t.0.1 ∙ t.0.0))
 own slot tree bounds given was kept a outcome.Moved b maps t h =
     let l = leaves slot a (step.Step slot) outcome.Moved b maps t in
     goes_on a.state h [] _ (l.ascend h.ascend) l.given (ap (λ (z : State). z.slots slot) t.0.is ∙ put_here a.state.slots slot _)

@@ -13,10 +13,10 @@ use Rattle.sled_model.specs.Maps.{Map, Maps}
 use Rattle.sled_model.specs.Answer.{answer_of, map_after}
 use Rattle.sled_model.specs.State.{State, NamedTree, CallInFlight, after_decision_on}
 use Rattle.sled_model.specs.Collections.{Content}
-use Rattle.sled_model.specs.Refusal.{must_refuse_of}
-use Rattle.sled_model.specs.Imports.{Part, OpensName, Puts, does_part_as, DoesParts, NoPart, OnePart, refuses_import_as, Stop, StopsAtPart}
+use Rattle.sled_model.specs.Refusal.{must_refuse_of, cause_of_import, may_refuse_as}
+use Rattle.sled_model.specs.Imports.{Part, OpensName, Puts, does_part_as, DoesParts, NoPart, OnePart, Stop, StopsAtPart}
 use Rattle.sled_model.specs.Whole.{after_pop, RemovesLeast, RemovesNone, RemovesOne, state_opened, state_dropped}
-use Rattle.sled_model.specs.Groups.{Write, call_of_write, after_write_on, after_write, after_writes, writes_of, Closes}
+use Rattle.sled_model.specs.Groups.{Write, after_write_on, after_writes, writes_of, Closes}
 use Rattle.sled_model.specs.Transition.{Configuration, transition_as}
 use Rattle.sled_model.specs.declared.call.Call.{Call}
 use Rattle.sled_model.specs.declared.call.Call.TheVariants.{Insert, Remove}
@@ -29,6 +29,7 @@ use Rattle.sled_model.specs.declared.outcome.Step.{Step}
 use Rattle.sled_model.specs.declared.outcome.Step.TheVariants as step
 use Rattle.sled_model.specs.declared.outcome.Outcome.{Outcome}
 use Rattle.sled_model.specs.declared.outcome.Outcome.TheVariants as outcome
+use Rattle.sled_model.proofs.Shapes.{after_write, call_of_write}
 use Rattle.scan_laws.specs.Scanned.{Ascend, is_own}
 
 abbrev Trees : Type 0
@@ -138,7 +139,7 @@ group_stopped (inl e) = same e
 group_stopped (inr c) = closed c.1
 
 abbrev Stopped : State → Store → Store → List Content → Error → State → List Maps → Type 0
-Stopped old a b all e new maps = (refuses_import_as (must_refuse_of old []) all e × (new ≡ old) × (maps ≡ [])) ⊎ ((stop : Stop) × StopsAtPart old a b all stop e new maps)
+Stopped old a b all e new maps = (may_refuse_as (must_refuse_of old []) (cause_of_import all) e × (new ≡ old) × (maps ≡ [])) ⊎ ((stop : Stop) × StopsAtPart old a b all stop e new maps)
 
 stopped : {old : State} {a b : Store} {all : List Content} {e : Error} {new : State} {maps : List Maps} → Stopped old a b all e new maps → Stays old new
 stopped (inl none) = same none.1
@@ -156,7 +157,7 @@ whole_stays a GenerateId (outcome.Decided reply) b maps t = like (record { slots
 whole_stays a (Import collections) (outcome.Decided reply) b maps t = parts t.1.does
 whole_stays a (Watch tree prefix) (outcome.Decided reply) b maps t = like (record { slots = refl; given = refl; was_open = λ h. h; rises = λ h r. r }) t.2.is
 whole_stays a (Next subscriber) (outcome.Decided reply) b maps t = like (record { slots = refl; given = refl; was_open = λ h. h; rises = λ h r. r }) t.2.is
-whole_stays a (Unsubscribe subscriber) (outcome.Decided reply) b maps t = like (record { slots = refl; given = refl; was_open = λ h. h; rises = λ h r. r }) t.1.is
+whole_stays a (Unsubscribe subscriber) (outcome.Decided reply) b maps t = like (record { slots = refl; given = refl; was_open = λ h. h; rises = λ h r. r }) t.1
 whole_stays a Flush (outcome.Refused e) b maps t = same t.1
 whole_stays a (PopMin tree) (outcome.Refused e) b maps t = same t.1
 whole_stays a (PopMax tree) (outcome.Refused e) b maps t = same t.1
@@ -223,7 +224,7 @@ leaves slot a (step.Begin tree call) (outcome.Yielded key value) b maps t = absu
 leaves slot a (step.Begin tree call) (outcome.Decided reply) b maps t = absurd t
 leaves slot a (step.Begin tree call) outcome.Abandoned b maps t = absurd t
 leaves slot a (step.Begin tree call) outcome.NoSuchSlot b maps t = absurd t
-leaves slot a (step.Step i) outcome.NoSuchSlot b maps t = from_stays slot (step.Step i) (same t.0.is)
+leaves slot a (step.Step i) outcome.NoSuchSlot b maps t = from_stays slot (step.Step i) (same t.0.1)
 leaves slot a (step.Step i) outcome.Moved b maps t = of_slot _ (ap (λ (z : State). z.slots) t.0.is) (ap (λ (z : State). z.slots_given) t.0.is) (ap (λ (z : State). z.is_open) t.0.is) (trees_same a.state b.state (ap (λ (z : State). z.trees) t.0.is))
 leaves slot a (step.Step i) (outcome.Yielded key value) b maps t = of_slot _ (ap (λ (z : State). z.slots) t.0.is) (ap (λ (z : State). z.slots_given) t.0.is) (ap (λ (z : State). z.is_open) t.0.is) (trees_same a.state b.state (ap (λ (z : State). z.trees) t.0.is))
 leaves slot a (step.Step i) (outcome.Decided reply) b maps t = of_slot _ (ap (λ (z : State). z.slots) t.0.is) (ap (λ (z : State). z.slots_given) t.0.is) (ap (λ (z : State). z.is_open) t.0.is)
@@ -231,7 +232,7 @@ leaves slot a (step.Step i) (outcome.Decided reply) b maps t = of_slot _ (ap (λ
 leaves slot a (step.Step i) (outcome.Refused e) b maps t = of_slot _ (ap (λ (z : State). z.slots) t.0.is) (ap (λ (z : State). z.slots_given) t.0.is) (ap (λ (z : State). z.is_open) t.0.is) (trees_same a.state b.state (ap (λ (z : State). z.trees) t.0.is))
 leaves slot a (step.Step i) (outcome.Begun k) b maps t = absurd t
 leaves slot a (step.Step i) outcome.Abandoned b maps t = absurd t
-leaves slot a (step.Abandon i) outcome.NoSuchSlot b maps t = from_stays slot (step.Abandon i) (same t.0.is)
+leaves slot a (step.Abandon i) outcome.NoSuchSlot b maps t = from_stays slot (step.Abandon i) (same t.0.1)
 leaves slot a (step.Abandon i) outcome.Abandoned b maps t = record {
   given = le_of_eq (sym (ap (λ (z : State). z.slots_given) t.0.is));
   ascend = λ h o. ascending b.state (trees_same a.state b.state (ap (λ (z : State). z.trees) t.0.is) (rising a.state (h (sym (ap (λ (z : State). z.is_open) t.0.is) ∙ o))));

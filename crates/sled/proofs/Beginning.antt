@@ -12,10 +12,10 @@ use Rattle.sled_store.specs.In.{In}
 use Rattle.sled_store.specs.Store.{Store, now}
 use Rattle.sled_store.specs.declared.page.View.{View}
 use Rattle.sled_model.specs.Maps.{Merge}
-use Rattle.sled_model.specs.Answer.{same_value}
 use Rattle.sled_model.specs.Groups.{call_with}
 use Rattle.sled_model.specs.Refusal.{MustRefuse, must_refuse_of}
 use Rattle.sled_model.specs.declared.tree.Tree.{Tree}
+use Rattle.sled_model.proofs.Shapes.{same_value}
 use Rattle.tree_laws.specs.Forest.{Forest}
 use Rattle.tree_laws.specs.Snapshot.{Snapshot, HasForest, IsActing}
 use Rattle.tree_laws.proofs.Runs.{In-right}

@@ -106,7 +106,7 @@ module _ (tree : Tree) where
         others = λ name off. k.others name off ∙ ap map_in (put_name_elsewhere s.trees tree.name name (Some (left_over t p.0)) off);
       })
 
-there_is : (s : State) (t : Tree) → must_refuse_of s (t ∷ []) ≡ None → (named : NamedTree) × (s.trees t.name ≡ Some named)
+pub there_is : (s : State) (t : Tree) → must_refuse_of s (t ∷ []) ≡ None → (named : NamedTree) × (s.trees t.name ≡ Some named)
 there_is s t tested = go (s.trees t.name) refl
   where
     go : (o : Option NamedTree) → s.trees t.name ≡ o → (named : NamedTree) × (s.trees t.name ≡ Some named)

@@ -11,11 +11,11 @@ use Rattle.sled_nodes.specs.Order.{Key, key_cmp}
 use Rattle.sled_batch.specs.Batch.{Writes, Rises}
 use Rattle.sled_store.specs.Store.{Store}
 use Rattle.sled_model.specs.Maps.{Merge}
-use Rattle.sled_model.specs.Answer.{same_value}
 use Rattle.sled_model.specs.State.{State, NamedTree}
-use Rattle.sled_model.specs.Groups.{Write, writes_on, writes_of, after_write, after_writes}
+use Rattle.sled_model.specs.Groups.{Write, writes_on, writes_of, after_writes}
 use Rattle.sled_model.specs.Refusal.{is_number, must_refuse_of, trees_of_batches}
 use Rattle.sled_model.specs.declared.tree.Tree.{Tree}
+use Rattle.sled_model.proofs.Shapes.{after_write, same_value}
 use Rattle.tree_groups.specs.declared.key_write.KeyWrite.{KeyWrite}
 use Rattle.tree_laws.specs.Snapshot.{Snapshot}
 use Rattle.sled.specs.Values.{DbValue, numbers_of, db_state}

@@ -119,7 +119,7 @@ cause_alike s a m b tree call other r t = t
 pub may_alike : (s : State) (a m b : Store) (tree : Tree) (call : Call) (e : Error) → ReadsAlike a m → MayRefuse s m b (ToPoint tree call) e → MayRefuse s a b (ToPoint tree call) e
 may_alike s a m b tree call e r may = record { is = go (must_refuse s (ToPoint tree call)) may.is }
   where
-    go : (o : Option MustRefuse) → may_refuse_as o s m b (ToPoint tree call) e → may_refuse_as o s a b (ToPoint tree call) e
+    go : (o : Option MustRefuse) → may_refuse_as o (cause_of s m b (ToPoint tree call)) e → may_refuse_as o (cause_of s a b (ToPoint tree call)) e
     go None t = cause_alike s a m b tree call e r t
     go (Some must) t = t
 
@@ -133,7 +133,7 @@ module _ {P M : Type 0} (store : P → Store) (meant : M → Merge) (old : DbVal
   may_at : (e : Error) → MayRefuse (state_of store meant old slots 0) a b (ToStep f) e → MayRefuse (db_state store meant old) a b (ToPoint f.tree f.call) e
   may_at e may = record { is = go (must_refuse (db_state store meant old) (ToPoint f.tree f.call)) may.is }
     where
-      go : (o : Option MustRefuse) → may_refuse_as o (state_of store meant old slots 0) a b (ToStep f) e → may_refuse_as o (db_state store meant old) a b (ToPoint f.tree f.call) e
+      go : (o : Option MustRefuse) → may_refuse_as o (cause_of (state_of store meant old slots 0) a b (ToStep f)) e → may_refuse_as o (cause_of (db_state store meant old) a b (ToPoint f.tree f.call)) e
       go None t = cause_at e t
       go (Some must) t = t
 
@@ -297,7 +297,7 @@ module _ {P M : Type 0} (store : P → Store) (meant : M → Merge) (old : DbVal
     turns = λ tells path clean. absurd (untold_turns (must_refuse (db_state store meant old) (ToPoint tree call)) e tested.is tells);
   }
     where
-      go : (o : Option MustRefuse) → must_be_refused_as o e → may_refuse_as o (db_state store meant old) (store old.pages) (store old.pages) (ToPoint tree call) e
+      go : (o : Option MustRefuse) → must_be_refused_as o e → may_refuse_as o (cause_of (db_state store meant old) (store old.pages) (store old.pages) (ToPoint tree call)) e
       go None t = absurd t
       go (Some must) t = t
 
@@ -308,7 +308,7 @@ module _ {P M : Type 0} (store : P → Store) (meant : M → Merge) (old : DbVal
   -- for want of memory
   pub point_short : must_refuse (db_state store meant old) (ToPoint tree call) ≡ None → e ≡ error.NoMemory → PointRefused store meant old tree call e old
   point_short must short = subst (λ z. PointRefused store meant old tree call z old) (sym short) (record {
-    refuses = record { may = record { is = subst (λ o. may_refuse_as o (db_state store meant old) (store old.pages) (store old.pages) (ToPoint tree call) error.NoMemory) (sym must) tt }; is = refl };
+    refuses = record { may = record { is = subst (λ o. may_refuse_as o (cause_of (db_state store meant old) (store old.pages) (store old.pages) (ToPoint tree call)) error.NoMemory) (sym must) tt }; is = refl };
     conducts = conducts_refused store meant old error.NoMemory refl;
     steps = inl (record { why = inr refl }, refl);
     turns = λ tells path clean. absurd tells;

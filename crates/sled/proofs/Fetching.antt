@@ -1,5 +1,5 @@
 -- Calls that make the new value at a key of the one that stands there.
-use Rattle.std.proofs.Common.{◌≡◌, ℕ, Bool, true, false, cond, Option, Some, None, option_map, Result, Ok, Err, sym, refl, ap, ◌∙◌, subst, inl, inr}
+use Rattle.std.proofs.Common.{◌≡◌, ℕ, Bool, true, false, cond, [], ◌∷◌, Option, Some, None, option_map, Result, Ok, Err, sym, refl, ap, ◌∙◌, subst, inl, inr}
 use Rattle.std.specs.FinMap.Entries.{find}
 use Rattle.std.specs.declared.vec.Vec.{Vec}
 use Rattle.std.specs.declared.alloc.Global.{Global}
@@ -11,23 +11,30 @@ use Rattle.sled_store.specs.Store.{Store}
 use Rattle.sled_nodes.specs.declared.error.Error.{Error}
 use Rattle.sled_nodes.specs.declared.error.Error.TheVariants as error
 use Rattle.sled_model.specs.Maps.{Merge}
-use Rattle.sled_model.specs.Answer.{same_value, effect_of_write, decision_of_swap}
+use Rattle.sled_model.specs.Answer.{effect_of_write, decision_of_swap}
 use Rattle.sled_model.specs.State.{NamedTree}
 use Rattle.sled_model.specs.declared.call.Call.{Call}
-use Rattle.sled_model.specs.declared.call.Call.TheVariants.{CompareAndSwap}
+use Rattle.sled_model.specs.Refusal.{MustRefuse, first_of, must_refuse_of, may_refuse_as, ToPoint, cause_of, cause_of_walk}
+use Rattle.sled_model.specs.Whole.{RefusesPoint}
+use Rattle.sled_model.specs.declared.call.Call.TheVariants.{Get, CompareAndSwap}
 use Rattle.sled_model.specs.declared.decision.Decision.{Decision}
 use Rattle.sled_model.specs.declared.decision.Effect.TheVariants as effect
 use Rattle.sled_model.specs.declared.reply.Reply.{Reply}
 use Rattle.sled_model.specs.declared.reply.Reply.TheVariants.{Swapped}
 use Rattle.sled_model.specs.declared.tree.Tree.{Tree}
+use Rattle.sled_model.proofs.Shapes.{same_value}
 use Rattle.tree_reads.specs.Walk.{once}
-use Rattle.sled.specs.Values.{DbValue}
-use Rattle.sled.specs.Reads.{RefusesReading, GivesUpGet}
+use Rattle.sled.specs.Values.{DbValue, db_state}
+use Rattle.sled.specs.Reads.{stops_reading, refuses_reading_as, RefusesReading, GivesUpGet}
 use Rattle.sled.specs.Direct.{PointDecided, PointRefused}
 use Rattle.sled.specs.theory.Direct.{IsSwap}
 use Rattle.sled.specs.Fetch.{Closure, Answers, Stands, FetchRefused}
+use Rattle.sled.specs.Promises.{ChangesMap, with_value}
+use Rattle.sled.specs.Written.{Updates}
 use Rattle.sled.proofs.Conducting.{conducts_none, conducts_refused, plain_short}
+use Rattle.sled.proofs.Mapping.{claims_less}
 use Rattle.sled.proofs.Popping.{min_is, pop_unread}
+use Rattle.sled.proofs.Promising.{sets}
 
 same_itself : (value : Option Key) → same_value value value ≡ true
 same_itself None = refl
@@ -90,3 +97,56 @@ module _ {P M F : Type 0} (store : P → Store) (meant : M → Merge) (closure :
           same = refl;
           conducts = refused.conducts;
         }
+
+    -- the closure answered these bytes, and there was memory for them
+    module _ (answer : Result (Option (Vec ℕ Global)) AllocError) (bytes : Option (Vec ℕ Global)) (is : answer ≡ Ok bytes) (answers : Answers closure f stood answer) (made : Option Key) (made_is : made ≡ option_map (λ (v : Vec ℕ Global). v.items) bytes) (new : DbValue P M) where
+      -- the swap was made
+      pub updates : PointDecided store meant old tree (CompareAndSwap key stood made) (Swapped (Ok tt)) new → ChangesMap store meant old tree (Updates closure f key stood made) new
+      updates p =
+          claims_less store meant old new tree (λ before after. (stood ≡ find key_cmp key before) × (after ≡ with_value key made before)) (Updates closure f key stood made)
+          (λ before after claim. record { shown = claim.0; answer = bytes; answers = subst (Answers closure f stood) is answers; makes = made_is; writes = claim.1 })
+          (sets store meant old tree key stood made new p)
+
+      -- .. or was refused
+      pub unswapped : (e : Error) → PointRefused store meant old tree (CompareAndSwap key stood made) e new → FetchRefused store meant closure f old tree key e new
+      unswapped e p = record {
+        why = inr (inr (record { stood = stood; made = made; makes = record { stands = stands; answer = bytes; answers = subst (Answers closure f stood) is answers; is = made_is }; refused = p }));
+        same = p.refuses.is;
+        conducts = p.conducts;
+      }
+
+  -- why it is refused, as any call on the key may be
+  pub fetch_refuses : (e : Error) (new : DbValue P M) → FetchRefused store meant closure f old tree key e new → RefusesPoint (db_state store meant old) (store old.pages) (store new.pages) tree (Get key) e (db_state store meant new)
+  fetch_refuses e new r = record {
+    may = record {
+      is = elim r.why [
+        | inl u ↦ unread_may (must_refuse_of (db_state store meant old) (tree ∷ [])) u.refuses.is
+        | inr t ↦ elim t [
+          | inl u ↦ subst (λ o. may_refuse_as (first_of o None) (cause_of (db_state store meant old) (store old.pages) (store new.pages) (ToPoint tree (Get key))) e) (sym u.stands.tested) (subst (cause_of_walk (store old.pages) (store new.pages)) (sym u.told) tt)
+          | inr u ↦ swap_may u.stood u.made (first_of (must_refuse_of (db_state store meant old) (tree ∷ [])) None) u.refused.refuses.may.is
+        ]
+      ];
+    };
+    is = r.same;
+  }
+    where
+      read_cause : (e : Error) → stops_reading store meant old tree once e → cause_of_walk (store old.pages) (store new.pages) e
+      read_cause error.NoMemory k = tt
+      read_cause (error.Io fault) k = inr k
+      read_cause (error.ReportableBug text) k = k.0
+      read_cause other k = k
+
+      unread_may : (o : Option MustRefuse) → refuses_reading_as store meant old tree once o e → may_refuse_as (first_of o None) (cause_of (db_state store meant old) (store old.pages) (store new.pages) (ToPoint tree (Get key))) e
+      unread_may None k = read_cause e k
+      unread_may (Some must) k = k
+
+      same_cause : (call : Call) (e : Error) → cause_of_walk (store old.pages) (store new.pages) e → cause_of_walk (store old.pages) (store new.pages) e
+      same_cause call error.NoMemory k = tt
+      same_cause call (error.Io fault) k = k
+      same_cause call (error.ReportableBug text) k = k
+      same_cause call other k = k
+
+      swap_may : (stood made : Option Key) (o : Option MustRefuse) → may_refuse_as o (cause_of (db_state store meant old) (store old.pages) (store new.pages) (ToPoint tree (CompareAndSwap key stood made))) e
+          → may_refuse_as o (cause_of (db_state store meant old) (store old.pages) (store new.pages) (ToPoint tree (Get key))) e
+      swap_may stood made None k = same_cause (CompareAndSwap key stood made) e k
+      swap_may stood made (Some must) k = k

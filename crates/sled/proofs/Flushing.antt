@@ -104,7 +104,7 @@ module _ {P M : Type 0} (store : P → Store) (meant : M → Merge) (old : DbVal
 
   pub flush_refused : (q : P) (e : Error) → (now (store old.pages)).in_group ≡ false → IsRefused e (store old.pages) (store q) → RefusesFlush store meant old (record old { pages = q }) e
   flush_refused q e no_group r = record {
-    may = λ slots given. record { is = subst (λ o. may_refuse_as o (state_of store meant old slots given) (store old.pages) (store q) (ToCall Flush) e) (sym (open_now store meant old no_group)) (cause slots given q e r.is) };
+    may = λ slots given. record { is = subst (λ o. may_refuse_as o (cause_of (state_of store meant old slots given) (store old.pages) (store q) (ToCall Flush)) e) (sym (open_now store meant old no_group)) (cause slots given q e r.is) };
     is = only e (store old.pages) (store q) r.is;
     sound = λ d. refused_db d q e r;
     same = refl;
@@ -113,7 +113,7 @@ module _ {P M : Type 0} (store : P → Store) (meant : M → Merge) (old : DbVal
   -- closed
   pub flush_closed : (now (store old.pages)).in_group ≡ true → RefusesFlush store meant old old error.Closed
   flush_closed e = record {
-    may = λ slots given. record { is = subst (λ o. may_refuse_as o (state_of store meant old slots given) (store old.pages) (store old.pages) (ToCall Flush) error.Closed) (sym (closed_now store meant old e)) refl };
+    may = λ slots given. record { is = subst (λ o. may_refuse_as o (cause_of (state_of store meant old slots given) (store old.pages) (store old.pages) (ToCall Flush)) error.Closed) (sym (closed_now store meant old e)) refl };
     is = refl;
     sound = λ d. d;
     same = refl;

@@ -18,8 +18,8 @@ use Rattle.sled_nodes.specs.declared.link.Link.{Link}
 use Rattle.sled_nodes.specs.declared.node.Node.{Node}
 use Rattle.sled_store.specs.declared.page.View.{View}
 use Rattle.sled_model.specs.Answer.{Answer, answer_of, decision_of, event_of, key_of}
-use Rattle.sled_model.specs.Scan.{Reads, is_read}
-use Rattle.sled_model.specs.State.{State, NamedTree, CallInFlight, range_of, IsOnKey, maps_of, queues_after, after_decision}
+use Rattle.sled_model.specs.Scan.{is_read}
+use Rattle.sled_model.specs.State.{State, NamedTree, CallInFlight, range_of, IsOnKey, maps_of, queues_after}
 use Rattle.sled_model.specs.Refusal.{MustRefuse, must_refuse, MayRefuse, ToStep, ToPoint, TellsTurns, cause_of, may_refuse_as, turns_limit}
 use Rattle.sled_model.specs.declared.event.Event.{Event}
 use Rattle.sled_model.specs.declared.reply.Reply.{Reply}
@@ -27,6 +27,7 @@ use Rattle.sled_queues.specs.Values.{QueuesValue, queue_at}
 use Rattle.sled_queues.specs.Queues.{queues_of, Becomes, IsCalm}
 use Rattle.sled_queues.proofs.Lawful.{delivers_law}
 use Rattle.sled_model.specs.declared.TheConstants.{MAX_LOOPS}
+use Rattle.sled_model.proofs.Shapes.{Reads, after_decision}
 use Rattle.tree_laws.specs.Forest.{Tree, Forest, contents}
 use Rattle.tree_laws.specs.Contents.{trees_of}
 use Rattle.tree_laws.specs.Crashes.{IsValid, IsCrashConsistent, AddsCrashStates}
@@ -194,14 +195,14 @@ module _ {P M : Type 0} (store : P → Store) (meant : M → Merge) (old : DbVal
   pub flies_untested : (f g : InFlight) (e : Error) → MustBeRefused (must_refuse (db_state store meant old) (ToStep (call_in_flight_of f))) e → DbStepContract store meant old f (Refused e) old g
   flies_untested f g e tested = untouched f g e (untold_fault (must_refuse (db_state store meant old) (ToStep (call_in_flight_of f))) e tested.is) (λ none fits. absurd (subst (λ o. must_be_refused_as o e) none tested.is)) (λ none all. absurd (subst (λ o. must_be_refused_as o e) none tested.is)) (λ slots given. record { is = go slots given (must_refuse (db_state store meant old) (ToStep (call_in_flight_of f))) tested.is })
     where
-      go : (slots : ℕ → Option CallInFlight) (given : ℕ) (o : Option MustRefuse) → must_be_refused_as o e → may_refuse_as o (state_of store meant old slots given) (store old.pages) (store old.pages) (ToStep (call_in_flight_of f)) e
+      go : (slots : ℕ → Option CallInFlight) (given : ℕ) (o : Option MustRefuse) → must_be_refused_as o e → may_refuse_as o (cause_of (state_of store meant old slots given) (store old.pages) (store old.pages) (ToStep (call_in_flight_of f))) e
       go slots given None t = absurd t
       go slots given (Some m) t = t
 
   -- the tests let the call pass
   module _ (f : InFlight) (must : must_refuse (db_state store meant old) (ToStep (call_in_flight_of f)) ≡ None) where
     may_refuse : (slots : ℕ → Option CallInFlight) (given : ℕ) (a b : Store) (e : Error) → cause_of (state_of store meant old slots given) a b (ToStep (call_in_flight_of f)) e → MayRefuse (state_of store meant old slots given) a b (ToStep (call_in_flight_of f)) e
-    may_refuse slots given a b e cause = record { is = subst (λ o. may_refuse_as o (state_of store meant old slots given) a b (ToStep (call_in_flight_of f)) e) (sym must) cause }
+    may_refuse slots given a b e cause = record { is = subst (λ o. may_refuse_as o (cause_of (state_of store meant old slots given) a b (ToStep (call_in_flight_of f))) e) (sym must) cause }
 
     -- its turns are the limit
     pub flies_limit : (g : InFlight) (e : Error) → f.turns ≡ turns_limit → TellsTurns e → ((slots : ℕ → Option CallInFlight) (given : ℕ) → cause_of (state_of store meant old slots given) (store old.pages) (store old.pages) (ToStep (call_in_flight_of f)) e) → DbStepContract store meant old f (Refused e) old g
@@ -630,7 +631,7 @@ module _ {P M : Type 0} (store : P → Store) (meant : M → Merge) (old new : D
       let k = (flies.step.steps (everywhere f) 0 0 0 0 refl).is.0 in
       ap (λ (z : CallInFlight). z.turns) (some_is k.here) ∙ go (state_of store meant old (everywhere f) 0) (store old.pages) (store new.pages) k.flying e (must_refuse (state_of store meant old (everywhere f) 0) (ToStep k.flying)) tells k.may.is
     where
-      go : (s : State) (x y : Store) (f : CallInFlight) (e : Error) (o : Option MustRefuse) → TellsTurns e → may_refuse_as o s x y (ToStep f) e → f.turns ≡ turns_limit
+      go : (s : State) (x y : Store) (f : CallInFlight) (e : Error) (o : Option MustRefuse) → TellsTurns e → may_refuse_as o (cause_of s x y (ToStep f)) e → f.turns ≡ turns_limit
       go s x y f (error.ReportableBug text) None tells t = t.1
       go s x y f e (Some must) tells t = absurd (untold_turns (Some must) e t tells)
       go s x y f other None tells t = absurd tells

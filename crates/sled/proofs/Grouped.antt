@@ -9,8 +9,8 @@ use Rattle.sled_nodes.specs.Order.{Key, key_cmp}
 use Rattle.sled_batch.specs.Batch.{Writes}
 use Rattle.sled_store.specs.theory.Facts.{same_name, name_itself}
 use Rattle.sled_model.specs.Maps.{Map, Merge}
-use Rattle.sled_model.specs.Answer.{answer_of, decision_of, event_of, map_after, key_of, same_value}
-use Rattle.sled_model.specs.Groups.{Write, writes_on, writes_of, call_with, call_of_write, answer_of_write, after_write_on, after_write, after_writes, events_of_write, events_of_writes}
+use Rattle.sled_model.specs.Answer.{answer_of, decision_of, event_of, map_after, key_of}
+use Rattle.sled_model.specs.Groups.{Write, writes_on, writes_of, call_with, after_write_on, after_writes, events_of_write, events_of_writes}
 use Rattle.sled_model.specs.Refusal.{MustRefuse, IsClosed, IsDropped, is_number, dropped_test, trees_of_batches, must_refuse_of}
 use Rattle.sled_model.specs.State.{State, NamedTree, CallInFlight}
 use Rattle.sled_model.specs.declared.call.Call.{Call}
@@ -20,6 +20,7 @@ use Rattle.sled_model.specs.declared.decision.Effect.TheVariants as effect
 use Rattle.sled_model.specs.declared.event.Event.{Event}
 use Rattle.sled_model.specs.declared.tree.Tree.{Tree}
 use Rattle.sled_model.proofs.Tests.{first_none}
+use Rattle.sled_model.proofs.Shapes.{after_write, answer_of_write, call_of_write, same_value}
 use Rattle.sled_tree.specs.declared.flight.Job.{Job}
 use Rattle.tree_groups.specs.Groups.{AreNumbered, map_after_jobs}
 use Rattle.sled.specs.theory.Groups.{jobs_of_write, jobs_of_writes, events_of_call, events_of_jobs}

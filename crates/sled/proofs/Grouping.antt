@@ -11,8 +11,9 @@ use Rattle.sled_store.specs.State.{GroupEnds}
 use Rattle.sled_store.specs.Store.{Store, now, after_action, is_refused_as}
 use Rattle.sled_store.specs.theory.Facts.{now_acted}
 use Rattle.sled_model.specs.Maps.{Map, Maps, Merge}
-use Rattle.sled_model.specs.Groups.{writes_of, after_writes, tag_of, Closes, refuses_group_as}
-use Rattle.sled_model.specs.Refusal.{MustRefuse, trees_of_batches, must_refuse_of, cause_of_group}
+use Rattle.sled_model.specs.Groups.{writes_of, after_writes, Closes}
+use Rattle.sled_model.proofs.Shapes.{tag_of}
+use Rattle.sled_model.specs.Refusal.{MustRefuse, trees_of_batches, must_refuse_of, cause_of_walk, may_refuse_as}
 use Rattle.sled_model.specs.State.{State, NamedTree, CallInFlight, maps_of}
 use Rattle.sled_model.specs.declared.call.Whole.TheVariants.{Group}
 use Rattle.sled_model.specs.declared.reply.Reply.TheVariants as told
@@ -98,7 +99,7 @@ refused_mark (error.Io fault) a b (inr t) = ap (λ (s : Store). s.mark) t.0
 refused_mark other a b t = ap (λ (s : Store). s.mark) t.1
 
 -- the cause, where before it no fault was counted and the same pages were readable
-refused_cause : (e : Error) (a last b : Store) → last.faults ≡ a.faults → last.is_readable ≡ a.is_readable → is_write_refused_as e last b → cause_of_group a b e
+refused_cause : (e : Error) (a last b : Store) → last.faults ≡ a.faults → last.is_readable ≡ a.is_readable → is_write_refused_as e last b → cause_of_walk a b e
 refused_cause error.NoMemory a last b faults readable t = tt
 refused_cause (error.Io fault) a last b faults readable (inl t) = inl (more a.faults last.faults b.faults faults (ap (λ (s : Store). s.faults) t))
   where
@@ -117,7 +118,7 @@ record Stopped (a b : Store) (e : Error) : Type 0 where
   mark : b.mark ≡ a.mark
   adds : AddsCrashStates [] a b
   acts : effect_of_group (Some e) a b
-  why : cause_of_group a b e
+  why : cause_of_walk a b e
   which : Rests a b ⊎ ((now b).in_group ≡ true)
 
 stopped : (fs : List KeyWrite) (a b : Store) (e : Error) → ((e ≡ error.NoMemory) × (b ≡ a)) ⊎ LeavesGroup fs a b e → Stopped a b e
@@ -125,7 +126,7 @@ stopped fs a b e (inl (short, same)) = record {
   mark = ap (λ (s : Store). s.mark) same;
   adds = subst (λ (s : Store). AddsCrashStates [] a s) (sym same) (extends_same a);
   acts = inl (subst (λ z. IsStepRefused z a b) (sym short) same);
-  why = subst (λ z. cause_of_group a b z) (sym short) tt;
+  why = subst (λ z. cause_of_walk a b z) (sym short) tt;
   which = inl (rests_same same);
 }
 stopped fs a b e (inr l) = go l.acts
@@ -190,15 +191,15 @@ module _ {P M : Type 0} (store : P → Store) (meant : M → Merge) (old : DbVal
       quietly : IsStepRefused e (store old.pages) (store old.pages)
       quietly = quiet_untold e (store old.pages) (untold_fault (must_refuse_of (db_state store meant old) (trees_of_batches batches)) e t.is)
 
-      go : (o : Option MustRefuse) → must_be_refused_as o e → refuses_group_as o (store old.pages) (store old.pages) e
+      go : (o : Option MustRefuse) → must_be_refused_as o e → may_refuse_as o (cause_of_walk (store old.pages) (store old.pages)) e
       go None t = absurd t
       go (Some must) t = t
 
   module _ (tested : must_refuse_of (db_state store meant old) (trees_of_batches batches) ≡ None) where
-    pub why_so : (a b : Store) (e : Error) → cause_of_group a b e → refuses_group_as (must_refuse_of (db_state store meant old) (trees_of_batches batches)) a b e
-    why_so a b e cause = subst (λ o. refuses_group_as o a b e) (sym tested) cause
+    pub why_so : (a b : Store) (e : Error) → cause_of_walk a b e → may_refuse_as (must_refuse_of (db_state store meant old) (trees_of_batches batches)) (cause_of_walk a b) e
+    why_so a b e cause = subst (λ o. may_refuse_as o (cause_of_walk a b) e) (sym tested) cause
 
-    unread_cause : (e : Error) (s : Store) → unread s e → cause_of_group s s e
+    unread_cause : (e : Error) (s : Store) → unread s e → cause_of_walk s s e
     unread_cause error.NoMemory s t = tt
     unread_cause (error.Io fault) s t = inr t
     unread_cause other s t = t

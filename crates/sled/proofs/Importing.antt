@@ -12,11 +12,11 @@ use Rattle.sled_nodes.specs.declared.error.Error.TheVariants as error
 use Rattle.sled_nodes.specs.declared.texts.TheConstants.{OVERWRITES_DATA, UNKNOWN_COLLECTION_TYPE}
 use Rattle.sled_model.specs.Maps.{Maps, Merge}
 use Rattle.sled_model.specs.Answer.{Answer, answer_of}
-use Rattle.sled_model.specs.Collections.{Content, content_of, contents_of, are_trees}
-use Rattle.sled_model.specs.Imports.{Part, OpensName, Puts, puts_of, parts_of, tree_at, DoesParts, NoPart, OnePart, IsAbsent, unread_as, refuses_part, refuses_import_as, StopsAtPart, StopsImporting}
+use Rattle.sled_model.specs.Collections.{Content, contents_of, are_trees}
+use Rattle.sled_model.specs.Imports.{Part, OpensName, Puts, puts_of, parts_of, tree_at, DoesParts, NoPart, OnePart, HasAt, unread_as, refuses_part, StopsAtPart, StopsImporting}
 use Rattle.sled_model.specs.State.{State, NamedTree, CallInFlight, maps_of, after_decision_on}
-use Rattle.sled_model.specs.Refusal.{MustRefuse, IsClosed, first_of, must_refuse, must_refuse_of, MayRefuse, ToPoint, ToCall, cause_of, may_refuse_as}
-use Rattle.sled_model.specs.Whole.{OpensTree, new_tree, number_opened, state_opened}
+use Rattle.sled_model.specs.Refusal.{MustRefuse, IsClosed, first_of, must_refuse, must_refuse_of, MayRefuse, ToPoint, ToCall, cause_of, may_refuse_as, cause_of_import}
+use Rattle.sled_model.specs.Whole.{OpensTree, number_opened, state_opened}
 use Rattle.sled_model.specs.declared.call.Call.TheVariants.{Insert}
 use Rattle.sled_model.specs.declared.call.Whole.TheVariants.{OpenTree, Import}
 use Rattle.sled_model.specs.declared.reply.Reply.{Reply}
@@ -24,6 +24,7 @@ use Rattle.sled_model.specs.declared.reply.Reply.TheVariants as told
 use Rattle.sled_model.specs.declared.outcome.Outcome.{Outcome}
 use Rattle.sled_model.specs.declared.outcome.Outcome.TheVariants.{Decided}
 use Rattle.sled_model.specs.declared.tree.Tree.{Tree}
+use Rattle.sled_model.proofs.Shapes.{content_of, new_tree}
 use Rattle.tree_reads.specs.Walk.{once}
 use Rattle.sled.specs.Values.{DbValue, state_of, db_state}
 use Rattle.sled.specs.Sound.{IsDb}
@@ -64,7 +65,7 @@ opening_alike s a m b name e r may = record { is = go (must_refuse s (ToCall (Op
     cause (error.Io fault) k = (k.0, subst (λ n. n < b.faults) r.faults k.1)
     cause other k = k
 
-    go : (o : Option MustRefuse) → may_refuse_as o s m b (ToCall (OpenTree name)) e → may_refuse_as o s a b (ToCall (OpenTree name)) e
+    go : (o : Option MustRefuse) → may_refuse_as o (cause_of s m b (ToCall (OpenTree name))) e → may_refuse_as o (cause_of s a b (ToCall (OpenTree name))) e
     go None k = cause e k
     go (Some must) k = k
 
@@ -253,7 +254,7 @@ module _ {P M : Type 0} (store : P → Store) (meant : M → Merge) where
   -- ---- a pair is put
 
   module _ (old : DbValue P M) (tree : Tree) (is_now : IsTreeNow store meant old tree) (key value : Key) where
-    is_absent : (slots : ℕ → Option CallInFlight) (given : ℕ) (there : Bool) → there ≡ false → ReadsMap store meant old tree (λ map. there ≡ is_some (find key_cmp key map)) → IsAbsent (State_of old slots given) tree.name key
+    is_absent : (slots : ℕ → Option CallInFlight) (given : ℕ) (there : Bool) → there ≡ false → ReadsMap store meant old tree (λ map. there ≡ is_some (find key_cmp key map)) → HasAt (State_of old slots given) tree.name key None
     is_absent slots given there off r = record { named = r.named; there = r.there; is = absent (find key_cmp key r.named.map) (sym r.is ∙ off) }
 
     -- the key has no value
@@ -297,7 +298,7 @@ module _ {P M : Type 0} (store : P → Store) (meant : M → Merge) where
           cause error.NoMemory k = tt
           cause other k = k
 
-          go : (o : Option MustRefuse) → may_refuse_as o (db_state store meant old) (store old.pages) (store new.pages) (ToPoint tree (Insert key value)) e → may_refuse_as o (State_of old slots given) (store old.pages) (store new.pages) (ToPoint tree (Insert key value)) e
+          go : (o : Option MustRefuse) → may_refuse_as o (cause_of (db_state store meant old) (store old.pages) (store new.pages) (ToPoint tree (Insert key value))) e → may_refuse_as o (cause_of (State_of old slots given) (store old.pages) (store new.pages) (ToPoint tree (Insert key value))) e
           go None k = cause e k
           go (Some must) k = k
 
@@ -328,8 +329,8 @@ module _ {P M : Type 0} (store : P → Store) (meant : M → Merge) where
     put_present text is there on r =
         let v = value_of (find key_cmp key r.named.map) (sym r.is ∙ on) in
         stops_at old old (Puts tree.name key value) (error.Unsupported text) (λ slots given. refl)
-        (λ slots given. inl (is, record { named = r.named; there = r.there; value = v.0; is = v.1 }))
-        (store old.pages, NoAction, refl) (leaves_none store meant old) refl (record { is = inl ((is, record { named = r.named; there = r.there; value = v.0; is = v.1 }), refl) })
+        (λ slots given. inl (is, v.0, record { named = r.named; there = r.there; is = v.1 }))
+        (store old.pages, NoAction, refl) (leaves_none store meant old) refl (record { is = inl ((is, v.0, record { named = r.named; there = r.there; is = v.1 }), refl) })
 
   -- ---- pairs, and collections
 
@@ -420,7 +421,7 @@ module _ {P M : Type 0} (store : P → Store) (meant : M → Merge) where
     import_closed e = record {
       is = record {
         maps = [];
-        refuses = inl (subst (λ o. refuses_import_as o all error.Closed) (sym (ap (λ b. first_of (cond (not b) None (Some IsClosed)) None) e)) refl, refl, refl);
+        refuses = inl (subst (λ o. may_refuse_as o (cause_of_import all) error.Closed) (sym (ap (λ b. first_of (cond (not b) None (Some IsClosed)) None) e)) refl, refl, refl);
         acts = (store old.pages, NoAction, refl);
         leaves = leaves_none store meant old;
         same = refl;
@@ -438,7 +439,7 @@ module _ {P M : Type 0} (store : P → Store) (meant : M → Merge) where
       import_unknown off text is = record {
         is = record {
           maps = [];
-          refuses = inl (subst (λ o. refuses_import_as o all (error.Unsupported text)) (sym (open_is (λ n. None) 0)) (is, off), refl, refl);
+          refuses = inl (subst (λ o. may_refuse_as o (cause_of_import all) (error.Unsupported text)) (sym (open_is (λ n. None) 0)) (is, off), refl, refl);
           acts = (store old.pages, NoAction, refl);
           leaves = leaves_none store meant old;
           same = refl;
@@ -483,7 +484,7 @@ module _ {P M : Type 0} (store : P → Store) (meant : M → Merge) where
     pub import_whole : ImportDecided store meant old (contents_of collections.items) new → WholeDecided store meant old (Import collections) told.Done new
     import_whole k = record { maps = k.maps; decides = λ slots given number. (refl, k.decides slots given); acts = k.acts; leaves = k.leaves; same = k.same }
 
-    refused_whole : (all : List Content) (e : Error) (maps : List Maps) → (refuses_import_as (must_refuse_of (db_state store meant old) []) all e × (new ≡ old) × (maps ≡ [])) ⊎ ImportStops store meant old all e new maps
+    refused_whole : (all : List Content) (e : Error) (maps : List Maps) → (may_refuse_as (must_refuse_of (db_state store meant old) []) (cause_of_import all) e × (new ≡ old) × (maps ≡ [])) ⊎ ImportStops store meant old all e new maps
         → (slots : ℕ → Option CallInFlight) (given : ℕ) → StopsImporting (State_of old slots given) (store old.pages) (store new.pages) all e (State_of new slots given) maps
     refused_whole all e maps (inl (cause, same, none)) slots given = record { is = inl (cause, ap (λ (d : DbValue P M). State_of d slots given) same, none) }
     refused_whole all e maps (inr s) slots given = record {

@@ -1,5 +1,6 @@
 -- What whole calls keep and leave, part by part.
 use Rattle.std.proofs.Common.{◌≡◌, ℕ, ◌+◌, ◌<◌, ◌≤◌, Bool, List, [], ◌∷◌, map, Option, Some, None, option_map, Result, Ok, Err, IfOk, IfErr, OnOk, sym, ap, ◌∙◌, subst, inl, inr, arith}
+use Rattle.std.specs.Prelude.{is_none, is_some}
 use Rattle.sled_nodes.specs.Order.{Key}
 use Rattle.sled_batch.specs.Batch.{Writes}
 use Rattle.sled_store.specs.In.{In}
@@ -9,15 +10,16 @@ use Rattle.sled_nodes.specs.declared.error.Error.{Error}
 use Rattle.sled_model.specs.Maps.{Maps, Merge}
 use Rattle.sled_model.specs.State.{State, NamedTree, Queue, maps_of}
 use Rattle.sled_model.specs.Backlog.{no_backlog}
-use Rattle.sled_model.specs.Queues.{next_in, without_next}
+use Rattle.sled_model.specs.Queues.{without_next}
 use Rattle.sled_model.specs.Transition.{RefusesAtOnce}
-use Rattle.sled_model.specs.Whole.{SetsOperator, OpensTree, DropsTreeOf, maps_opened, maps_dropped}
+use Rattle.sled_model.specs.Whole.{SetsOperator, OpensTree, DropsTreeOf, maps_if}
 use Rattle.sled_model.specs.declared.call.Whole.{Whole}
 use Rattle.sled_model.specs.declared.event.Next as event
 use Rattle.sled_model.specs.declared.call.Whole.TheVariants.{OpenTree, DropTree}
 use Rattle.sled_model.specs.declared.reply.Reply.TheVariants.{Flag}
 use Rattle.sled_model.specs.declared.reply.Reply.TheVariants as told
 use Rattle.sled_model.specs.declared.tree.Tree.{Tree}
+use Rattle.sled_model.proofs.Shapes.{next_in}
 use Rattle.tree_laws.specs.Contents.{trees_of}
 use Rattle.sled.specs.Values.{DbValue, db_state}
 use Rattle.sled.specs.Direct.{LeavesAll, WholeDecided, WholeRefused, lost_of}
@@ -39,7 +41,7 @@ module _ {P M : Type 0} (store : P → Store) (meant : M → Merge) (old new : D
 
   -- ---- a flush
 
-  flush_rests : (e : Error) → RefusesFlush store meant old new e → Rests (store old.pages) (store new.pages)
+  pub flush_rests : (e : Error) → RefusesFlush store meant old new e → Rests (store old.pages) (store new.pages)
   flush_rests e r = rests_only_faults e (store old.pages) (store new.pages) r.is
 
   pub flush_keeps : (flush_number : P → ℕ) (r : Result ℕ Error) → IfOk r (λ number. FlushesDb store flush_number meant old number new) → IfErr r (RefusesFlush store meant old new) → KeepsMaps store meant old new
@@ -96,13 +98,13 @@ module _ {P M : Type 0} (store : P → Store) (meant : M → Merge) (old new : D
 
   module _ (n : ℕ) (u : EndsSubscriber store meant old n new) where
     pub end_keeps : KeepsMaps store meant old new
-    end_keeps = ap maps_of (u.gives_up (λ n. None) 0).is
+    end_keeps = ap maps_of (u.gives_up (λ n. None) 0)
 
     pub end_queue : queue_in store meant new n ≡ None
-    end_queue = ap (λ (s : State). s.queues n) (u.gives_up (λ n. None) 0).is ∙ put_here (db_state store meant old).queues n None
+    end_queue = ap (λ (s : State). s.queues n) (u.gives_up (λ n. None) 0) ∙ put_here (db_state store meant old).queues n None
 
     pub end_others : KeepsOthers store meant n old new
-    end_others = λ other off. ap (λ (s : State). s.queues other) (u.gives_up (λ n. None) 0).is ∙ put_elsewhere (db_state store meant old).queues n other None off
+    end_others = λ other off. ap (λ (s : State). s.queues other) (u.gives_up (λ n. None) 0) ∙ put_elsewhere (db_state store meant old).queues n other None off
 
   -- ---- operators
 
@@ -145,7 +147,7 @@ module _ {P M : Type 0} (store : P → Store) (meant : M → Merge) (old new : D
       opens : OpensTree (db_state store meant old) name (told.Tree tree) (db_state store meant new) w.maps
       opens = w.decides (λ n. None) 0 0
 
-      go : (m : Maps) (o : Option NamedTree) → In m (maps_opened o (db_state store meant new)) → m ≡ maps_of (db_state store meant new)
+      go : (m : Maps) (o : Option NamedTree) → In m (maps_if (is_none o) (db_state store meant new)) → m ≡ maps_of (db_state store meant new)
       go m None (inl e) = e
       go m None (inr i) = absurd i
       go m (Some t) i = absurd i
@@ -170,7 +172,7 @@ module _ {P M : Type 0} (store : P → Store) (meant : M → Merge) (old new : D
       drops : DropsTreeOf (db_state store meant old) name (Flag dropped) (db_state store meant new) w.maps
       drops = w.decides (λ n. None) 0 0
 
-      go : (m : Maps) (o : Option NamedTree) → In m (maps_dropped o (db_state store meant new)) → m ≡ maps_of (db_state store meant new)
+      go : (m : Maps) (o : Option NamedTree) → In m (maps_if (is_some o) (db_state store meant new)) → m ≡ maps_of (db_state store meant new)
       go m (Some t) (inl e) = e
       go m (Some t) (inr i) = absurd i
       go m None i = absurd i

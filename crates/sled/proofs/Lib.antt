@@ -36,3 +36,5 @@ pub mod Beginning
 pub mod Changes
 pub mod Transacting
 pub mod Ranged
+pub mod Writing
+pub mod Ending

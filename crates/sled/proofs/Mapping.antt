@@ -11,13 +11,14 @@ use Rattle.sled_model.specs.Maps.{Map, Maps, Merge}
 use Rattle.sled_model.specs.Answer.{answer_of}
 use Rattle.sled_model.specs.State.{State, NamedTree, maps_of, after_decision_on}
 use Rattle.sled_model.specs.Groups.{writes_of, after_writes}
-use Rattle.sled_model.specs.Whole.{Pops, after_pop, RemovesLeast, RemovesNone, RemovesOne, OpensTree, state_opened, new_tree}
+use Rattle.sled_model.specs.Whole.{Pops, after_pop, RemovesLeast, RemovesNone, RemovesOne, OpensTree, state_opened}
 use Rattle.sled_model.specs.declared.call.Call.TheVariants.{Remove}
 use Rattle.sled_model.specs.declared.call.Whole.{Whole}
 use Rattle.sled_model.specs.declared.call.Whole.TheVariants.{Clear, OpenTree}
 use Rattle.sled_model.specs.declared.reply.Reply.TheVariants.{Pair, Done}
 use Rattle.sled_model.specs.declared.reply.Reply.TheVariants as told
 use Rattle.sled_model.specs.declared.tree.Tree.{Tree}
+use Rattle.sled_model.proofs.Shapes.{new_tree}
 use Rattle.sled.specs.declared.whole.Side.{Side}
 use Rattle.sled.specs.declared.whole.Side.TheVariants.{Least, Greatest}
 use Rattle.sled.specs.Values.{DbValue, db_state}

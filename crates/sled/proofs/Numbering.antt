@@ -9,7 +9,7 @@ use Rattle.sled_nodes.specs.declared.error.Error.{Error}
 use Rattle.sled_nodes.specs.declared.error.Error.TheVariants as error
 use Rattle.sled_model.specs.Maps.{Merge}
 use Rattle.sled_model.specs.State.{CallInFlight}
-use Rattle.sled_model.specs.Refusal.{IsClosed, first_of, must_refuse, MayRefuse, ToCall, cause_of_id, may_refuse_as}
+use Rattle.sled_model.specs.Refusal.{IsClosed, first_of, must_refuse, MayRefuse, ToCall, cause_of_id, may_refuse_as, cause_of}
 use Rattle.sled_model.specs.Transition.{Telling}
 use Rattle.sled_model.specs.declared.call.Whole.TheVariants.{GenerateId}
 use Rattle.sled_model.specs.declared.outcome.Outcome.TheVariants as outcome
@@ -181,7 +181,7 @@ module _ {P M : Type 0} (store : P → Store) (meant : M → Merge) (old new : D
   must_not e slots given = ap (λ b. first_of (first_of (cond (not b) None (Some IsClosed)) None) None) e
 
   may_not : (e : Error) → (now (store old.pages)).in_group ≡ false → (slots : ℕ → Option CallInFlight) (given : ℕ) → cause_of_id (state_of store meant old slots given) (store old.pages) (store new.pages) e → MayRefuse (state_of store meant old slots given) (store old.pages) (store new.pages) (ToCall GenerateId) e
-  may_not e no_group slots given k = record { is = subst (λ o. may_refuse_as o (state_of store meant old slots given) (store old.pages) (store new.pages) (ToCall GenerateId) e) (sym (must_not no_group slots given)) k }
+  may_not e no_group slots given k = record { is = subst (λ o. may_refuse_as o (cause_of (state_of store meant old slots given) (store old.pages) (store new.pages) (ToCall GenerateId)) e) (sym (must_not no_group slots given)) k }
 
   unraised : (e : Error) → RefusesId store meant old e new → (now (store old.pages)).in_group ≡ false → ((slots : ℕ → Option CallInFlight) (given : ℕ) → cause_of_id (state_of store meant old slots given) (store old.pages) (store new.pages) e) → effect_of_whole Telling (outcome.Refused e) (store old.pages) (store new.pages) → WholeRefused store meant old GenerateId e new
   unraised e r no_group cause acts = record {
@@ -205,7 +205,7 @@ module _ {P M : Type 0} (store : P → Store) (meant : M → Merge) (old new : D
   id_refused (error.Corruption fault) r = absurd r.is.1.is.1
   id_refused error.Closed r = record {
     maps = [];
-    refuses = λ slots given. (record { is = subst (λ o. may_refuse_as o (state_of store meant old slots given) (store old.pages) (store new.pages) (ToCall GenerateId) error.Closed) (sym (ap (λ b. first_of (first_of (cond (not b) None (Some IsClosed)) None) None) r.is.0)) refl }, r.state slots given, refl);
+    refuses = λ slots given. (record { is = subst (λ o. may_refuse_as o (cause_of (state_of store meant old slots given) (store old.pages) (store new.pages) (ToCall GenerateId)) error.Closed) (sym (ap (λ b. first_of (first_of (cond (not b) None (Some IsClosed)) None) None) r.is.0)) refl }, r.state slots given, refl);
     acts = ap store r.is.1;
     leaves = r.leaves;
     same = r.same;

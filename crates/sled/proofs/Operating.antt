@@ -13,7 +13,7 @@ use Rattle.sled_nodes.specs.declared.error.Error.{Error}
 use Rattle.sled_nodes.specs.declared.error.Error.TheVariants as error
 use Rattle.sled_model.specs.Maps.{Map, Merge}
 use Rattle.sled_model.specs.State.{NamedTree}
-use Rattle.sled_model.specs.Refusal.{MustRefuse, HasNoOperator, is_number, must_refuse, must_refuse_of, may_refuse_as, needs_operator, has_operator, ToPoint, ToSetOperator}
+use Rattle.sled_model.specs.Refusal.{MustRefuse, HasNoOperator, is_number, must_refuse, must_refuse_of, may_refuse_as, needs_operator, has_operator, ToPoint, ToSetOperator, cause_of}
 use Rattle.sled_model.specs.declared.call.Call.{Call}
 use Rattle.sled_model.specs.declared.tree.Tree.{Tree}
 use Rattle.tree_laws.specs.Contents.{trees_of}
@@ -91,14 +91,14 @@ module _ {P M : Type 0} (store : P → Store) (meant : M → Merge) (old : DbVal
   -- ---- an operator is set, or not
 
   pub unset : (e : Error) → MustBeRefused (must_refuse_of (db_state store meant old) (tree ∷ [])) e → OperatorNotSet store meant old tree e old
-  unset e t = record { may = record { is = subst (λ o. may_refuse_as o (db_state store meant old) (store old.pages) (store old.pages) (ToSetOperator tree) e) (sym (first_alone (must_refuse_of (db_state store meant old) (tree ∷ [])))) (go (must_refuse_of (db_state store meant old) (tree ∷ [])) t.is) }; is = refl }
+  unset e t = record { may = record { is = subst (λ o. may_refuse_as o (cause_of (db_state store meant old) (store old.pages) (store old.pages) (ToSetOperator tree)) e) (sym (first_alone (must_refuse_of (db_state store meant old) (tree ∷ [])))) (go (must_refuse_of (db_state store meant old) (tree ∷ [])) t.is) }; is = refl }
     where
-      go : (o : Option MustRefuse) → must_be_refused_as o e → may_refuse_as o (db_state store meant old) (store old.pages) (store old.pages) (ToSetOperator tree) e
+      go : (o : Option MustRefuse) → must_be_refused_as o e → may_refuse_as o (cause_of (db_state store meant old) (store old.pages) (store old.pages) (ToSetOperator tree)) e
       go None t = absurd t
       go (Some m) t = t
 
   pub unset_short : must_refuse_of (db_state store meant old) (tree ∷ []) ≡ None → (e : Error) → e ≡ error.NoMemory → OperatorNotSet store meant old tree e old
-  unset_short must e short = subst (λ z. OperatorNotSet store meant old tree z old) (sym short) (record { may = record { is = subst (λ o. may_refuse_as o (db_state store meant old) (store old.pages) (store old.pages) (ToSetOperator tree) error.NoMemory) (sym (first_alone (must_refuse_of (db_state store meant old) (tree ∷ [])) ∙ must)) tt }; is = refl })
+  unset_short must e short = subst (λ z. OperatorNotSet store meant old tree z old) (sym short) (record { may = record { is = subst (λ o. may_refuse_as o (cause_of (db_state store meant old) (store old.pages) (store old.pages) (ToSetOperator tree)) error.NoMemory) (sym (first_alone (must_refuse_of (db_state store meant old) (tree ∷ [])) ∙ must)) tt }; is = refl })
 
 module _ {P M : Type 0} (store : P → Store) (meant : M → Merge) (old : DbValue P M) (db : IsDb store old) (tree : Tree) (must : must_refuse_of (db_state store meant old) (tree ∷ []) ≡ None) (operator : M) where
   abbrev after : DbValue P M

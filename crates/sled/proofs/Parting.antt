@@ -1,5 +1,6 @@
 -- What imports make of the maps, and what a crash may leave of them.
 use Rattle.std.proofs.Common.{◌≡◌, ◌⊎◌, ℕ, Bool, true, false, cond, List, [], ◌∷◌, ◌++◌, append_assoc, Option, Some, None, option_map, sym, refl, ap, ◌∙◌, subst, inl, inr}
+use Rattle.std.specs.Prelude.{is_none}
 use Rattle.std.specs.FinMap.Entries.{find, put}
 use Rattle.std.specs.Str.{bytes_eq}
 use Rattle.sled_nodes.specs.Order.{Key, key_cmp}
@@ -10,11 +11,12 @@ use Rattle.sled_nodes.specs.declared.error.Error.{Error}
 use Rattle.sled_model.specs.Maps.{Map, Maps, Merge}
 use Rattle.sled_model.specs.Answer.{answer_of, map_after, decision_of}
 use Rattle.sled_model.specs.Collections.{Content}
-use Rattle.sled_model.specs.Imports.{Part, OpensName, Puts, parts_of, DoesPart, DoesParts, NoPart, OnePart, refuses_part, refuses_import_as}
-use Rattle.sled_model.specs.Refusal.{must_refuse_of}
+use Rattle.sled_model.specs.Imports.{Part, OpensName, Puts, parts_of, DoesPart, DoesParts, NoPart, OnePart, refuses_part}
+use Rattle.sled_model.specs.Refusal.{must_refuse_of, cause_of_import, may_refuse_as}
 use Rattle.sled_model.specs.State.{State, NamedTree, maps_of}
-use Rattle.sled_model.specs.Whole.{new_tree, state_opened, maps_opened}
+use Rattle.sled_model.specs.Whole.{state_opened, maps_if}
 use Rattle.sled_model.specs.declared.call.Call.TheVariants.{Insert}
+use Rattle.sled_model.proofs.Shapes.{new_tree}
 use Rattle.tree_laws.proofs.Runs.{In_cases}
 use Rattle.sled.specs.Values.{DbValue, db_state}
 use Rattle.sled.specs.Imports.{ImportStops, ImportRefused}
@@ -59,7 +61,7 @@ part_map a b (Puts into key value) maps d name = let p = d.is in ap (λ s. maps_
 part_added : (a b : State) (part : Part) (maps : List Maps) → DoesPart a part b maps → (m : Maps) → In m maps → m ≡ maps_of b
 part_added a b (OpensName opened) maps d m i = go (a.trees opened) (subst (In m) d.is.1 i)
   where
-    go : (o : Option NamedTree) → In m (maps_opened o b) → m ≡ maps_of b
+    go : (o : Option NamedTree) → In m (maps_if (is_none o) b) → m ≡ maps_of b
     go None (inl e) = e
     go None (inr later) = absurd later
     go (Some t) later = absurd later
@@ -115,7 +117,7 @@ module _ {P M : Type 0} (store : P → Store) (meant : M → Merge) (old : DbVal
   pub import_refused_leaves : (e : Error) → ImportRefused store meant old all e new → LeavesMaps store meant (HaveFirst store meant old (parts_of all)) None old new
   import_refused_leaves e w = record { maps = w.maps; each = λ m i. go m i w.refuses; leaves = w.leaves }
     where
-      go : (m : Maps) → In m w.maps → (refuses_import_as (must_refuse_of (db_state store meant old) []) all e × (new ≡ old) × (w.maps ≡ [])) ⊎ ImportStops store meant old all e new w.maps → HaveFirst store meant old (parts_of all) m
+      go : (m : Maps) → In m w.maps → (may_refuse_as (must_refuse_of (db_state store meant old) []) (cause_of_import all) e × (new ≡ old) × (w.maps ≡ [])) ⊎ ImportStops store meant old all e new w.maps → HaveFirst store meant old (parts_of all) m
       go m i (inl at_once) = absurd (subst (In m) at_once.2 i)
       go m i (inr k) =
           let stops = k.state (λ n. None) 0 in
@@ -126,7 +128,7 @@ module _ {P M : Type 0} (store : P → Store) (meant : M → Merge) (old : DbVal
             is = s.is;
           }
 
-  stopped_before : (number : ℕ) (e : Error) (maps : List Maps) (is : (refuses_import_as (must_refuse_of (db_state store meant old) []) all e × (new ≡ old) × (maps ≡ [])) ⊎ ImportStops store meant old all e new maps)
+  stopped_before : (number : ℕ) (e : Error) (maps : List Maps) (is : (may_refuse_as (must_refuse_of (db_state store meant old) []) (cause_of_import all) e × (new ≡ old) × (maps ≡ [])) ⊎ ImportStops store meant old all e new maps)
       → number ≡ told_parts (parts_before store meant is) → RefusesImport store meant old all number e new
   stopped_before number e maps (inl at_once) told = record {
     done = [];

@@ -1,5 +1,6 @@
 -- A tree of a new name is made in a database.
 use Rattle.std.proofs.Common.{◌≡◌, ℕ, ◌+◌, ◌<◌, ◌≤◌, Bool, true, false, not, cond, nat_eq, List, [], ◌∷◌, Option, Some, None, option_map, Result, Ok, Err, IfOk, IfErr, Bor, Less, Equal, Greater, is_eq, refl, sym, ap, ◌∙◌, subst, inl, inr, arith}
+use Rattle.std.specs.Prelude.{is_none}
 use Rattle.std.proofs.Math.Path.{fun_ext}
 use Rattle.std.proofs.lemmas.Bool.Decides.{nat_tests}
 use Rattle.std.proofs.lemmas.Cmp.{tied_itself}
@@ -22,10 +23,11 @@ use Rattle.sled_nodes.proofs.Rising.{rises_put}
 use Rattle.sled_model.specs.Maps.{Map, Maps, Merge}
 use Rattle.sled_model.specs.State.{NamedTree, CallInFlight, maps_of, default_name}
 use Rattle.sled_model.specs.Refusal.{IsClosed, first_of, must_refuse, MayRefuse, ToCall, cause_of, may_refuse_as}
-use Rattle.sled_model.specs.Whole.{new_tree, number_opened, state_opened, maps_opened}
+use Rattle.sled_model.specs.Whole.{number_opened, state_opened, maps_if}
 use Rattle.sled_model.specs.declared.call.Whole.TheVariants.{OpenTree}
 use Rattle.sled_model.specs.declared.reply.Reply.TheVariants as told
 use Rattle.sled_model.specs.declared.tree.Tree.{Tree}
+use Rattle.sled_model.proofs.Shapes.{new_tree}
 use Rattle.tree_laws.specs.Contents.{trees_of}
 use Rattle.tree_laws.specs.Crashes.{IsValid, AddsCrashStates}
 use Rattle.tree_laws.specs.Forest.{IsSized, contents}
@@ -105,7 +107,7 @@ module _ {P M : Type 0} (store : P → Store) (meant : M → Merge) (old : DbVal
   must slots given = ap (λ b. first_of (first_of (cond (not b) None (Some IsClosed)) None) None) no_group
 
   may : (slots : ℕ → Option CallInFlight) (given : ℕ) (b : Store) (e : Error) → cause_of (state_of store meant old slots given) (store old.pages) b (ToCall (OpenTree name)) e → MayRefuse (state_of store meant old slots given) (store old.pages) b (ToCall (OpenTree name)) e
-  may slots given b e k = record { is = subst (λ o. may_refuse_as o (state_of store meant old slots given) (store old.pages) b (ToCall (OpenTree name)) e) (sym (must slots given)) k }
+  may slots given b e k = record { is = subst (λ o. may_refuse_as o (cause_of (state_of store meant old slots given) (store old.pages) b (ToCall (OpenTree name))) e) (sym (must slots given)) k }
 
   -- ---- a name that is known
 
@@ -125,7 +127,7 @@ module _ {P M : Type 0} (store : P → Store) (meant : M → Merge) (old : DbVal
         free = must slots given;
         replies = ap told.Tree is ∙ ap (λ (o : Option NamedTree). told.Tree (record { database = old.name; name = name; number = number_opened o (state_of store meant old slots given) })) (sym (there slots given));
         is = ap (λ (o : Option NamedTree). state_opened o (state_of store meant old slots given) name) (sym (there slots given));
-        added = ap (λ (o : Option NamedTree). maps_opened o (state_of store meant old slots given)) (sym (there slots given));
+        added = ap (λ (o : Option NamedTree). maps_if (is_none o) (state_of store meant old slots given)) (sym (there slots given));
       };
       acts = NoAction;
       leaves = leaves_none store meant old;
@@ -420,7 +422,7 @@ module _ {P M : Type 0} (store : P → Store) (meant : M → Merge) (old : DbVal
           free = must slots given;
           replies = ap told.Tree is ∙ ap (λ (o : Option NamedTree). told.Tree (record { database = old.name; name = name; number = number_opened o (state_of store meant old slots given) })) (sym (not_there slots given));
           is = state_more slots given ∙ ap (λ (o : Option NamedTree). state_opened o (state_of store meant old slots given) name) (sym (not_there slots given));
-          added = maps_more slots given ∙ ap (λ (o : Option NamedTree). maps_opened o (state_of store meant more slots given)) (sym (not_there slots given));
+          added = maps_more slots given ∙ ap (λ (o : Option NamedTree). maps_if (is_none o) (state_of store meant more slots given)) (sym (not_there slots given));
         };
         acts = OneAction (once_made does.leaf.is) (OneAction (once_rooted name (Some does.leaf.pid) does.middle (store q) does.is) NoAction);
         leaves = record {
@@ -436,7 +438,7 @@ module _ {P M : Type 0} (store : P → Store) (meant : M → Merge) (old : DbVal
 pub opens_closed : {P M : Type 0} (store : P → Store) (meant : M → Merge) (old : DbValue P M) (name : Key) → (now (store old.pages)).in_group ≡ true → WholeRefused store meant old (OpenTree name) error.Closed old
 opens_closed store meant old name e = record {
   maps = [];
-  refuses = λ slots given. (record { is = subst (λ o. may_refuse_as o (state_of store meant old slots given) (store old.pages) (store old.pages) (ToCall (OpenTree name)) error.Closed) (sym (ap (λ b. first_of (first_of (cond (not b) None (Some IsClosed)) None) None) e)) refl }, refl, refl);
+  refuses = λ slots given. (record { is = subst (λ o. may_refuse_as o (cause_of (state_of store meant old slots given) (store old.pages) (store old.pages) (ToCall (OpenTree name))) error.Closed) (sym (ap (λ b. first_of (first_of (cond (not b) None (Some IsClosed)) None) None) e)) refl }, refl, refl);
   acts = (store old.pages, NoAction, refl);
   leaves = leaves_none store meant old;
   same = refl;

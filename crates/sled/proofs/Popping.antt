@@ -16,7 +16,7 @@ use Rattle.sled_nodes.specs.declared.error.Error.TheVariants as error
 use Rattle.sled_model.specs.Maps.{Map, Maps, Merge, IsLeast, IsGreatest}
 use Rattle.sled_model.specs.Answer.{answer_of, map_after}
 use Rattle.sled_model.specs.State.{State, NamedTree, CallInFlight, maps_of, after_decision_on}
-use Rattle.sled_model.specs.Refusal.{MustRefuse, must_refuse, must_refuse_of, MayRefuse, TellsTurns, ToPoint, ToCall, cause_of, cause_at_end, may_refuse_as}
+use Rattle.sled_model.specs.Refusal.{MustRefuse, must_refuse, must_refuse_of, MayRefuse, TellsTurns, ToPoint, ToCall, cause_of, may_refuse_as, cause_of_walk}
 use Rattle.sled_model.specs.Transition.{Configuration, WholeDecides, WholeRefuses, kind_of}
 use Rattle.sled_model.specs.Whole.{Pops, RemovesLeast, RemovesNone, RemovesOne}
 use Rattle.sled_model.specs.declared.outcome.Outcome.TheVariants as outcome
@@ -101,7 +101,7 @@ pub record IsPop (reads is_end : Map → Option (Key × Key) → Type 0) (tree :
   pub ends : (map : Map) (found : Option (Key × Key)) → reads map found → is_end map found
   pub which : (whole ≡ PopMin tree) ⊎ (whole ≡ PopMax tree)
   pub must : (s : State) → must_refuse s (ToCall whole) ≡ must_refuse_of s (tree ∷ [])
-  pub cause : (s : State) (a b : Store) (e : Error) → cause_at_end is_end s a b tree e → cause_of s a b (ToCall whole) e
+  pub cause : (s : State) (a b : Store) (e : Error) → cause_of_walk a b e → cause_of s a b (ToCall whole) e
   pub decides : (old : Configuration) (reply : Reply) (new : State) (maps : List Maps) → Pops is_end old.state whole tree reply new maps → WholeDecides old whole reply new maps
   pub refuses : (s : State) (a b : Store) (e : Error) (new : State) → MayRefuse s a b (ToCall whole) e → new ≡ s → WholeRefuses s a b whole e new []
 
@@ -170,7 +170,7 @@ as_clear s a m b tree e faults readable may = record { is = told (must_refuse s 
     cause (error.Io fault) (inr (pid, k)) = inr (pid, subst (λ (f : ℕ → Bool). f pid ≡ false) readable k)
     cause other k = k
 
-    told : (o : Option MustRefuse) → may_refuse_as o s m b (ToCall (PopMin tree)) e → may_refuse_as o s a b (ToCall (Clear tree)) e
+    told : (o : Option MustRefuse) → may_refuse_as o (cause_of s m b (ToCall (PopMin tree))) e → may_refuse_as o (cause_of s a b (ToCall (Clear tree))) e
     told None k = cause e k
     told (Some must) k = k
 
@@ -182,16 +182,16 @@ with_slots slots given s = record s { slots = slots; slots_given = given }
 
 module _ {P M : Type 0} (store : P → Store) (meant : M → Merge) (old : DbValue P M) (tree : Tree) {reads is_end : Map → Option (Key × Key) → Type 0} {whole : Whole} (pop : IsPop reads is_end tree whole) where
   -- what a read says, where it is refused
-  read_cause : (of : ℕ → ℕ) (s : State) (e : Error) → stops_reading store meant old tree of e → cause_at_end is_end s (store old.pages) (store old.pages) tree e
+  read_cause : (of : ℕ → ℕ) (s : State) (e : Error) → stops_reading store meant old tree of e → cause_of_walk (store old.pages) (store old.pages) e
   read_cause of s error.NoMemory k = tt
   read_cause of s (error.Io fault) k = inr k
   read_cause of s (error.ReportableBug text) k = k.0
   read_cause of s other k = absurd k
 
   read_may : (of : ℕ → ℕ) (e : Error) → RefusesReading store meant old tree of e → (slots : ℕ → Option CallInFlight) (given : ℕ) → MayRefuse (state_of store meant old slots given) (store old.pages) (store old.pages) (ToCall whole) e
-  read_may of e r slots given = record { is = subst (λ o. may_refuse_as o (state_of store meant old slots given) (store old.pages) (store old.pages) (ToCall whole) e) (sym (pop.must (state_of store meant old slots given))) (go (must_refuse_of (db_state store meant old) (tree ∷ [])) r.is) }
+  read_may of e r slots given = record { is = subst (λ o. may_refuse_as o (cause_of (state_of store meant old slots given) (store old.pages) (store old.pages) (ToCall whole)) e) (sym (pop.must (state_of store meant old slots given))) (go (must_refuse_of (db_state store meant old) (tree ∷ [])) r.is) }
     where
-      go : (o : Option MustRefuse) → refuses_reading_as store meant old tree of o e → may_refuse_as o (state_of store meant old slots given) (store old.pages) (store old.pages) (ToCall whole) e
+      go : (o : Option MustRefuse) → refuses_reading_as store meant old tree of o e → may_refuse_as o (cause_of (state_of store meant old slots given) (store old.pages) (store old.pages) (ToCall whole)) e
       go None k = pop.cause (state_of store meant old slots given) (store old.pages) (store old.pages) e (read_cause of (state_of store meant old slots given) e k)
       go (Some must) k = k
 
@@ -252,18 +252,18 @@ module _ {P M : Type 0} (store : P → Store) (meant : M → Merge) (old : DbVal
         t.decided.conducts
 
     -- the causes for which a removal is refused
-    take_cause : (slots : ℕ → Option CallInFlight) (given : ℕ) (b : Store) (e : Error) → cause_of (db_state store meant old) (store old.pages) b (ToPoint tree (Remove pair.0)) e → cause_at_end is_end (state_of store meant old slots given) (store old.pages) b tree e
+    take_cause : (slots : ℕ → Option CallInFlight) (given : ℕ) (b : Store) (e : Error) → cause_of (db_state store meant old) (store old.pages) b (ToPoint tree (Remove pair.0)) e → cause_of_walk (store old.pages) b e
     take_cause slots given b error.NoMemory k = tt
     take_cause slots given b other k = k
 
-    may_end : (slots : ℕ → Option CallInFlight) (given : ℕ) (b : Store) (e : Error) → cause_at_end is_end (state_of store meant old slots given) (store old.pages) b tree e → MayRefuse (state_of store meant old slots given) (store old.pages) b (ToCall whole) e
-    may_end slots given b e k = record { is = subst (λ o. may_refuse_as o (state_of store meant old slots given) (store old.pages) b (ToCall whole) e) (sym (pop.must (state_of store meant old slots given) ∙ r.tested)) (pop.cause (state_of store meant old slots given) (store old.pages) b e k) }
+    may_end : (slots : ℕ → Option CallInFlight) (given : ℕ) (b : Store) (e : Error) → cause_of_walk (store old.pages) b e → MayRefuse (state_of store meant old slots given) (store old.pages) b (ToCall whole) e
+    may_end slots given b e k = record { is = subst (λ o. may_refuse_as o (cause_of (state_of store meant old slots given) (store old.pages) b (ToCall whole)) e) (sym (pop.must (state_of store meant old slots given) ∙ r.tested)) (pop.cause (state_of store meant old slots given) (store old.pages) b e k) }
 
     -- it was not taken out
     pop_untaken : (e : Error) (new : DbValue P M) → RefusesToTake store meant old tree pair e new → WholeRefused store meant old whole e new
     pop_untaken e new t = elim t.is [
       | inl p ↦ refused e new
-          (λ slots given. may_end slots given (store new.pages) e (take_cause slots given (store new.pages) e (subst (λ o. may_refuse_as o (db_state store meant old) (store old.pages) (store new.pages) (ToPoint tree (Remove pair.0)) e) (first_alone (must_refuse_of (db_state store meant old) (tree ∷ [])) ∙ r.tested) p.refuses.may.is)))
+          (λ slots given. may_end slots given (store new.pages) e (take_cause slots given (store new.pages) e (subst (λ o. may_refuse_as o (cause_of (db_state store meant old) (store old.pages) (store new.pages) (ToPoint tree (Remove pair.0))) e) (first_alone (must_refuse_of (db_state store meant old) (tree ∷ [])) ∙ r.tested) p.refuses.may.is)))
           p.refuses.is p.conducts (λ must. absurd (must (pop.must (db_state store meant old) ∙ r.tested)))
       | inr m ↦ subst (λ (z : DbValue P M). WholeRefused store meant old whole e z) (sym m.1)
           (subst (λ x. WholeRefused store meant old whole x old) (sym m.0)

@@ -11,7 +11,7 @@ use Rattle.sled_nodes.specs.declared.error.Error.{Error}
 use Rattle.sled_store.specs.Store.{Store}
 use Rattle.sled_store.specs.theory.Facts.{same_name, name_itself, put_name_here, put_name_elsewhere}
 use Rattle.sled_model.specs.Maps.{Map, Merge}
-use Rattle.sled_model.specs.Answer.{answer_of, decision_of, map_after, effect_of_write, same_value, key_of}
+use Rattle.sled_model.specs.Answer.{answer_of, decision_of, map_after, effect_of_write, key_of}
 use Rattle.sled_model.specs.State.{State, NamedTree, maps_of}
 use Rattle.sled_model.specs.Refusal.{MustRefuse, HasNoOperator, first_of, must_refuse, must_refuse_of, has_operator, ToPoint}
 use Rattle.sled_model.specs.Whole.{DecidesPoint, RefusesPoint}
@@ -24,6 +24,7 @@ use Rattle.sled_model.specs.declared.reply.CompareAndSwapError.{CompareAndSwapEr
 use Rattle.sled_model.specs.declared.reply.Reply.{Reply}
 use Rattle.sled_model.specs.declared.reply.Reply.TheVariants.{Value, Swapped}
 use Rattle.sled_model.specs.declared.tree.Tree.{Tree}
+use Rattle.sled_model.proofs.Shapes.{same_value}
 use Rattle.sled.specs.Sound.{IsDb}
 use Rattle.sled.specs.Values.{DbValue, db_state}
 use Rattle.sled.specs.Direct.{Conducts, PointDecided, PointRefused, RunsAtOnce}
@@ -44,7 +45,7 @@ put_stays : (k v : Key) (m : Map) → T (is_sorted key_cmp m) → find key_cmp k
 put_stays k v m sorted there =
     sym (same_entries key_cmp key_total key_same (put key_cmp k v m) m (is_sorted-put key_cmp key_total k v m sorted) sorted (find_stays k v m there))
 
-insert_puts : (merge : Option Merge) (k v : Key) (m : Map) → T (is_sorted key_cmp m) → (answer_of merge (Insert k v) m).map ≡ put key_cmp k v m
+pub insert_puts : (merge : Option Merge) (k v : Key) (m : Map) → T (is_sorted key_cmp m) → (answer_of merge (Insert k v) m).map ≡ put key_cmp k v m
 insert_puts merge k v m sorted = go (find key_cmp k m) refl
   where
     over : (old : Key) (b : Bool) → bytes_eq old v ≡ b → find key_cmp k m ≡ Some old → map_after (cond b effect.Nothing (effect.Set v)) k m ≡ put key_cmp k v m

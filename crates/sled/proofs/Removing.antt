@@ -21,9 +21,9 @@ use Rattle.sled_store.specs.declared.page.Page.{Page}
 use Rattle.sled_nodes.specs.declared.error.Error.{Error}
 use Rattle.sled_nodes.specs.declared.error.Error.TheVariants as error
 use Rattle.sled_model.specs.Maps.{Map, Maps, Merge}
-use Rattle.sled_model.specs.State.{CallInFlight, maps_of, default_name}
-use Rattle.sled_model.specs.Refusal.{must_refuse, must_refuse_of, ToCall, cause_of_drop, may_refuse_as, first_of, IsClosed}
-use Rattle.sled_model.specs.Whole.{state_dropped, maps_dropped}
+use Rattle.sled_model.specs.State.{CallInFlight, NamedTree, maps_of, default_name}
+use Rattle.sled_model.specs.Refusal.{must_refuse, must_refuse_of, ToCall, cause_of_drop, may_refuse_as, first_of, IsClosed, cause_of}
+use Rattle.sled_model.specs.Whole.{state_dropped, maps_if}
 use Rattle.sled_model.specs.declared.call.Whole.TheVariants.{DropTree}
 use Rattle.sled_model.specs.declared.reply.Reply.TheVariants.{Flag}
 use Rattle.tree_laws.specs.Forest.{Tree, Forest, Place, place, IsSized, contents}
@@ -451,7 +451,7 @@ module _ {P M : Type 0} (store : P → Store) (meant : M → Merge) (old new : D
       off = off;
       replies = ap (λ o. Flag (is_some o)) (sym d.there);
       is = d.state slots given ∙ ap (λ o. state_dropped o (state_of store meant old slots given) name) (sym d.there);
-      added = ap (λ o. maps_dropped o (state_of store meant new slots given)) (sym d.there);
+      added = ap (λ (o : Option NamedTree). maps_if (is_some o) (state_of store meant new slots given)) (sym d.there);
     };
     acts = removes_acts name (snapshot_of_db store old) (store old.pages) (store new.pages) d.removes;
     leaves = record { extends = d.extends; others = d.others; loses = loses_once (Some name) (snapshot_of_db store old) (snapshot_of_db store new) d.loses; sound = d.sound };
@@ -466,7 +466,7 @@ module _ {P M : Type 0} (store : P → Store) (meant : M → Merge) (old new : D
       off = off;
       replies = ap (λ o. Flag (is_some o)) (sym none);
       is = ap (λ o. state_dropped o (state_of store meant old slots given) name) (sym none);
-      added = ap (λ o. maps_dropped o (state_of store meant old slots given)) (sym none);
+      added = ap (λ (o : Option NamedTree). maps_if (is_some o) (state_of store meant old slots given)) (sym none);
     };
     acts = record { last = store old.pages; acts = NoAction; counts = le_of_eq refl; is = refl };
     leaves = leaves_none store meant old;
@@ -485,7 +485,7 @@ module _ {P M : Type 0} (store : P → Store) (meant : M → Merge) (old new : D
       → WholeRefused store meant old (DropTree name) e new
   undropped e r free cause acts = record {
     maps = [];
-    refuses = λ slots given. (record { is = subst (λ o. may_refuse_as o (state_of store meant old slots given) (store old.pages) (store new.pages) (ToCall (DropTree name)) e) (sym (must_not free slots given)) (at e cause slots given) }, r.state slots given, refl);
+    refuses = λ slots given. (record { is = subst (λ o. may_refuse_as o (cause_of (state_of store meant old slots given) (store old.pages) (store new.pages) (ToCall (DropTree name))) e) (sym (must_not free slots given)) (at e cause slots given) }, r.state slots given, refl);
     acts = acts;
     leaves = r.leaves;
     same = r.same;
@@ -517,7 +517,7 @@ module _ {P M : Type 0} (store : P → Store) (meant : M → Merge) (old new : D
   drop_refused (error.Corruption fault) r = absurd r.is
   drop_refused error.Closed r = record {
     maps = [];
-    refuses = λ slots given. (record { is = subst (λ o. may_refuse_as o (state_of store meant old slots given) (store old.pages) (store new.pages) (ToCall (DropTree name)) error.Closed) (sym (ap (λ b. first_of (first_of (cond (not b) None (Some IsClosed)) None) None) r.is.0)) refl }, r.state slots given, refl);
+    refuses = λ slots given. (record { is = subst (λ o. may_refuse_as o (cause_of (state_of store meant old slots given) (store old.pages) (store new.pages) (ToCall (DropTree name))) error.Closed) (sym (ap (λ b. first_of (first_of (cond (not b) None (Some IsClosed)) None) None) r.is.0)) refl }, r.state slots given, refl);
     acts = ap store r.is.1;
     leaves = r.leaves;
     same = r.same;

@@ -11,16 +11,18 @@ use Rattle.sled_nodes.specs.declared.error.Error.TheVariants as error
 use Rattle.sled_model.specs.Maps.{Merge}
 use Rattle.sled_model.specs.State.{Queue, CallInFlight}
 use Rattle.sled_model.specs.Backlog.{no_backlog}
-use Rattle.sled_model.specs.Queues.{next_in, without_next}
-use Rattle.sled_model.specs.Refusal.{MustRefuse, must_refuse, must_refuse_of, ToCall, cause_of_watch, may_refuse_as}
+use Rattle.sled_model.specs.Queues.{without_next}
+use Rattle.sled_model.specs.Refusal.{MustRefuse, must_refuse, must_refuse_of, ToCall, may_refuse_as, cause_of, cause_of_numbering}
 use Rattle.sled_model.specs.declared.call.Whole.TheVariants.{Watch, Next, Unsubscribe}
 use Rattle.sled_model.specs.declared.event.Next as event
 use Rattle.sled_model.specs.declared.reply.Reply.TheVariants as reply
 use Rattle.sled_model.specs.declared.tree.Tree.{Tree}
+use Rattle.sled_model.proofs.Shapes.{next_in}
 use Rattle.sled_queues.specs.Values.{WaitingValue, QueuesValue, Waitings, queue_at}
-use Rattle.sled_queues.specs.Queues.{IsCalm, Becomes, queue_of, queues_of, with_subscriber, next_at, taken_in, without_next_of, without_subscriber}
+use Rattle.sled_queues.specs.Queues.{IsCalm, Becomes, queues_of, with_subscriber, next_at, taken_in, without_next_of, without_subscriber}
 use Rattle.sled_queues.specs.Laws.{ServesLaw}
 use Rattle.sled_queues.proofs.Grouped.{calm_law}
+use Rattle.sled_queues.proofs.Shapes.{queue_of}
 use Rattle.sled_tree.specs.Known.{IsKnown}
 use Rattle.tree_laws.specs.Contents.{trees_of}
 use Rattle.tree_laws.specs.Crashes.{AddsCrashStates}
@@ -118,9 +120,7 @@ module _ {P M : Type 0} (store : P → Store) (meant : M → Merge) (old : DbVal
 
   ends : (n : ℕ) → Becomes (without_subscriber n (queue_at old.queues)) old.queues.given new → EndsSubscriber store meant old n after
   ends n becomes = record {
-    gives_up = λ slots given. record {
-      is = told_state _ old.queues.given (ap queues_of becomes.held ∙ (serves_law (queue_at old.queues)).gives_up n) becomes.count slots given;
-    };
+    gives_up = λ slots given. told_state _ old.queues.given (ap queues_of becomes.held ∙ (serves_law (queue_at old.queues)).gives_up n) becomes.count slots given;
     same = refl;
     sound = λ db. told_db store old new (ended_calm old.queues new db.calm n old.queues.given becomes) db;
   }
@@ -210,12 +210,12 @@ module _ {P M : Type 0} (store : P → Store) (meant : M → Merge) (old new : D
   })
     where
       -- the cause is the same whatever calls are in flight
-      whatever : (slots : ℕ → Option CallInFlight) (given : ℕ) (o : Option MustRefuse) → may_refuse_as o (db_state store meant old) (store old.pages) (store old.pages) (ToCall (Watch tree prefix)) e
-          → may_refuse_as o (state_of store meant old slots given) (store old.pages) (store old.pages) (ToCall (Watch tree prefix)) e
+      whatever : (slots : ℕ → Option CallInFlight) (given : ℕ) (o : Option MustRefuse) → may_refuse_as o (cause_of (db_state store meant old) (store old.pages) (store old.pages) (ToCall (Watch tree prefix))) e
+          → may_refuse_as o (cause_of (state_of store meant old slots given) (store old.pages) (store old.pages) (ToCall (Watch tree prefix))) e
       whatever slots given (Some must) told = told
       whatever slots given None cause = as_before slots given e cause
         where
-          as_before : (slots : ℕ → Option CallInFlight) (given : ℕ) (e : Error) → cause_of_watch (db_state store meant old) e → cause_of_watch (state_of store meant old slots given) e
+          as_before : (slots : ℕ → Option CallInFlight) (given : ℕ) (e : Error) → cause_of_numbering (db_state store meant old).subscribers_given e → cause_of_numbering (state_of store meant old slots given).subscribers_given e
           as_before slots given error.NoMemory k = k
           as_before slots given (error.Unsupported text) k = k
           as_before slots given other k = absurd k

@@ -12,12 +12,13 @@ use Rattle.sled_nodes.specs.Node.{without}
 use Rattle.sled_batch.specs.Batch.{Writes, Rises}
 use Rattle.sled_store.specs.theory.Facts.{same_name, put_name_here, put_name_elsewhere}
 use Rattle.sled_model.specs.Maps.{Map, Merge}
-use Rattle.sled_model.specs.Answer.{answer_of, decision_of, event_of, map_after, same_value}
+use Rattle.sled_model.specs.Answer.{answer_of, decision_of, event_of, map_after}
 use Rattle.sled_model.specs.State.{State, NamedTree}
-use Rattle.sled_model.specs.Groups.{Write, writes_on, writes_of, call_with, call_of_write, answer_of_write, after_write_on, after_write, after_writes}
+use Rattle.sled_model.specs.Groups.{Write, writes_on, writes_of, call_with, after_write_on, after_writes}
 use Rattle.sled_model.specs.declared.call.Call.TheVariants.{Insert, Remove}
 use Rattle.sled_model.specs.declared.decision.Effect.TheVariants as effect
 use Rattle.sled_model.specs.declared.tree.Tree.{Tree}
+use Rattle.sled_model.proofs.Shapes.{after_write, answer_of_write, call_of_write, same_value}
 use Rattle.sled_tree.specs.declared.flight.Job.{Job}
 use Rattle.sled.specs.theory.Groups.{jobs_of_write, value_in}
 

@@ -15,7 +15,7 @@ use Rattle.sled_store.specs.Store.{Store, now}
 use Rattle.sled_model.specs.Maps.{Map, Merge}
 use Rattle.sled_model.specs.Answer.{Answer, answer_of}
 use Rattle.sled_model.specs.State.{CallInFlight, NamedTree, IsOnKey, range_of}
-use Rattle.sled_model.specs.Scan.{Reads, is_read}
+use Rattle.sled_model.specs.Scan.{is_read}
 use Rattle.sled_model.specs.Refusal.{must_refuse, ToStep, turns_limit}
 use Rattle.sled_model.specs.declared.call.Call.{Call}
 use Rattle.sled_model.specs.declared.call.Call.TheVariants.{Scan}
@@ -26,6 +26,7 @@ use Rattle.sled_queues.specs.Values.{QueuesValue, queue_at}
 use Rattle.sled_queues.specs.Queues.{Becomes}
 use Rattle.tree_laws.specs.Contents.{trees_of}
 use Rattle.sled_store.specs.In.{In}
+use Rattle.sled_model.proofs.Shapes.{Reads}
 use Rattle.tree_laws.specs.Crashes.{AddsCrashStates, IsCrashConsistent}
 use Rattle.tree_laws.specs.Forest.{Forest, contents}
 use Rattle.tree_laws.specs.Snapshot.{Snapshot, nodes_at, HasForest}

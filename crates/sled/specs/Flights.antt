@@ -24,7 +24,7 @@ use Rattle.tree_laws.specs.Stages.{owned}
 use Rattle.tree_laws.specs.declared.flight.Stage.{Stage}
 use Rattle.sled_tree.specs.Stages.{IsOnItsWay}
 use Rattle.sled_tree.specs.Known.{IsKnown, AreApart}
-use Rattle.tree_scans.specs.Scans.{waiting_of, rest_of, ScanStep}
+use Rattle.tree_scans.specs.Scans.{waiting_in, rest_in, ScanStep}
 use Rattle.sled_tree.specs.StageAction.{ActsOnce, ActsAtMostOnce, leaks_no_page_as}
 use Rattle.sled_tree.specs.Follows.{FollowsOn}
 use Rattle.sled_tree.specs.Passing.{IsOnPath, StepsOnPath}
@@ -41,7 +41,7 @@ use Rattle.sled.specs.Sound.{IsDb}
 
 -- a call in flight, as the model has it
 abbrev pub call_in_flight_of : InFlight → CallInFlight
-call_in_flight_of f = record { tree = f.job.tree; call = f.job.call; turns = f.turns; waiting = waiting_of f; rest = rest_of f }
+call_in_flight_of f = record { tree = f.job.tree; call = f.job.call; turns = f.turns; waiting = waiting_in f.stage f.aim (range_of f.job.call); rest = rest_in f.stage f.aim (range_of f.job.call) }
 
 -- what the call's slot holds after the step
 abbrev pub slot_after : Went → InFlight → Option CallInFlight

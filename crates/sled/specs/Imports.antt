@@ -5,9 +5,9 @@ use Rattle.sled_store.specs.Store.{Store}
 use Rattle.sled_nodes.specs.declared.error.Error.{Error}
 use Rattle.sled_model.specs.Maps.{Maps, Merge}
 use Rattle.sled_model.specs.Collections.{Content}
-use Rattle.sled_model.specs.Imports.{Part, OpensName, Puts, tree_at, Imports, Stop, IsAbsent, overwrites_as, refuses_import_as, StopsAtPart}
+use Rattle.sled_model.specs.Imports.{Part, OpensName, Puts, tree_at, Imports, Stop, HasAt, overwrites_as, StopsAtPart}
 use Rattle.sled_model.specs.State.{CallInFlight}
-use Rattle.sled_model.specs.Refusal.{must_refuse_of}
+use Rattle.sled_model.specs.Refusal.{must_refuse_of, cause_of_import, may_refuse_as}
 use Rattle.sled_model.specs.declared.call.Call.TheVariants.{Insert}
 use Rattle.sled_model.specs.declared.reply.Reply.{Reply}
 use Rattle.tree_reads.specs.Walk.{once}
@@ -45,7 +45,7 @@ module _ {P M : Type 0} (store : P → Store) (meant : M → Merge) where
 
   -- the key is absent, and the insert was refused
   pub record PairUnput (old : DbValue P M) (name key value : Key) (e : Error) (new : DbValue P M) : Type 0 where
-    pub absent : IsAbsent (db_state store meant old) name key
+    pub absent : HasAt (db_state store meant old) name key None
     pub refused : PointRefused store meant old (tree_at (db_state store meant old) name) (Insert key value) e new
 
   abbrev pub part_refused_by_steps_as : DbValue P M → Part → Error → DbValue P M → Type 0
@@ -75,7 +75,7 @@ module _ {P M : Type 0} (store : P → Store) (meant : M → Merge) where
   -- An import was refused: before its first part, and then it did nothing, or at a part
   pub record ImportRefused (old : DbValue P M) (all : List Content) (e : Error) (new : DbValue P M) : Type 0 where
     pub maps : List Maps
-    pub refuses : (refuses_import_as (must_refuse_of (db_state store meant old) []) all e × (new ≡ old) × (maps ≡ [])) ⊎ ImportStops old all e new maps
+    pub refuses : (may_refuse_as (must_refuse_of (db_state store meant old) []) (cause_of_import all) e × (new ≡ old) × (maps ≡ [])) ⊎ ImportStops old all e new maps
     pub acts : effects_until (Some e) (store old.pages) (store new.pages)
     pub leaves : LeavesAll store maps None old new
     pub same : grows_trees old new

@@ -20,6 +20,7 @@ pub mod Imports
 pub mod Parts
 pub mod Ids
 pub mod Transactions
+pub mod Written
 pub mod Operators
 pub mod Watch
 pub mod Drops

@@ -9,8 +9,8 @@ use Rattle.sled_store.specs.Store.{Store}
 use Rattle.sled_nodes.specs.declared.error.Error.{Error}
 use Rattle.sled_model.specs.Maps.{Map, Maps, Merge}
 use Rattle.sled_model.specs.Collections.{Content}
-use Rattle.sled_model.specs.Imports.{Part, OpensName, Puts, parts_of, refuses_part, refuses_import_as}
-use Rattle.sled_model.specs.Refusal.{MayRefuse, ToCall, must_refuse_of}
+use Rattle.sled_model.specs.Imports.{Part, OpensName, Puts, parts_of, refuses_part}
+use Rattle.sled_model.specs.Refusal.{MayRefuse, ToCall, must_refuse_of, cause_of_import, may_refuse_as}
 use Rattle.sled_model.specs.State.{maps_of}
 use Rattle.sled_model.specs.declared.call.Whole.TheVariants.{Clear}
 use Rattle.sled_model.specs.declared.tree.Tree.{Tree}
@@ -75,7 +75,7 @@ module _ {P M : Type 0} (store : P → Store) (meant : M → Merge) where
   -- an import is refused before its first part, or at the part behind those that are done
   abbrev pub stops_behind : DbValue P M → List Content → List Part → Error → DbValue P M → Type 0
   stops_behind old all done e new =
-      ((done ≡ []) × refuses_import_as (must_refuse_of (db_state store meant old) []) all e)
+      ((done ≡ []) × may_refuse_as (must_refuse_of (db_state store meant old) []) (cause_of_import all) e)
       ⊎ ((next : Part) × (later : List Part) × (parts_of all ≡ done ++ next ∷ later) × refuses_part (db_state store meant new) (store old.pages) (store new.pages) next e)
 
   -- An import is refused, with its cause. So many parts are done, the first ones, and no map is changed by another

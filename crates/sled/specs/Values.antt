@@ -40,7 +40,7 @@ named (Some n) (Some m) merge = Some (record { number = n; map = m; merge = merg
 abbrev pub state_of : {P M : Type 0} → (P → Store) → (M → Merge) → DbValue P M → (ℕ → Option CallInFlight) → ℕ → State
 state_of store meant d slots slots_given = record {
   name = d.name;
-  trees = λ t. named (numbers_of d.trees t) (trees_of (now (store d.pages)) t) (λ n. option_map meant (find nat_cmp n d.operators));
+  trees = λ t. named (find key_cmp t d.trees) (trees_of (now (store d.pages)) t) (λ n. option_map meant (find nat_cmp n d.operators));
   queues = queues_of (queue_at d.queues);
   slots = slots;
   is_open = not (now (store d.pages)).in_group;

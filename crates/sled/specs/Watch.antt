@@ -1,12 +1,13 @@
 -- Subscribers of trees.
-use Rattle.std.specs.Prelude.{◌≡◌, ℕ, Option}
+use Rattle.std.specs.Prelude.{◌≡◌, ℕ, Option, None}
 use Rattle.sled_nodes.specs.Order.{Key}
 use Rattle.sled_store.specs.Store.{Store}
+use Rattle.sled_store.specs.Update.{put_at}
 use Rattle.sled_nodes.specs.declared.error.Error.{Error}
 use Rattle.sled_model.specs.Maps.{Merge}
 use Rattle.sled_model.specs.State.{CallInFlight}
 use Rattle.sled_model.specs.Refusal.{ToCall, MayRefuse}
-use Rattle.sled_model.specs.Whole.{Watches, TakesNext, GivesUpQueue}
+use Rattle.sled_model.specs.Whole.{Watches, TakesNext}
 use Rattle.sled_model.specs.declared.call.Whole.TheVariants.{Watch}
 use Rattle.sled_model.specs.declared.event.Next.{Next}
 use Rattle.sled_model.specs.declared.tree.Tree.{Tree}
@@ -31,8 +32,8 @@ module _ {P M : Type 0} (store : P → Store) (meant : M → Merge) where
     pub same : new ≡ record old { queues = new.queues }
     pub sound : IsDb store old → IsDb store new
 
-  -- The queue of a subscriber was dropped
+  -- The queue of a subscriber was dropped, and the events that waited there are gone
   pub record EndsSubscriber (old : DbValue P M) (subscriber : ℕ) (new : DbValue P M) : Type 0 where
-    pub gives_up : (slots : ℕ → Option CallInFlight) (slots_given : ℕ) → GivesUpQueue (state_of store meant old slots slots_given) subscriber (state_of store meant new slots slots_given)
+    pub gives_up : (slots : ℕ → Option CallInFlight) (slots_given : ℕ) → state_of store meant new slots slots_given ≡ record (state_of store meant old slots slots_given) { queues = put_at (state_of store meant old slots slots_given).queues subscriber None }
     pub same : new ≡ record old { queues = new.queues }
     pub sound : IsDb store old → IsDb store new

@@ -8,8 +8,8 @@ use Rattle.sled_store.specs.Crash.{crash_states}
 use Rattle.sled_store.specs.Store.{Store}
 use Rattle.sled_nodes.specs.declared.error.Error.{Error}
 use Rattle.sled_model.specs.Maps.{Maps, Merge}
-use Rattle.sled_model.specs.Groups.{Closes, refuses_group_as}
-use Rattle.sled_model.specs.Refusal.{must_refuse_of, trees_of_batches}
+use Rattle.sled_model.specs.Groups.{Closes}
+use Rattle.sled_model.specs.Refusal.{must_refuse_of, trees_of_batches, cause_of_walk, may_refuse_as}
 use Rattle.sled_model.specs.State.{Queue, maps_of}
 use Rattle.sled_model.specs.declared.tree.Tree.{Tree}
 use Rattle.tree_laws.specs.Contents.{trees_of}
@@ -33,7 +33,7 @@ module _ {P M : Type 0} (store : P → Store) (meant : M → Merge) where
 
   -- A group is refused, with its cause. The state stays as it was, or the database is closed
   pub record RefusesGroup (old : DbValue P M) (batches : List (Tree × Writes)) (e : Error) (new : DbValue P M) : Type 0 where
-    pub why : refuses_group_as (must_refuse_of (db_state store meant old) (trees_of_batches batches)) (store old.pages) (store new.pages) e
+    pub why : may_refuse_as (must_refuse_of (db_state store meant old) (trees_of_batches batches)) (cause_of_walk (store old.pages) (store new.pages)) e
     pub is : (db_state store meant new ≡ db_state store meant old) ⊎ Closes (db_state store meant old) (db_state store meant new)
 
   -- ---- what it leaves of all else

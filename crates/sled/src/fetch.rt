@@ -4,6 +4,7 @@ ghost use Rattle.std.specs.Option.{option_map, option_copied};
 ghost use Rattle.std.specs.FinMap.Entries.{find};
 ghost use Rattle.sled_nodes.specs.Order.{Key, key_cmp};
 ghost use Rattle.sled_nodes.specs.declared.error.Error.TheVariants.{NoMemory};
+ghost use Rattle.sled_model.specs.Whole.{RefusesPoint};
 ghost use Rattle.sled_model.specs.declared.call.Call.TheVariants as call;
 ghost use Rattle.sled_model.specs.declared.reply.Reply.TheVariants as told;
 ghost use Rattle.sled.specs.Fetch.{Answers, Stands};
@@ -69,7 +70,9 @@ fn swap_of(alloc: Global, key: &[u8], stood: &Option<IVec>, made: &Option<IVec>)
 impl<P: Pages, M: MergeOperator> Db<P, M> {
     ghost use Rattle.sled.specs.Direct.{PointDecided, PointRefused};
     ghost use Rattle.sled.specs.Fetch.{FetchDecided, FetchRefused};
-    ghost use Rattle.sled.specs.Promises.{ChangesMap, with_value};
+    ghost use Rattle.sled.specs.Values.{db_state};
+    ghost use Rattle.sled.specs.Promises.{ChangesMap, with_value, leaves_as};
+    ghost use Rattle.sled.specs.Written.{Updates};
 
     // Swaps the value that was read just now for another, which always succeeds.
     fn swap(
@@ -104,6 +107,9 @@ impl<P: Pages, M: MergeOperator> Db<P, M> {
         ensures ok { IfOk result (λ both. FetchDecided P.store M.meant F.FnMut f self.old tree.now key.now both.0 both.1 self.new) }
         ensures err { IfErr result (λ e. FetchRefused P.store M.meant F.FnMut f self.old tree.now key.now e self.new) }
         ensures changes { IfOk result (λ both. ChangesMap P.store M.meant self.old tree.now (λ before after. (both.0 ≡ find key_cmp key.now before) × (after ≡ with_value key.now both.1 before)) self.new) }
+        ensures updates { IfOk result (λ both. ChangesMap P.store M.meant self.old tree.now (Updates F.FnMut f key.now both.0 both.1) self.new) }
+        ensures refuses { IfErr result (λ e. RefusesPoint (db_state P.store M.meant self.old) (P.store self.old.pages) (P.store self.new.pages) tree.now (call.Get key.now) e (db_state P.store M.meant self.new)) }
+        ensures leaves { leaves_as P.store M.meant result self.old self.new }
     {
         let stood = match self.get(tree, key) {
             Ok(stood) => stood,
@@ -154,6 +160,9 @@ impl<P: Pages, M: MergeOperator> Db<P, M> {
         ensures ok { IfOk result (λ made. (stood : Option Key) × FetchDecided P.store M.meant F.FnMut f self.old tree.now key.now stood made self.new) }
         ensures err { IfErr result (λ e. FetchRefused P.store M.meant F.FnMut f self.old tree.now key.now e self.new) }
         ensures changes { IfOk result (λ made. ChangesMap P.store M.meant self.old tree.now (λ before after. after ≡ with_value key.now made before) self.new) }
+        ensures updates { IfOk result (λ made. (stood : Option Key) × ChangesMap P.store M.meant self.old tree.now (Updates F.FnMut f key.now stood made) self.new) }
+        ensures refuses { IfErr result (λ e. RefusesPoint (db_state P.store M.meant self.old) (P.store self.old.pages) (P.store self.new.pages) tree.now (call.Get key.now) e (db_state P.store M.meant self.new)) }
+        ensures leaves { leaves_as P.store M.meant result self.old self.new }
     {
         match self.fetch(tree, key, f) {
             Ok((stood, made)) => {
@@ -176,6 +185,9 @@ impl<P: Pages, M: MergeOperator> Db<P, M> {
         ensures ok { IfOk result (λ stood. (made : Option Key) × FetchDecided P.store M.meant F.FnMut f self.old tree.now key.now stood made self.new) }
         ensures err { IfErr result (λ e. FetchRefused P.store M.meant F.FnMut f self.old tree.now key.now e self.new) }
         ensures changes { IfOk result (λ stood. ChangesMap P.store M.meant self.old tree.now (λ before after. (stood ≡ find key_cmp key.now before) × (made : Option Key) × (after ≡ with_value key.now made before)) self.new) }
+        ensures updates { IfOk result (λ stood. (made : Option Key) × ChangesMap P.store M.meant self.old tree.now (Updates F.FnMut f key.now stood made) self.new) }
+        ensures refuses { IfErr result (λ e. RefusesPoint (db_state P.store M.meant self.old) (P.store self.old.pages) (P.store self.new.pages) tree.now (call.Get key.now) e (db_state P.store M.meant self.new)) }
+        ensures leaves { leaves_as P.store M.meant result self.old self.new }
     {
         match self.fetch(tree, key, f) {
             Ok((stood, made)) => {

@@ -127,6 +127,7 @@ impl<P: Pages, M: MergeOperator> Db<P, M> {
     ghost use Rattle.sled.specs.Values.{db_state, snapshot_of_db};
     ghost use Rattle.sled.specs.Groups.{GroupDecided, GroupRefused, IsQuietGroup};
     ghost use Rattle.sled.specs.Wholes.{RefusesGroup, leaves_whole_as};
+    ghost use Rattle.sled.specs.Written.{WritesMap, WritesMaps};
 
     // The tests before a group, each of all its trees.
     fn check_batches(&self, batches: &[(Tree, Batch)]) -> Result<()>
@@ -307,6 +308,7 @@ impl<P: Pages, M: MergeOperator> Db<P, M> {
         ensures refuses { IfErr result (λ e. RefusesGroup P.store M.meant self.old batches.now e self.new) }
         ensures leaves { leaves_whole_as P.store M.meant result self.old self.new }
         ensures changes { OnOk result (db_state P.store M.meant self.new ≡ after_writes (writes_of batches.now) (db_state P.store M.meant self.old)) }
+        ensures writes { OnOk result (WritesMaps P.store M.meant self.old batches.now self.new) }
     {
         if let Err(e) = self.check_batches(batches) {
             return Err(e);
@@ -340,6 +342,7 @@ impl<P: Pages, M: MergeOperator> Db<P, M> {
         ensures refuses { IfErr result (λ e. RefusesGroup P.store M.meant self.old ((tree.now, batch) ∷ []) e self.new) }
         ensures leaves { leaves_whole_as P.store M.meant result self.old self.new }
         ensures changes { OnOk result (db_state P.store M.meant self.new ≡ after_writes (writes_of ((tree.now, batch) ∷ [])) (db_state P.store M.meant self.old)) }
+        ensures writes { OnOk result (WritesMap P.store M.meant self.old tree.now batch self.new) }
     {
         if let Err(e) = self.check(tree) {
             drop(batch);

@@ -1,6 +1,6 @@
 //! Importing collections, as an export gives them.
 ghost use Rattle.std.specs.Prelude.{◌≡◌, ℕ, IfErr, OnOk, [], ◌∷◌, length, None};
-ghost use Rattle.sled_model.specs.Collections.{content_of, contents_of, are_trees};
+ghost use Rattle.sled_model.specs.Collections.{contents_of, are_trees};
 ghost use Rattle.sled_model.specs.Imports.{Puts, puts_of, parts_of};
 ghost use Rattle.sled.specs.Imports.{ImportDecided, ImportRefused, ImportsBySteps};
 ghost use Rattle.sled.specs.Parts.{told_parts, ImportsParts, ImportRefusedAfter};
@@ -68,9 +68,9 @@ impl<P: Pages, M: MergeOperator> Db<P, M> {
 
     // Opens the tree of a collection, and puts its pairs into it. Returns how many parts that were: the opening and the pairs.
     fn import_collection(&mut self, collection: &Collection) -> (Result<()>, u64)
-        ensures ok { OnOk result.0 (PartsDone P.store M.meant self.old (parts_of (content_of collection.now ∷ [])) self.new) }
-        ensures all { OnOk result.0 (result.1 ≡ told_parts (length (parts_of (content_of collection.now ∷ [])))) }
-        ensures err { IfErr result.0 (λ e. PartsStoppedAfter P.store M.meant self.old (parts_of (content_of collection.now ∷ [])) result.1 e self.new) }
+        ensures ok { OnOk result.0 (PartsDone P.store M.meant self.old (parts_of (contents_of (collection.now ∷ []))) self.new) }
+        ensures all { OnOk result.0 (result.1 ≡ told_parts (length (parts_of (contents_of (collection.now ∷ []))))) }
+        ensures err { IfErr result.0 (λ e. PartsStoppedAfter P.store M.meant self.old (parts_of (contents_of (collection.now ∷ []))) result.1 e self.new) }
     {
         let tree = match self.open_tree(collection.1.as_slice()) {
             Ok(tree) => tree,

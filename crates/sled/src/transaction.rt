@@ -58,6 +58,7 @@ impl<P: Pages, M: MergeOperator> Db<P, M> {
     ghost use Rattle.sled.specs.Values.{db_state};
     ghost use Rattle.sled.specs.theory.Transactions.{CommitsGroup, StopsCommit};
     ghost use Rattle.sled.specs.Flush.{RefusesFlush};
+    ghost use Rattle.sled.specs.Written.{WritesOnTree, RefusesOnTree, WritesOnList, RefusesOnList, LeavesOrFlushes};
     ghost use Rattle.sled.specs.Transactions.{TakesIds, flushes_as, CanTransact, TransactionMade, TransactionNotMade, CanTransactAll, ListMade, ListNotMade};
 
     // Runs a closure at the root of a tree, with the ids of this database. Nothing is written.
@@ -181,7 +182,11 @@ impl<P: Pages, M: MergeOperator> Db<P, M> {
         requires { CanTransact P.store M.meant (F.pre f) self.old tree.now }
         ensures ok { IfOk result (λ answer. TransactionMade P.store P.flush_number M.meant F.Fn R.result_of f self.old tree.now answer self.new) }
         ensures err { IfErr result (λ e. TransactionNotMade P.store P.flush_number M.meant F.Fn R.result_of f self.old tree.now e self.new) }
+        ensures writes { IfOk result (λ answer. WritesOnTree P.store M.meant F.Fn R.result_of f self.old tree.now answer self.new) }
+        ensures refuses { IfErr result (λ e. RefusesOnTree P.store M.meant F.Fn R.result_of f self.old tree.now e self.new) }
+        ensures leaves { LeavesOrFlushes P.store M.meant self.old self.new }
     {
+        self.audit();
         let root = match self.root_of(tree) {
             Ok(root) => root,
             Err(e) => return Err(TransactionError::Storage(e)),
@@ -236,6 +241,9 @@ impl<P: Pages, M: MergeOperator> Db<P, M> {
         requires { CanTransact P.store M.meant (F.pre f) self.old tree.now }
         ensures ok { IfOk (R.answer_of result) (λ answer. TransactionMade P.store P.flush_number M.meant F.Fn R.result_of f self.old tree.now answer self.new) }
         ensures err { IfErr (R.answer_of result) (λ e. TransactionNotMade P.store P.flush_number M.meant F.Fn R.result_of f self.old tree.now e self.new) }
+        ensures writes { IfOk (R.answer_of result) (λ answer. WritesOnTree P.store M.meant F.Fn R.result_of f self.old tree.now answer self.new) }
+        ensures refuses { IfErr (R.answer_of result) (λ e. RefusesOnTree P.store M.meant F.Fn R.result_of f self.old tree.now e self.new) }
+        ensures leaves { LeavesOrFlushes P.store M.meant self.old self.new }
     {
         R::ended(self.transact_tree(tree, f))
     }
@@ -251,7 +259,11 @@ impl<P: Pages, M: MergeOperator> Db<P, M> {
         requires { CanTransactAll P.store M.meant (F.pre f) self.old (trees_of_list trees.now) }
         ensures ok { IfOk result (λ answer. ListMade P.store P.flush_number M.meant F.Fn R.result_of f self.old (trees_of_list trees.now) answer self.new) }
         ensures err { IfErr result (λ e. ListNotMade P.store P.flush_number M.meant F.Fn R.result_of f self.old (trees_of_list trees.now) e self.new) }
+        ensures writes { IfOk result (λ answer. WritesOnList P.store M.meant F.Fn R.result_of f self.old (trees_of_list trees.now) answer self.new) }
+        ensures refuses { IfErr result (λ e. RefusesOnList P.store M.meant F.Fn R.result_of f self.old (trees_of_list trees.now) e self.new) }
+        ensures leaves { LeavesOrFlushes P.store M.meant self.old self.new }
     {
+        self.audit();
         let roots = match self.roots_of(trees) {
             Ok(roots) => roots,
             Err(e) => return Err(TransactionError::Storage(e)),
@@ -307,6 +319,9 @@ impl<P: Pages, M: MergeOperator> Db<P, M> {
         requires { CanTransactAll P.store M.meant (F.pre f) self.old (trees_of_list trees.now) }
         ensures ok { IfOk (R.answer_of result) (λ answer. ListMade P.store P.flush_number M.meant F.Fn R.result_of f self.old (trees_of_list trees.now) answer self.new) }
         ensures err { IfErr (R.answer_of result) (λ e. ListNotMade P.store P.flush_number M.meant F.Fn R.result_of f self.old (trees_of_list trees.now) e self.new) }
+        ensures writes { IfOk (R.answer_of result) (λ answer. WritesOnList P.store M.meant F.Fn R.result_of f self.old (trees_of_list trees.now) answer self.new) }
+        ensures refuses { IfErr (R.answer_of result) (λ e. RefusesOnList P.store M.meant F.Fn R.result_of f self.old (trees_of_list trees.now) e self.new) }
+        ensures leaves { LeavesOrFlushes P.store M.meant self.old self.new }
     {
         R::ended(self.transact_list(trees, f))
     }

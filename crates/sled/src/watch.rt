@@ -1,7 +1,7 @@
 //! Subscribers, each of which has a queue of the events of its tree, and a count of those that it missed.
 ghost use Rattle.std.specs.Prelude.{◌≡◌, IfOk, IfErr, Some, None, option_map};
-ghost use Rattle.sled_model.specs.Backlog.{no_backlog};
-ghost use Rattle.sled_model.specs.Queues.{next_in, without_next};
+ghost use Rattle.sled_model.specs.Backlog.{no_backlog, next_of};
+ghost use Rattle.sled_model.specs.Queues.{backlog_in, without_next};
 
 use crate::db::Db;
 use sled_model::{MergeOperator, Next, Subscriber, Tree};
@@ -66,7 +66,7 @@ impl<P: Pages, M: MergeOperator> Db<P, M> {
     pub fn next(&mut self, subscriber: &Subscriber) -> Option<Next>
         ensures takes { TakesFromDb P.store M.meant self.old subscriber.now result self.new }
         ensures keeps { KeepsMaps P.store M.meant self.old self.new }
-        ensures gives { result ≡ next_in (queue_in P.store M.meant self.old subscriber.now) }
+        ensures gives { result ≡ next_of (backlog_in (queue_in P.store M.meant self.old subscriber.now)) }
         ensures queue { queue_in P.store M.meant self.new subscriber.now ≡ option_map without_next (queue_in P.store M.meant self.old subscriber.now) }
         ensures others { KeepsOthers P.store M.meant subscriber.now self.old self.new }
         ensures same { self.new ≡ record self.old { queues = self.new.queues } }

@@ -39,7 +39,7 @@ impl<P: Pages, M: MergeOperator> Db<P, M> {
     ghost use Rattle.sled.specs.Values.{db_state};
     ghost use Rattle.sled.specs.Direct.{WholeDecided, WholeRefused};
     ghost use Rattle.sled.specs.Pops.{PopsBySteps, PopRefusedBySteps, GivesUpPop};
-    ghost use Rattle.sled.specs.Promises.{OpensMap, RefusesCall};
+    ghost use Rattle.sled.specs.Promises.{ChangesMap, OpensMap, RefusesCall, leaves_as, without_found};
     ghost use Rattle.sled.specs.Wholes.{leaves_whole_as};
 
     /// Takes out the pair with the least key, as `pop_min` does, and answers the call's reply (`Reply::Pair`) and two copies of it. The
@@ -56,6 +56,9 @@ impl<P: Pages, M: MergeOperator> Db<P, M> {
         ensures gives_up { IfErr result (GivesUpPop P.store M.meant self.old tree.now IsLeast once) }
         ensures steps { IfOk result (λ told. (found : Option (Key × Key)) × (told.0 ≡ Pair found) × PopsBySteps P.store M.meant self.old tree.now IsLeast found self.new) }
         ensures refused { IfErr result (λ e. PopRefusedBySteps P.store M.meant self.old tree.now IsLeast once e self.new) }
+        ensures changes { IfOk result (λ told. (found : Option (Key × Key)) × (told.0 ≡ Pair found) × ChangesMap P.store M.meant self.old tree.now (λ before after. IsLeast before found × (after ≡ without_found found before)) self.new) }
+        ensures refuses { IfErr result (λ e. RefusesCall P.store M.meant self.old (PopMin tree.now) e self.new) }
+        ensures leaves { leaves_as P.store M.meant result self.old self.new }
     {
         match self.pop_keeping(tree, Side::Least) {
             Ok((found, kept)) => Ok(told_thrice(Reply::Pair(found), kept)),
@@ -76,6 +79,9 @@ impl<P: Pages, M: MergeOperator> Db<P, M> {
         ensures gives_up { IfErr result (GivesUpPop P.store M.meant self.old tree.now IsGreatest for_each) }
         ensures steps { IfOk result (λ told. (found : Option (Key × Key)) × (told.0 ≡ Pair found) × PopsBySteps P.store M.meant self.old tree.now IsGreatest found self.new) }
         ensures refused { IfErr result (λ e. PopRefusedBySteps P.store M.meant self.old tree.now IsGreatest for_each e self.new) }
+        ensures changes { IfOk result (λ told. (found : Option (Key × Key)) × (told.0 ≡ Pair found) × ChangesMap P.store M.meant self.old tree.now (λ before after. IsGreatest before found × (after ≡ without_found found before)) self.new) }
+        ensures refuses { IfErr result (λ e. RefusesCall P.store M.meant self.old (PopMax tree.now) e self.new) }
+        ensures leaves { leaves_as P.store M.meant result self.old self.new }
     {
         match self.pop_keeping(tree, Side::Greatest) {
             Ok((found, kept)) => Ok(told_thrice(Reply::Pair(found), kept)),
@@ -164,6 +170,9 @@ impl<P: Pages, M: MergeOperator> Db<P, M> {
         ensures err { IfErr result (λ e. WholeRefused P.store M.meant self.old (OpenTree name.now) e self.new) }
         ensures steps { OnOk result (OpensBySteps P.store name.now self.old self.new) }
         ensures refused { IfErr result (λ e. OpenRefusedBySteps P.store name.now self.old e self.new) }
+        ensures changes { OnOk result (OpensMap P.store M.meant self.old name.now self.new) }
+        ensures refuses { IfErr result (λ e. RefusesCall P.store M.meant self.old (OpenTree name.now) e self.new) }
+        ensures leaves { leaves_whole_as P.store M.meant result self.old self.new }
     {
         match self.open_tree_keeping(name) {
             Ok((tree, kept)) => Ok(told_thrice(Reply::Tree(tree), kept)),

@@ -281,8 +281,8 @@ impl MemoryDisk {
         })
     }
 
-    /// What a crash leaves: a file of its own, all of it on the disk, which refuses no call. The numbers choose among all that the
-    /// disk may leave: of each call since the last sync, the first of them first.
+    /// What a crash leaves: a file of its own, all of it on the disk, which refuses no call. The numbers choose among outcomes that
+    /// the disk may leave: of each call since the last sync, the first of them first.
     ///
     /// - Of a write of a single byte within the file, a number says whether it is lost (1) or not (0).
     /// - Of any other write, the first number says how many bytes are written past the old end. Then a number for each byte says

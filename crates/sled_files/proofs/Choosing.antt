@@ -1,6 +1,6 @@
 -- Which of two files counts.
 use Rattle.std.proofs.Common.{◌≡◌, ◌⊎◌, inl, inr, ℕ, ◌+◌, ◌<◌, ◌≤◌, ◌^◌, List, [], ◌∷◌, ◌++◌, length, map, take, drop, refl, sym, ◌∙◌, ap, subst, arith}
-use Rattle.std.specs.Prelude.{Bool, true, false, Option, Result, Some, None, Ok, Err, MatchOption, if◌then◌else◌, ◌&&◌, nat_eq}
+use Rattle.std.specs.Prelude.{Bool, true, false, Option, Result, Some, None, Ok, Err, if◌then◌else◌, ◌&&◌, nat_eq}
 use Rattle.std.specs.Int.{w64, from_le_bytes}
 use Rattle.std.proofs.lemmas.Nat.{from_le_bytes-to_le_bytes_8}
 use Rattle.sled_log.specs.Digest.{digest}
@@ -16,7 +16,7 @@ use Rattle.sled_files.specs.Header.{header}
 use Rattle.sled_files.specs.Standing.{all_changes, HasChanges, StandsFor, IsBlank, OfGeneration, IsOlder, Counts, AreFor, AreBlank}
 use Rattle.sled_files.specs.Flaws.{HasNoFlaw, IsNoStore}
 use Rattle.sled_files.specs.Opening.{AreOfNone, is_why_unopened}
-use Rattle.sled_files.specs.theory.Found.{IsFileOf, IsNoFile, is_why_no_file}
+use Rattle.sled_files.specs.theory.Found.{IsFileOf, IsFoundAs, IsNoFile, is_why_no_file}
 use Rattle.sled_files.specs.theory.Chosen.{IsMade, is_why_unmade, IsBehind, IsOpened}
 use Rattle.sled_files.proofs.Adding.{of_generation}
 use Rattle.sled_files.proofs.Finding.{ok_logs}
@@ -218,7 +218,7 @@ no_first (Decayed at) first second why = (none_first first second why.0, inl why
 no_first (Disk e) first second why = why.1
 
 -- a file that was found has no flaw
-pub no_flaw_of : (bytes : List ℕ) (o : Option Found) → MatchOption o (IsBlank bytes) (λ f. IsFileOf bytes f.generation f.gate f.first.now (drop 1 (map (λ p. p.now) f.payloads.items))) → HasNoFlaw bytes
+pub no_flaw_of : (bytes : List ℕ) (o : Option Found) → IsFoundAs bytes o → HasNoFlaw bytes
 no_flaw_of bytes None blank = inl blank
 no_flaw_of bytes (Some f) file = inr (f.generation, of_file file)
 

@@ -44,9 +44,9 @@ pub struct FileStats {
     pub missed: u64,
 }
 
-/// A store of pages in two files. Its pages are in memory too, and are read there. The changing calls change them there, and note what a
-/// flush adds to the files; a mark is added to the files at once. A crash leaves in the files what `Pages` allows, so the store is there
-/// again when they are opened.
+/// A store of pages in two files, which have to fit in memory: all pages are there too, and are read there. The changing calls change them
+/// there, and note what a flush adds to the files; a mark is added to the files at once. A crash leaves in the files what `Pages` allows,
+/// so the store is there again when they are opened.
 ///
 /// Page numbers and versions are given below limits that are in the files before: of a store that is opened again all below them count
 /// as given. A call that reaches a limit raises it first. Once a disk refused a call, each flush, each mark and each raise is refused.

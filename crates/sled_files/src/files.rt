@@ -1,10 +1,11 @@
 //! Two disks are opened as the files of a store.
-ghost use Rattle.std.specs.Prelude.{◌≡◌, ◌+◌, ◌<◌, ℕ, List, length, true, false, MatchOption, IfOk, IfErr, OnOk};
+ghost use Rattle.std.specs.Prelude.{◌≡◌, ◌+◌, ◌<◌, ℕ, List, length, IfOk, IfErr, OnOk};
 ghost use Rattle.sled_disk.specs.Disk.{Only, NoMore, LeavesOnly, is_caused};
 ghost use Rattle.sled_pages.specs.Memory.{store_of, empty_store};
 ghost use Rattle.sled_files.specs.Change.{nothing_yet};
 ghost use Rattle.sled_files.specs.Standing.{IsBlank, IsBegun};
 ghost use Rattle.sled_files.specs.Files.{picked, faults_in, IsReady};
+ghost use Rattle.sled_files.specs.theory.Found.{AreReadOrLent};
 ghost use Rattle.sled_files.specs.theory.Chosen.{IsOpened};
 ghost use Rattle.sled_files.specs.theory.Reopened.{Opens, OpensStore};
 ghost use Rattle.sled_files.specs.Opening.{LeavesWhileOpened, StayAsTheyWere, AreSeenAsBefore, is_counted, is_why_closed, is_refusal};
@@ -53,7 +54,7 @@ fn refusal_of(e: DiskError) -> OpenError
 
 // Brings all of a file to the disk, and reads it if the disk does not lend what it has.
 fn settle<D: Disk>(alloc: Global, disk: &mut D) -> Result<Option<Vec<u8>>, OpenError>
-    ensures bytes { IfOk result (λ read. MatchOption read (D.lends disk.new ≡ true) (λ bytes. bytes.items ≡ D.seen disk.new)) }
+    ensures bytes { IfOk result (λ read. AreReadOrLent read (D.lends disk.new) (D.seen disk.new)) }
     ensures seen { D.seen disk.new ≡ D.seen disk.old }
     ensures durable { IfOk result (λ _. Only (D.seen disk.new) (D.may_leave disk.new)) }
     ensures crash { NoMore (D.may_leave disk.old) (D.may_leave disk.new) }
@@ -81,8 +82,8 @@ fn settle_both<D: Disk>(
     first: &mut D,
     second: &mut D,
 ) -> Result<(Option<Vec<u8>>, Option<Vec<u8>>), OpenError>
-    ensures first_bytes { IfOk result (λ read. MatchOption read.0 (D.lends first.new ≡ true) (λ bytes. bytes.items ≡ D.seen first.new)) }
-    ensures second_bytes { IfOk result (λ read. MatchOption read.1 (D.lends second.new ≡ true) (λ bytes. bytes.items ≡ D.seen second.new)) }
+    ensures first_bytes { IfOk result (λ read. AreReadOrLent read.0 (D.lends first.new) (D.seen first.new)) }
+    ensures second_bytes { IfOk result (λ read. AreReadOrLent read.1 (D.lends second.new) (D.seen second.new)) }
     ensures first_seen { D.seen first.new ≡ D.seen first.old }
     ensures second_seen { D.seen second.new ≡ D.seen second.old }
     ensures stay { OnOk result (StayAsTheyWere D.seen D.may_leave first.old second.old first.new second.new) }
@@ -110,7 +111,7 @@ fn settle_both<D: Disk>(
 
 // All bytes of a file, of which these were read if the disk does not lend them.
 fn bytes_in<'a, D: Disk>(disk: &'a D, read: &'a Option<Vec<u8>>) -> &'a [u8]
-    requires { MatchOption read.now (D.lends disk.now ≡ true) (λ bytes. bytes.items ≡ D.seen disk.now) }
+    requires { AreReadOrLent read.now (D.lends disk.now) (D.seen disk.now) }
     ensures { result.now ≡ D.seen disk.now }
 {
     match read {

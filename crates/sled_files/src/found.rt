@@ -1,9 +1,8 @@
 //! What one file of a store is found to be.
-ghost use Rattle.std.specs.Prelude.{◌≡◌, ◌++◌, ◌↔◌, ℕ, List, [], map, take, drop, MatchOption, IfOk, IfErr, IfSome, IfNone, IsTrue};
+ghost use Rattle.std.specs.Prelude.{◌≡◌, ◌++◌, ◌↔◌, ℕ, List, [], map, take, IfOk, IfErr, IfSome, IfNone, IsTrue};
 ghost use Rattle.sled_disk.specs.declared.disk.DiskError as disk;
 ghost use Rattle.sled_files.specs.Header.{magic, header};
-ghost use Rattle.sled_files.specs.Standing.{IsBlank};
-ghost use Rattle.sled_files.specs.theory.Found.{IsFileOf, IsNoFile, is_why_no_file, is_why_headless, IsNoLog, HasHeader, FlawOf};
+ghost use Rattle.sled_files.specs.theory.Found.{IsFoundAs, IsNoFile, is_why_no_file, is_why_headless, IsNoLog, HasHeader, FlawOf};
 ghost use Rattle.sled_files.specs.Flaws.{HasMagic};
 
 use sled_disk::DiskError;
@@ -140,7 +139,7 @@ fn found_of<'a>(log: Log<'a>) -> Result<Option<Found<'a>>, OpenError>
 
 /// What a file is: none if it is blank, or a file of a store. Refused if it is neither.
 pub fn read_file(alloc: Global, bytes: &[u8]) -> Result<Option<Found<'_>>, OpenError>
-    ensures ok { IfOk result (λ o. MatchOption o (IsBlank bytes.now) (λ f. IsFileOf bytes.now f.generation f.gate f.first.now (drop 1 (map (λ p. p.now) f.payloads.items)))) }
+    ensures ok { IfOk result (IsFoundAs bytes.now) }
     ensures err { IfErr result (λ e. is_why_no_file e bytes.now) }
 {
     if bytes.len() <= 1 {

@@ -1,7 +1,7 @@
 //! The two files of a store are opened.
 ghost use Rattle.std.specs.Prelude.{◌≡◌, ◌∷◌, List, ℕ, Bool, map, drop, MatchOption, IfOk, IfErr, if◌then◌else◌};
-ghost use Rattle.sled_files.specs.Standing.{all_changes, IsBlank, AreBlank};
-ghost use Rattle.sled_files.specs.theory.Found.{IsFileIn};
+ghost use Rattle.sled_files.specs.Standing.{all_changes, AreBlank};
+ghost use Rattle.sled_files.specs.theory.Found.{IsFileIn, IsFoundAs};
 ghost use Rattle.sled_files.specs.theory.Chosen.{IsMade, is_why_unmade, IsBehind, IsOpened};
 ghost use Rattle.sled_files.specs.Opening.{is_why_unopened};
 
@@ -81,8 +81,8 @@ fn open_found(
     one: &Option<Found<'_>>,
     two: &Option<Found<'_>>,
 ) -> Result<Option<Opened>, OpenError>
-    ensures ok { IfOk result (λ o. (first second : List ℕ) → MatchOption one.now (IsBlank first) (λ f. IsFileIn first f.generation f.gate f.first.now (map (λ p. p.now) f.payloads.items)) → MatchOption two.now (IsBlank second) (λ f. IsFileIn second f.generation f.gate f.first.now (map (λ p. p.now) f.payloads.items)) → MatchOption o (AreBlank first second) (λ x. IsOpened first second x.is_second x.gate x.snapshot x.generation x.store)) }
-    ensures err { IfErr result (λ e. (first second : List ℕ) → MatchOption one.now (IsBlank first) (λ f. IsFileIn first f.generation f.gate f.first.now (map (λ p. p.now) f.payloads.items)) → MatchOption two.now (IsBlank second) (λ f. IsFileIn second f.generation f.gate f.first.now (map (λ p. p.now) f.payloads.items)) → is_why_unopened e first second) }
+    ensures ok { IfOk result (λ o. (first second : List ℕ) → IsFoundAs first one.now → IsFoundAs second two.now → MatchOption o (AreBlank first second) (λ x. IsOpened first second x.is_second x.gate x.snapshot x.generation x.store)) }
+    ensures err { IfErr result (λ e. (first second : List ℕ) → IsFoundAs first one.now → IsFoundAs second two.now → is_why_unopened e first second) }
 {
     match one {
         None => match two {

@@ -1,7 +1,9 @@
 -- What a file of the operating system shows.
-use Rattle.std.specs.Prelude.{◌≡◌, ℕ, Bool, false, List, [], ◌∷◌}
+use Rattle.std.specs.Prelude.{◌≡◌, ℕ, Bool, false, List, [], ◌∷◌, length}
 use Rattle.sled_host.specs.Event.{Event, opened}
 use Rattle.sled_host.specs.Outcomes.{seen_after_all, MayLeave, LeftSince}
+use Rattle.sled_host.specs.Locks.{is_held}
+use Rattle.sled_host.specs.declared.system.Lock.TheVariants.{Unavailable}
 use Rattle.sled_host.specs.declared.host.HostFile.{HostFile}
 
 -- its calls so far, the newest first
@@ -15,6 +17,10 @@ bytes_of file = seen_after_all (calls_of file)
 -- what a crash may leave
 abbrev pub outcomes_of : HostFile → List ℕ → Type 0
 outcomes_of file = MayLeave (calls_of file)
+
+-- the moment: how many calls it had
+abbrev pub moment_of : HostFile → ℕ
+moment_of file = length (calls_of file)
 
 -- what a crash at some moment from that one on might have left
 abbrev pub outcomes_since : HostFile → ℕ → List ℕ → Type 0
@@ -30,7 +36,11 @@ WasThere file = calls_of file ≡ opened false (bytes_of file) ∷ []
 
 -- whether the system locked it as it was opened
 abbrev pub was_locked : HostFile → Bool
-was_locked file = file.system.is_locked
+was_locked file = is_held file.system.lock
+
+-- the system answered that it cannot lock it
+abbrev pub HasNoLocks : HostFile → Type 0
+HasNoLocks file = file.system.lock ≡ Unavailable
 
 -- how many calls were refused for a fault
 abbrev pub faults_of : HostFile → ℕ

@@ -1,12 +1,12 @@
 //! A file of the operating system as a store sees it.
-ghost use Rattle.std.specs.Prelude.{◌≡◌, ◌≤◌, ◌+◌, ℕ, [], ◌∷◌, List, length, true, false, IfOk, OnOk, OnErr, is_ok, is_some};
+ghost use Rattle.std.specs.Prelude.{◌≡◌, ◌≤◌, ◌<◌, ◌+◌, ◌^◌, ℕ, [], ◌∷◌, List, length, take, drop, true, false, IsOk, IfOk, IfErr, OnOk, OnErr, is_ok, is_some};
 ghost use Rattle.std.specs.Option.{ForSome};
 ghost use Rattle.std.proofs.Common.{inl, refl};
 ghost use Rattle.sled_disk.specs.Disk.{Only, is_caused, HasCause};
 ghost use Rattle.sled_host.specs.Event.{opened};
 ghost use Rattle.sled_host.specs.Outcomes.{seen_after_all, MayLeave, LeftSince};
-ghost use Rattle.sled_host.specs.Stops.{has_failed, has_stopped};
-ghost use Rattle.sled_host.specs.theory.Told.{is_full_kind, told_as, is_told};
+ghost use Rattle.sled_host.specs.Stops.{has_failed, has_stopped, is_unchanged, told_as};
+ghost use Rattle.sled_host.specs.theory.Told.{is_full_kind, is_told};
 
 use crate::system::{OpenFile, SystemFile};
 use sled_disk::{Disk, DiskError, Result};
@@ -25,17 +25,18 @@ pub struct HostFile {
     faults: u64,
     ghost counted: { len ≡ length (seen_after_all system.record.events) },
     ghost agrees: { ForSome kept (λ bytes. bytes.items ≡ seen_after_all system.record.events) },
+    ghost reads: { is_some kept ≡ is_unchanged system.record.events },
     ghost fails: { is_failed ≡ has_failed system.record.events },
     ghost stops: { has_stopped system.record.events ≡ true },
 }
 
 impl HostFile {
-    ghost use Rattle.sled_host.specs.Host.{calls_of, bytes_of, outcomes_of, faults_of, was_locked};
+    ghost use Rattle.sled_host.specs.Host.{calls_of, bytes_of, outcomes_of, faults_of};
 
     /// An open file, brought to the disk and read.
     pub(crate) fn settle(alloc: Global, file: OpenFile) -> io::Result<HostFile>
         ensures opened { IfOk result (λ f. calls_of f ≡ opened file.is_new (bytes_of f) ∷ []) }
-        ensures locked { IfOk result (λ f. was_locked f ≡ file.is_locked) }
+        ensures lock { IfOk result (λ f. f.system.lock ≡ file.lock) }
         ensures durable { IfOk result (λ f. Only (bytes_of f) (outcomes_of f)) }
         ensures unfailing { IfOk result (λ f. faults_of f ≡ 0) }
     {
@@ -70,6 +71,7 @@ fn fault(faults: &mut u64, is_full: bool) -> DiskError
 fn go_on(is_failed: bool, faults: &mut u64) -> Result<()>
     ensures ok { OnOk result (is_failed ≡ false) }
     ensures err { OnErr result (is_failed ≡ true) }
+    ensures told { IfErr result (λ e. e ≡ told_as faults.old false) }
     ensures cause { HasCause faults.old faults.new result }
 {
     if is_failed {
@@ -98,17 +100,21 @@ fn is_no_room(kind: ErrorKind) -> bool
 }
 
 impl Disk for HostFile {
+    ghost use Rattle.sled_disk.specs.Disk.{written, Torn, Shortened, Follows, NoMore, Elapses};
+    ghost use Rattle.sled_host.specs.Event.{wrote, cut, synced};
     ghost use Rattle.sled_host.specs.Laws.{counts_now as counts, only_now as only};
+    ghost use Rattle.sled_host.specs.Host.{calls_of, bytes_of, outcomes_of, outcomes_since, moment_of, faults_of};
+    ghost use Rattle.sled_host.specs.Asked.{IsAsked, IsRead};
 
-    ghost seen = { λ f. seen_after_all f.system.record.events };
+    ghost seen = { bytes_of };
 
-    ghost may_leave = { λ f. MayLeave f.system.record.events };
+    ghost may_leave = { outcomes_of };
 
-    ghost moment = { λ f. length f.system.record.events };
+    ghost moment = { moment_of };
 
-    ghost left_since = { λ f. LeftSince f.system.record.events };
+    ghost left_since = { outcomes_since };
 
-    ghost faults = { λ f. f.faults };
+    ghost faults = { faults_of };
 
     ghost lends = { λ f. is_some f.kept };
 
@@ -118,11 +124,27 @@ impl Disk for HostFile {
 
     ghost may_stay = { λ f. inl refl };
 
-    fn len(&mut self) -> Result<usize> {
+    fn len(&mut self) -> Result<usize>
+        ensures bytes { IfOk result (λ len. len ≡ length (bytes_of self.old)) }
+        ensures seen { bytes_of self.new ≡ bytes_of self.old }
+        ensures crash { NoMore (outcomes_of self.old) (outcomes_of self.new) }
+        ensures time { Elapses (moment_of self.old) (moment_of self.new) (outcomes_since self.old) (outcomes_since self.new) (outcomes_of self.new) }
+        ensures cause { HasCause (faults_of self.old) (faults_of self.new) result }
+        ensures ok { IsOk result }
+        ensures same { calls_of self.new ≡ calls_of self.old }
+    {
         Ok(self.len)
     }
 
-    fn read(&mut self, alloc: Global, at: usize, count: usize) -> Result<Vec<u8>> {
+    fn read(&mut self, alloc: Global, at: usize, count: usize) -> Result<Vec<u8>>
+        requires { at + count ≤ length (bytes_of self.old) }
+        ensures bytes { IfOk result (λ bytes. bytes.items ≡ take count (drop at (bytes_of self.old))) }
+        ensures seen { bytes_of self.new ≡ bytes_of self.old }
+        ensures crash { NoMore (outcomes_of self.old) (outcomes_of self.new) }
+        ensures time { Elapses (moment_of self.old) (moment_of self.new) (outcomes_since self.old) (outcomes_since self.new) (outcomes_of self.new) }
+        ensures cause { HasCause (faults_of self.old) (faults_of self.new) result }
+        ensures read { IsRead self.old self.new result }
+    {
         match &self.kept {
             Some(bytes) => Ok(bytes[at..at + count].to_vec(alloc)?),
             None => Err(fault(&mut self.faults, false)),
@@ -136,7 +158,14 @@ impl Disk for HostFile {
         }
     }
 
-    fn write_at(&mut self, at: usize, bytes: &[u8]) -> Result<()> {
+    fn write_at(&mut self, at: usize, bytes: &[u8]) -> Result<()>
+        requires { at ≤ length (bytes_of self.old) }
+        ensures written { OnOk result (bytes_of self.new ≡ written at bytes.now (bytes_of self.old)) }
+        ensures crash { Follows (Torn at bytes.now) (outcomes_of self.old) (outcomes_of self.new) }
+        ensures time { Elapses (moment_of self.old) (moment_of self.new) (outcomes_since self.old) (outcomes_since self.new) (outcomes_of self.new) }
+        ensures cause { HasCause (faults_of self.old) (faults_of self.new) result }
+        ensures asked { at + length bytes.now < 2 ^ 64 → IsAsked (wrote at bytes.now) self.old self.new result }
+    {
         let Some(end) = at.checked_add(bytes.len()) else {
             return Err(fault(&mut self.faults, false));
         };
@@ -150,7 +179,14 @@ impl Disk for HostFile {
         counted(&mut self.faults, answer)
     }
 
-    fn cut(&mut self, len: usize) -> Result<()> {
+    fn cut(&mut self, len: usize) -> Result<()>
+        requires { len ≤ length (bytes_of self.old) }
+        ensures cut { OnOk result (bytes_of self.new ≡ take len (bytes_of self.old)) }
+        ensures crash { Follows (Shortened len) (outcomes_of self.old) (outcomes_of self.new) }
+        ensures time { Elapses (moment_of self.old) (moment_of self.new) (outcomes_since self.old) (outcomes_since self.new) (outcomes_of self.new) }
+        ensures cause { HasCause (faults_of self.old) (faults_of self.new) result }
+        ensures asked { IsAsked (cut len) self.old self.new result }
+    {
         go_on(self.is_failed, &mut self.faults)?;
         self.kept = None;
         let answer = self.system.cut(len);
@@ -161,7 +197,14 @@ impl Disk for HostFile {
         counted(&mut self.faults, answer)
     }
 
-    fn sync(&mut self) -> Result<()> {
+    fn sync(&mut self) -> Result<()>
+        ensures durable { OnOk result (Only (bytes_of self.old) (outcomes_of self.new)) }
+        ensures seen { bytes_of self.new ≡ bytes_of self.old }
+        ensures crash { NoMore (outcomes_of self.old) (outcomes_of self.new) }
+        ensures time { Elapses (moment_of self.old) (moment_of self.new) (outcomes_since self.old) (outcomes_since self.new) (outcomes_of self.new) }
+        ensures cause { HasCause (faults_of self.old) (faults_of self.new) result }
+        ensures asked { IsAsked synced self.old self.new result }
+    {
         go_on(self.is_failed, &mut self.faults)?;
         let answer = self.system.sync();
         self.is_failed = answer.is_err();

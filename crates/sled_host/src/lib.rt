@@ -15,8 +15,8 @@
 //!    as one that failed.
 //! 4. No one else changes the files: the lock keeps out programs that ask for it, and no others.
 //!
-//! Of the opening little is proved. A file has what was read. None is made if that is not wanted, and if the file system has no locks
-//! it is refused only if they are needed. That the files are locked and regular, and that the folder is brought to the disk, is tested
+//! Of the opening little is proved. A file has what was read. None is made if that is not wanted. It is locked, unless the system answered
+//! that it cannot lock it, and that is refused only if a lock is needed. That the files are locked and regular, and that the folder is brought to the disk, is tested
 //! or read from the code alone.
 #![tactic(auto)]
 

@@ -1,9 +1,12 @@
 //! The two files of a store, in a folder: made if they are not there, locked, and opened.
 ghost use Rattle.std.specs.Prelude.{◌≡◌, true, false, IfOk, IfErr, IfSome};
 ghost use Rattle.sled_disk.specs.Disk.{Only};
-ghost use Rattle.sled_host.specs.Host.{bytes_of, outcomes_of, faults_of, was_locked, IsUntouched, WasThere};
+ghost use Rattle.sled_host.specs.Host.{bytes_of, outcomes_of, faults_of, was_locked, HasNoLocks, IsUntouched, WasThere};
+ghost use Rattle.sled_host.specs.Locks.{is_held};
 ghost use Rattle.sled_host.specs.declared.pair.Opening.{Opening};
+ghost use Rattle.sled_host.specs.declared.system.Lock.TheVariants.{Unavailable};
 ghost use Rattle.sled_host.specs.Pair.{OpensPair, is_no_lock, is_why_unpaired};
+ghost use Rattle.sled_host.specs.theory.Locks.{is_why_unlocked};
 
 use crate::host::HostFile;
 use crate::system::OpenFile;
@@ -93,6 +96,10 @@ impl std::error::Error for HostError {}
 /// Opens the files `log.0` and `log.1` in the folder of this path, each of them with all that it has brought to the disk. A folder is
 /// made in one that is there. What is made is on the disk with its name. A refusal may leave a folder or files that were made.
 ///
+/// Refused with `Locked` if a file is open elsewhere, and with `NoLocks` if the file system has no locks and they are needed; with
+/// `NotAFolder` or `NotAFile` if something else is at the path or at the name of a file; with `NoMemory`; and with `Io` as the system
+/// refused a call, of the kind `NotFound` if something is not there and is not to be made.
+///
 /// ```
 /// let pair = open_pair(&rt, "people.db", Opening { creates: true, needs_lock: true })?;
 /// ```
@@ -100,7 +107,8 @@ pub fn open_pair(rt: &HostRuntime, path: &str, opening: Opening) -> Result<Pair,
     ensures first { IfOk result (λ pair. Only (bytes_of pair.first) (outcomes_of pair.first)) }
     ensures second { IfOk result (λ pair. Only (bytes_of pair.second) (outcomes_of pair.second)) }
     ensures unfailing { IfOk result (λ pair. (faults_of pair.first ≡ 0) × (faults_of pair.second ≡ 0)) }
-    // They are as they were found, and locked if `is_locked` says so. If none is to be made, both were there.
+    // They are as they were found, and locked if `is_locked` says so; else the system answered that it cannot lock one. If none is to be
+    // made, both were there.
     ensures pair { IfOk result (λ pair. OpensPair opening pair.first pair.second pair.is_locked) }
     ensures err { IfErr result (is_why_unpaired opening) }
 {
@@ -160,6 +168,7 @@ fn open_file(
     ensures untouched { IfOk result (λ it. IsUntouched it.0) }
     ensures found { IfOk result (λ it. opening.creates ≡ false → WasThere it.0) }
     ensures locked { IfOk result (λ it. it.1 ≡ was_locked it.0) }
+    ensures unlocked { IfOk result (λ it. it.1 ≡ false → HasNoLocks it.0) }
     ensures needed { IfOk result (λ it. opening.needs_lock ≡ true → it.1 ≡ true) }
     ensures err { IfErr result (is_why_unpaired opening) }
 {
@@ -206,8 +215,10 @@ fn open_old(rt: &HostRuntime, path: &str) -> Result<OpenFile, HostError>
 
 // Locks a file for as long as it is open, and says whether that could be done.
 fn lock(file: &mut OpenFile, needs_lock: bool) -> Result<bool, HostError>
-    ensures ok { IfOk result (λ is_locked. (is_locked ≡ file.new.is_locked) × (needs_lock ≡ true → is_locked ≡ true)) }
+    ensures ok { IfOk result (λ is_locked. (is_locked ≡ is_held file.new.lock) × (needs_lock ≡ true → is_locked ≡ true)) }
+    ensures unlocked { IfOk result (λ is_locked. is_locked ≡ false → file.new.lock ≡ Unavailable) }
     ensures same { file.new.is_new ≡ file.old.is_new }
+    ensures why { IfErr result (is_why_unlocked file.new.lock) }
     ensures err { IfErr result (λ e. (opening : Opening) → opening.needs_lock ≡ needs_lock → is_why_unpaired opening e) }
 {
     match file.lock() {

@@ -2,6 +2,7 @@
 //! one, and then notes it with its answer.
 ghost use Rattle.std.specs.Prelude.{◌≡◌, true, false, [], ◌∷◌, is_ok, IfOk, IfSome};
 ghost use Rattle.sled_host.specs.Event.{opened, wrote, cut, synced};
+ghost use Rattle.sled_host.specs.theory.Locks.{answer_of};
 ghost use Rattle.sled_host.specs.Noted.{event_of};
 
 use crate::record::{Call, Record};
@@ -11,12 +12,25 @@ use std::io::{self, ErrorKind, Read};
 use std::os::fd::AsRawFd;
 use std::os::unix::fs::{FileExt, MetadataExt};
 
+/// What the system answered when a file was to be locked.
+#[derive(Clone, Copy)]
+pub enum Lock {
+    /// It was not asked.
+    Unasked,
+    /// The file is locked as long as it is open.
+    Held,
+    /// Another opening of the file has it locked.
+    Elsewhere,
+    /// It cannot lock the file.
+    Unavailable,
+}
+
 /// A file that the operating system opened or made, before anything is read or changed.
 #[derive(Drop)]
 pub struct OpenFile {
     file: File,
     is_new: bool,
-    is_locked: bool,
+    lock: Lock,
 }
 
 impl OpenFile {
@@ -28,7 +42,7 @@ impl OpenFile {
             Ok(file) => Ok(Some(OpenFile {
                 file: off_streams(file)?,
                 is_new: true,
-                is_locked: false,
+                lock: Lock::Unasked,
             })),
             Err(error) if error.kind() == ErrorKind::AlreadyExists => Ok(None),
             Err(error) => Err(error),
@@ -43,17 +57,21 @@ impl OpenFile {
         Ok(OpenFile {
             file: off_streams(file)?,
             is_new: false,
-            is_locked: false,
+            lock: Lock::Unasked,
         })
     }
 
     /// Locks it for as long as it is open.
     pub fn lock(&mut self) -> std::result::Result<(), TryLockError>
-        ensures locked { self.new.is_locked ≡ is_ok result }
+        ensures noted { self.new.lock ≡ answer_of result }
         ensures same { self.new.is_new ≡ self.old.is_new }
     {
         let answer = self.file.try_lock();
-        self.is_locked = answer.is_ok();
+        self.lock = match answer {
+            Ok(()) => Lock::Held,
+            Err(TryLockError::WouldBlock) => Lock::Elsewhere,
+            Err(TryLockError::Error(_)) => Lock::Unavailable,
+        };
         answer
     }
 
@@ -69,7 +87,7 @@ impl OpenFile {
 #[derive(Drop)]
 pub struct SystemFile {
     file: File,
-    pub is_locked: bool,
+    pub lock: Lock,
     pub record: Record,
 }
 
@@ -77,21 +95,13 @@ impl SystemFile {
     /// Brings an open file to the disk, and reads all that it has.
     pub fn settle(alloc: Global, found: OpenFile) -> io::Result<(SystemFile, Vec<u8>)>
         ensures opened { IfOk result (λ it. it.0.record.events ≡ opened found.is_new it.1.items ∷ []) }
-        ensures locked { IfOk result (λ it. it.0.is_locked ≡ found.is_locked) }
+        ensures lock { IfOk result (λ it. it.0.lock ≡ found.lock) }
     {
-        let OpenFile {
-            file,
-            is_new,
-            is_locked,
-        } = found;
+        let OpenFile { file, is_new, lock } = found;
         file.sync_all()?;
         let bytes = whole(alloc, &file)?;
         let record = Record::new().and(&Call::Opened(is_new, &bytes));
-        let system = SystemFile {
-            file,
-            is_locked,
-            record,
-        };
+        let system = SystemFile { file, lock, record };
         Ok((system, bytes))
     }
 

@@ -1,5 +1,5 @@
 -- What a point call makes of its tree's map, what it replies, and what subscribers learn.
-use Rattle.std.specs.Prelude.{◌≡◌, ◌≢◌, [], Bool, Option, Some, None, is_some, Ok, Err, if◌then◌else◌}
+use Rattle.std.specs.Prelude.{◌≡◌, ◌≢◌, [], Option, Some, None, is_some, Ok, Err, if◌then◌else◌}
 use Rattle.std.specs.FinMap.Entries.{put, find}
 use Rattle.std.specs.Option.{option_eq}
 use Rattle.std.specs.Str.{bytes_eq}
@@ -26,10 +26,6 @@ key_of (CompareAndSwap k old new) = k
 key_of (call.Merge k bytes) = k
 key_of (Scan lo hi back) = []
 
--- the two are the same value, or both are none
-abbrev pub same_value : Option Key → Option Key → Bool
-same_value = option_eq bytes_eq
-
 -- a value is written, or none is left
 abbrev pub effect_of_write : Option Key → Effect
 effect_of_write None = effect.Remove
@@ -38,7 +34,7 @@ effect_of_write (Some v) = effect.Set v
 -- a swap, at a key that has `value`: it writes even if the new value is equal, and removes even if there is none
 abbrev pub decision_of_swap : Option Key → Option Key → Option Key → Decision
 decision_of_swap value old new =
-    if same_value value old
+    if option_eq bytes_eq value old
     then (record { effect = effect_of_write new; reply = Swapped (Ok tt) })
     else (record { effect = effect.Nothing; reply = Swapped (Err (record { current = value; proposed = new })) })
 
@@ -46,30 +42,26 @@ decision_of_swap value old new =
 abbrev pub decision_of_write : Option Key → Decision
 decision_of_write new = record { effect = effect_of_write new; reply = Value new }
 
--- a merge writes what the operator makes of the key's value and the bytes. Without an operator, if it must be refused before,
--- it would leave no value
-abbrev pub decision_of_merge : Option Merge → Key → Key → Option Key → Decision
-decision_of_merge None k bytes value = decision_of_write None
-decision_of_merge (Some merge) k bytes value = decision_of_write (merge k value bytes)
-
--- What becomes of the value at the call's key, if it has one, and the reply, by the merge operator of the tree
+-- What becomes of the value at the call's key, if it has one, and the reply, by the merge operator of the tree: a merge writes what the
+-- operator makes of the key's value and the bytes. Without an operator, if it must be refused before, it would leave no value
 abbrev pub decision_of : Option Merge → Call → Option Key → Decision
 decision_of merge (Get k) value = record { effect = effect.Nothing; reply = Value value }
-decision_of merge (Insert k v) value = record { effect = if same_value value (Some v) then effect.Nothing else (effect.Set v); reply = Value value }
+decision_of merge (Insert k v) value = record { effect = if option_eq bytes_eq value (Some v) then effect.Nothing else (effect.Set v); reply = Value value }
 decision_of merge (Remove k) value = record { effect = if is_some value then effect.Remove else effect.Nothing; reply = Value value }
 decision_of merge (CompareAndSwap k old new) value = decision_of_swap value old new
-decision_of merge (call.Merge k bytes) value = decision_of_merge merge k bytes value
+decision_of None (call.Merge k bytes) value = decision_of_write None
+decision_of (Some merge) (call.Merge k bytes) value = decision_of_write (merge k value bytes)
 decision_of merge (Scan lo hi back) value = record { effect = effect.Nothing; reply = End }
 
 -- the reply of a swap that finds another value than it expects
 abbrev pub reply_of_swap : Option Key → Option Key → Option Key → Option Reply
-reply_of_swap value old new = if same_value value old then None else (Some (Swapped (Err (record { current = value; proposed = new }))))
+reply_of_swap value old new = if option_eq bytes_eq value old then None else (Some (Swapped (Err (record { current = value; proposed = new }))))
 
 -- The reply of a call by the value that was read, if it changes nothing. A call that has none is to link its change: a merge
 -- always is, and a swap that finds what it expects. A scan changes nothing
 abbrev pub reply_of_read : Call → Option Key → Option Reply
 reply_of_read (Get k) value = Some (Value value)
-reply_of_read (Insert k v) value = if same_value value (Some v) then (Some (Value value)) else None
+reply_of_read (Insert k v) value = if option_eq bytes_eq value (Some v) then (Some (Value value)) else None
 reply_of_read (Remove k) value = if is_some value then None else (Some (Value value))
 reply_of_read (CompareAndSwap k old new) value = reply_of_swap value old new
 reply_of_read (call.Merge k bytes) value = None
@@ -102,9 +94,6 @@ pub record Answer : Type 0 where
   pub reply : Reply
   pub event : Option Event
 
-abbrev pub answer_with : Key → Map → Decision → Answer
-answer_with k m d = record { map = map_after d.effect k m; reply = d.reply; event = event_of d.effect k }
-
 -- the answer of a call on this map, by the merge operator of its tree
 abbrev pub answer_of : Option Merge → Call → Map → Answer
-answer_of merge c m = answer_with (key_of c) m (decision_of merge c (find key_cmp (key_of c) m))
+answer_of merge c m = let d = decision_of merge c (find key_cmp (key_of c) m) in record { map = map_after d.effect (key_of c) m; reply = d.reply; event = event_of d.effect (key_of c) }

@@ -1,5 +1,6 @@
 -- What waits for a subscriber: at most 1024 events, and a count of those that it missed.
 use Rattle.std.specs.Prelude.{ℕ, ◌+◌, min, nat_eq, nat_le, List, [], ◌∷◌, ◌++◌, length, drop, Option, Some, option_map, slice_get, if◌then◌else◌}
+use Rattle.sled_model.specs.Ids.{greatest_of_all}
 use Rattle.sled_model.specs.declared.event.Event.{Event}
 use Rattle.sled_model.specs.declared.event.Next.{Next}
 use Rattle.sled_model.specs.declared.event.Next.TheVariants as told
@@ -13,18 +14,14 @@ pub record Backlog : Type 0 where
 abbrev pub queue_limit : ℕ
 queue_limit = 1024
 
--- the greatest count of missed events: it stays there
-abbrev pub most_missed : ℕ
-most_missed = 18446744073709551615
-
 -- nothing waits, and nothing was missed
 abbrev pub no_backlog : Backlog
 no_backlog = record { missed = 0; events = [] }
 
--- An event comes. If 1024 wait, the oldest goes and is counted
+-- An event comes. If 1024 wait, the oldest goes and is counted, up to the greatest u64, where the count stays
 abbrev pub comes : Event → Backlog → Backlog
 comes e b = if nat_le queue_limit (length b.events)
-    then (record { missed = min (b.missed + 1) most_missed; events = drop 1 b.events ++ e ∷ [] })
+    then (record { missed = min (b.missed + 1) greatest_of_all; events = drop 1 b.events ++ e ∷ [] })
     else (record b { events = b.events ++ e ∷ [] })
 
 -- events come, one after the other

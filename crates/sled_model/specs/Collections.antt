@@ -8,12 +8,9 @@ use Rattle.sled_nodes.specs.Order.{Key}
 abbrev pub Content : Type 0
 Content = Key × Key × List (Key × Key)
 
-abbrev pub content_of : Vec ℕ × Vec ℕ × Vec (Key × Key) → Content
-content_of c = (c.0.items, c.1.items, c.2.items)
-
 -- what these collections hold, in order
 abbrev pub contents_of : List (Vec ℕ × Vec ℕ × Vec (Key × Key)) → List Content
-contents_of collections = map (λ c. content_of c) collections
+contents_of collections = map (λ c. (c.0.items, c.1.items, c.2.items)) collections
 
 -- every collection is of the type `tree`
 abbrev pub are_trees : List Content → Bool

@@ -6,9 +6,9 @@ use Rattle.sled_batch.specs.Batch.{Writes}
 use Rattle.sled_store.specs.Store.{Store}
 use Rattle.sled_nodes.specs.declared.error.Error.{Error}
 use Rattle.sled_model.specs.Maps.{Maps, Merge}
-use Rattle.sled_model.specs.Answer.{Answer, answer_of}
+use Rattle.sled_model.specs.Answer.{answer_of}
 use Rattle.sled_model.specs.State.{State, NamedTree, maps_of, after_decision_on}
-use Rattle.sled_model.specs.Refusal.{MustRefuse, trees_of_batches, must_refuse_of, tells, cause_of_group}
+use Rattle.sled_model.specs.Refusal.{trees_of_batches, must_refuse_of, cause_of_walk, may_refuse_as}
 use Rattle.sled_model.specs.declared.call.Call.{Call}
 use Rattle.sled_model.specs.declared.call.Call.TheVariants.{Insert, Remove}
 use Rattle.sled_model.specs.declared.event.Event.{Event}
@@ -36,35 +36,25 @@ abbrev pub call_with : Key → Option Key → Call
 call_with key None = Remove key
 call_with key (Some value) = Insert key value
 
-abbrev pub call_of_write : Write → Call
-call_of_write w = call_with w.key w.value
-
--- its answer on its tree
-abbrev pub answer_of_write : NamedTree → Write → Answer
-answer_of_write t w = answer_of t.merge (call_of_write w) t.map
-
 -- A write is made as its call would be, with its event. There is a tree of its name, if the tests pass
 abbrev pub after_write_on : Option NamedTree → Write → State → State
 after_write_on None w s = s
-after_write_on (Some t) w s = after_decision_on s w.tree.name t (answer_of_write t w)
-
-abbrev pub after_write : Write → State → State
-after_write w s = after_write_on (s.trees w.tree.name) w s
+after_write_on (Some t) w s = after_decision_on s w.tree.name t (answer_of t.merge (call_with w.key w.value) t.map)
 
 -- Writes are made, one after the other
 abbrev pub after_writes : List Write → State → State
 after_writes [] s = s
-after_writes (w ∷ ws) s = after_writes ws (after_write w s)
+after_writes (w ∷ ws) s = after_writes ws (after_write_on (s.trees w.tree.name) w s)
 
 -- the event of a write, if it has one, with the number of its tree
 abbrev pub events_of_write : Option NamedTree → Write → List (ℕ × Event)
 events_of_write None w = []
-events_of_write (Some t) w = map (λ e. (t.number, e)) (option_to_list (answer_of_write t w).event)
+events_of_write (Some t) w = map (λ e. (t.number, e)) (option_to_list (answer_of t.merge (call_with w.key w.value) t.map).event)
 
 -- the events of writes that are made one after the other, in order
 abbrev pub events_of_writes : List Write → State → List (ℕ × Event)
 events_of_writes [] s = []
-events_of_writes (w ∷ ws) s = events_of_write (s.trees w.tree.name) w ++ events_of_writes ws (after_write w s)
+events_of_writes (w ∷ ws) s = events_of_write (s.trees w.tree.name) w ++ events_of_writes ws (after_write_on (s.trees w.tree.name) w s)
 
 -- A group is decided: all its writes are made at once, and a crash may leave one map more
 pub record DecidesGroup (old : State) (batches : List (Tree × Writes)) (reply : Reply) (new : State) (maps : List Maps) : Type 0 where
@@ -73,23 +63,14 @@ pub record DecidesGroup (old : State) (batches : List (Tree × Writes)) (reply :
   pub is : new ≡ after_writes (writes_of batches) old
   pub added : maps ≡ maps_of new ∷ []
 
--- what a tree has besides its map: its number and its merge operator
-abbrev pub tag_of : NamedTree → ℕ × Option Merge
-tag_of t = (t.number, t.merge)
-
--- A database is closed. Nothing is said of its maps, and all else is as it was
+-- A database is closed. Nothing is said of its maps, and all else is as it was, the numbers of trees and their merge operators too
 pub record Closes (old new : State) : Type 0 where
   pub trees : Key → Option NamedTree
-  pub tags : (name : Key) → option_map tag_of (trees name) ≡ option_map tag_of (old.trees name)
+  pub tags : (name : Key) → option_map {U = ℕ × Option Merge} (λ t. (t.number, t.merge)) (trees name) ≡ option_map {U = ℕ × Option Merge} (λ t. (t.number, t.merge)) (old.trees name)
   pub is : new ≡ record old { trees = trees; is_open = false }
-
--- why a group is refused: by the first of the tests that fails, or if none fails for another cause
-abbrev pub refuses_group_as : Option MustRefuse → Store → Store → Error → Type 0
-refuses_group_as (Some must) a b e = tells must e
-refuses_group_as None a b e = cause_of_group a b e
 
 -- A group is refused, and nothing changes; or it was refused midway, if no test failed, and then the database is closed
 pub record StopsGroup (old : State) (a b : Store) (batches : List (Tree × Writes)) (e : Error) (new : State) (maps : List Maps) : Type 0 where
-  pub why : refuses_group_as (must_refuse_of old (trees_of_batches batches)) a b e
+  pub why : may_refuse_as (must_refuse_of old (trees_of_batches batches)) (cause_of_walk a b) e
   pub is : (new ≡ old) ⊎ ((must_refuse_of old (trees_of_batches batches) ≡ None) × Closes old new)
   pub added : maps ≡ []

@@ -1,7 +1,7 @@
 -- Ids, and how many are set aside.
 use Rattle.std.specs.Prelude.{ℕ, ◌+◌, min, nat_lt, if◌then◌else◌}
 
--- the greatest id that there can be, which is the greatest u64
+-- the greatest u64: the greatest id that there can be, and the greatest count
 abbrev pub greatest_of_all : ℕ
 greatest_of_all = 18446744073709551615
 

@@ -1,5 +1,5 @@
 -- What an import makes of the state.
-use Rattle.std.specs.Prelude.{◌≡◌, ◌⊎◌, true, List, [], ◌∷◌, ◌++◌, Option, Some, None}
+use Rattle.std.specs.Prelude.{◌≡◌, ◌⊎◌, true, List, [], ◌∷◌, ◌++◌, Option, Some, None, is_none}
 use Rattle.std.specs.FinMap.Entries.{find}
 use Rattle.sled_nodes.specs.Order.{Key, key_cmp}
 use Rattle.sled_store.specs.Store.{Store, refuses_read_as}
@@ -10,8 +10,8 @@ use Rattle.sled_model.specs.Maps.{Maps}
 use Rattle.sled_model.specs.Answer.{answer_of}
 use Rattle.sled_model.specs.Collections.{Content, are_trees}
 use Rattle.sled_model.specs.State.{State, NamedTree, maps_of, after_decision_on}
-use Rattle.sled_model.specs.Refusal.{MustRefuse, ToPoint, ToCall, must_refuse_of, tells, cause_of_import, MayRefuse}
-use Rattle.sled_model.specs.Whole.{number_opened, state_opened, maps_opened}
+use Rattle.sled_model.specs.Refusal.{MustRefuse, ToPoint, ToCall, must_refuse_of, tells, cause_of_import, may_refuse_as, MayRefuse}
+use Rattle.sled_model.specs.Whole.{number_opened, state_opened, maps_if}
 use Rattle.sled_model.specs.declared.call.Call.TheVariants.{Insert}
 use Rattle.sled_model.specs.declared.call.Whole.TheVariants.{OpenTree}
 use Rattle.sled_model.specs.declared.tree.Tree.{Tree}
@@ -44,7 +44,7 @@ pub record PutsPair (old : State) (name key value : Key) (new : State) (maps : L
   pub added : maps ≡ maps_of new ∷ []
 
 abbrev pub does_part_as : State → Part → State → List Maps → Type 0
-does_part_as old (OpensName name) new maps = (new ≡ state_opened (old.trees name) old name) × (maps ≡ maps_opened (old.trees name) new)
+does_part_as old (OpensName name) new maps = (new ≡ state_opened (old.trees name) old name) × (maps ≡ maps_if (is_none (old.trees name)) new)
 does_part_as old (Puts name key value) new maps = PutsPair old name key value new maps
 
 -- one part is done, and adds these maps
@@ -62,23 +62,16 @@ pub record Imports (old : State) (all : List Content) (new : State) (maps : List
   pub trees : are_trees all ≡ true
   pub does : DoesParts old (parts_of all) new maps
 
--- the key has a value in the tree of this name
-pub record IsPresent (s : State) (name key : Key) : Type 0 where
+-- the key has this value in the tree of this name, or none
+pub record HasAt (s : State) (name key : Key) (value : Option Key) : Type 0 where
   pub named : NamedTree
   pub there : s.trees name ≡ Some named
-  pub value : Key
-  pub is : find key_cmp key named.map ≡ Some value
+  pub is : find key_cmp key named.map ≡ value
 
--- .. and a pair is not put over it
+-- a pair is not put over another
 abbrev pub overwrites_as : State → Key → Key → Error → Type 0
-overwrites_as s name key (Unsupported text) = (text.now ≡ OVERWRITES_DATA.now) × IsPresent s name key
+overwrites_as s name key (Unsupported text) = (text.now ≡ OVERWRITES_DATA.now) × (value : Key) × HasAt s name key (Some value)
 overwrites_as s name key e = ⊥
-
--- the key has no value in the tree of this name
-pub record IsAbsent (s : State) (name key : Key) : Type 0 where
-  pub named : NamedTree
-  pub there : s.trees name ≡ Some named
-  pub is : find key_cmp key named.map ≡ None
 
 -- why a key is not looked for to the end: by a test of the tree, or for want of memory, a page that is not readable, or turns used up
 abbrev pub unread_as : Option MustRefuse → Store → Error → Type 0
@@ -90,7 +83,7 @@ unread_as None a e = refuses_read_as a e
 -- insert is refused
 abbrev pub refuses_part : State → Store → Store → Part → Error → Type 0
 refuses_part s a b (OpensName name) e = MayRefuse s a b (ToCall (OpenTree name)) e
-refuses_part s a b (Puts name key value) e = overwrites_as s name key e ⊎ (unread_as (must_refuse_of s (tree_at s name ∷ [])) a e ⊎ (IsAbsent s name key × MayRefuse s a b (ToPoint (tree_at s name) (Insert key value)) e))
+refuses_part s a b (Puts name key value) e = overwrites_as s name key e ⊎ (unread_as (must_refuse_of s (tree_at s name ∷ [])) a e ⊎ (HasAt s name key None × MayRefuse s a b (ToPoint (tree_at s name) (Insert key value)) e))
 
 -- where parts stop: those that were done, the next, which is refused, and those that are left
 pub record Stop : Type 0 where
@@ -98,23 +91,15 @@ pub record Stop : Type 0 where
   pub next : Part
   pub later : List Part
 
--- the parts that there are about a stop
-abbrev pub parts_about : Stop → List Part
-parts_about s = s.done ++ s.next ∷ s.later
-
 -- an import does its first parts, and the next is refused
 pub record StopsAtPart (old : State) (a b : Store) (all : List Content) (stop : Stop) (e : Error) (new : State) (maps : List Maps) : Type 0 where
   pub free : must_refuse_of old [] ≡ None
   pub trees : are_trees all ≡ true
-  pub all_parts : parts_of all ≡ parts_about stop
+  pub all_parts : parts_of all ≡ stop.done ++ stop.next ∷ stop.later
   pub does : DoesParts old stop.done new maps
   pub refuses : refuses_part new a b stop.next e
 
--- before its first part it is refused if the database is closed, or some collection is of another type
-abbrev pub refuses_import_as : Option MustRefuse → List Content → Error → Type 0
-refuses_import_as (Some must) all e = tells must e
-refuses_import_as None all e = cause_of_import all e
-
--- An import is refused, and has done nothing, or its first parts
+-- An import is refused before its first part, if the database is closed or some collection is of another type, and has done nothing; or it
+-- has done its first parts
 pub record StopsImporting (old : State) (a b : Store) (all : List Content) (e : Error) (new : State) (maps : List Maps) : Type 0 where
-  pub is : (refuses_import_as (must_refuse_of old []) all e × (new ≡ old) × (maps ≡ [])) ⊎ ((stop : Stop) × StopsAtPart old a b all stop e new maps)
+  pub is : (may_refuse_as (must_refuse_of old []) (cause_of_import all) e × (new ≡ old) × (maps ≡ [])) ⊎ ((stop : Stop) × StopsAtPart old a b all stop e new maps)

@@ -1,10 +1,10 @@
 pub mod Maps
 pub mod Event
+pub mod Ids
 pub mod Answer
 pub mod Backlog
 pub mod State
 pub mod Scan
-pub mod Ids
 pub mod Collections
 pub mod Queues
 pub mod Refusal

@@ -7,7 +7,6 @@ use Rattle.sled_store.specs.Store.{Store, HasUnreadable}
 use Rattle.sled_nodes.specs.declared.error.Error.{Error}
 use Rattle.sled_nodes.specs.declared.error.Error.TheVariants.{CollectionNotFound, Unsupported, ReportableBug, Io, NoMemory, Closed}
 use Rattle.sled_nodes.specs.declared.texts.TheConstants.{HANDLE_OF_ANOTHER_DATABASE, NO_MERGE_OPERATOR, NUMBERS_USED_UP, IDS_USED_UP, CORE_STRUCTURES, WALK_PASSED_TURNS, UNKNOWN_COLLECTION_TYPE}
-use Rattle.sled_model.specs.Maps.{Map, IsLeast, IsGreatest}
 use Rattle.sled_model.specs.State.{State, NamedTree, CallInFlight, default_name}
 use Rattle.sled_model.specs.Ids.{greatest_of_all}
 use Rattle.sled_model.specs.Collections.{Content, contents_of, are_trees}
@@ -157,17 +156,11 @@ abbrev pub cause_of_import : List Content → Error → Type 0
 cause_of_import all (Unsupported text) = (text.now ≡ UNKNOWN_COLLECTION_TYPE.now) × (are_trees all ≡ false)
 cause_of_import all e = ⊥
 
--- why no subscriber is added: there is no memory, or all numbers were given
-abbrev pub cause_of_watch : State → Error → Type 0
-cause_of_watch s NoMemory = Unit {0}
-cause_of_watch s (Unsupported text) = (text.now ≡ NUMBERS_USED_UP.now) × (s.subscribers_given ≡ 18446744073709551615)
-cause_of_watch s e = ⊥
-
--- why a call does not begin: there is no memory, or all numbers of slots were given
-abbrev pub cause_of_begin : State → Error → Type 0
-cause_of_begin s NoMemory = Unit {0}
-cause_of_begin s (Unsupported text) = (text.now ≡ NUMBERS_USED_UP.now) × (s.slots_given ≡ 18446744073709551615)
-cause_of_begin s e = ⊥
+-- why nothing more is numbered, where so many numbers were given: there is no memory, or all were given
+abbrev pub cause_of_numbering : ℕ → Error → Type 0
+cause_of_numbering given NoMemory = Unit {0}
+cause_of_numbering given (Unsupported text) = (text.now ≡ NUMBERS_USED_UP.now) × (given ≡ 18446744073709551615)
+cause_of_numbering given e = ⊥
 
 -- why a step of a call in flight is refused
 abbrev pub cause_of_step : State → Store → Store → CallInFlight → Error → Type 0
@@ -176,32 +169,13 @@ cause_of_step s a b f (Io fault) = HasFault a b
 cause_of_step s a b f (ReportableBug text) = (text.now ≡ WALK_PASSED_TURNS.now) × (f.turns ≡ turns_limit)
 cause_of_step s a b f e = ⊥
 
--- why a call that is made at once is refused
-abbrev pub cause_of_point : State → Store → Store → Tree → Call → Error → Type 0
-cause_of_point s a b tree call NoMemory = Unit {0}
-cause_of_point s a b tree call (Io fault) = HasFault a b
-cause_of_point s a b tree call (ReportableBug text) = text.now ≡ WALK_PASSED_TURNS.now
-cause_of_point s a b tree call e = ⊥
-
--- why a flush is refused
-abbrev pub cause_of_flush : Store → Store → Error → Type 0
-cause_of_flush a b NoMemory = Unit {0}
-cause_of_flush a b (Io fault) = a.faults < b.faults
-cause_of_flush a b e = ⊥
-
--- why the pair at one end of a tree is not taken out, by a pop or a part of a clear
-abbrev pub cause_at_end : (Map → Option (Key × Key) → Type 0) → State → Store → Store → Tree → Error → Type 0
-cause_at_end is_end s a b tree NoMemory = Unit {0}
-cause_at_end is_end s a b tree (Io fault) = HasFault a b
-cause_at_end is_end s a b tree (ReportableBug text) = text.now ≡ WALK_PASSED_TURNS.now
-cause_at_end is_end s a b tree e = ⊥
-
--- why a group is refused: there is no memory, the store counted a fault or some page is not readable, or the turns of a write are used up
-abbrev pub cause_of_group : Store → Store → Error → Type 0
-cause_of_group a b NoMemory = Unit {0}
-cause_of_group a b (Io fault) = HasFault a b
-cause_of_group a b (ReportableBug text) = text.now ≡ WALK_PASSED_TURNS.now
-cause_of_group a b e = ⊥
+-- why a call that is made at once, a pop, a part of a clear or a group is refused: there is no memory, the store counted a fault or some
+-- page is not readable, or the turns of a walk are used up
+abbrev pub cause_of_walk : Store → Store → Error → Type 0
+cause_of_walk a b NoMemory = Unit {0}
+cause_of_walk a b (Io fault) = HasFault a b
+cause_of_walk a b (ReportableBug text) = text.now ≡ WALK_PASSED_TURNS.now
+cause_of_walk a b e = ⊥
 
 -- why a name is not opened: there is no memory; or it is new, and a fault was counted or all numbers of trees were given
 abbrev pub cause_of_opening : State → Store → Store → Key → Error → Type 0
@@ -210,39 +184,34 @@ cause_of_opening s a b name (Io fault) = (s.trees name ≡ None) × (a.faults < 
 cause_of_opening s a b name (Unsupported text) = (text.now ≡ NUMBERS_USED_UP.now) × (s.trees name ≡ None) × (s.trees_given ≡ 18446744073709551615)
 cause_of_opening s a b name e = ⊥
 
--- why a whole call is refused. `Next` and `Unsubscribe` are never refused
-abbrev pub cause_of_whole : State → Store → Store → Whole → Error → Type 0
-cause_of_whole s a b Flush e = cause_of_flush a b e
-cause_of_whole s a b (PopMin tree) e = cause_at_end IsLeast s a b tree e
-cause_of_whole s a b (PopMax tree) e = cause_at_end IsGreatest s a b tree e
-cause_of_whole s a b (Clear tree) e = cause_at_end IsLeast s a b tree e
-cause_of_whole s a b (Group batches) e = cause_of_group a b e
-cause_of_whole s a b (OpenTree name) e = cause_of_opening s a b name e
-cause_of_whole s a b (DropTree name) e = cause_of_drop s a b name e
-cause_of_whole s a b GenerateId e = cause_of_id s a b e
-cause_of_whole s a b (Import collections) e = cause_of_import (contents_of collections.items) e
-cause_of_whole s a b (Watch tree prefix) e = cause_of_watch s e
-cause_of_whole s a b (Next subscriber) e = ⊥
-cause_of_whole s a b (Unsubscribe subscriber) e = ⊥
-
--- why a merge operator is not set
-abbrev pub cause_of_setting : Error → Type 0
-cause_of_setting NoMemory = Unit {0}
-cause_of_setting e = ⊥
-
 -- The causes of a refusal that is none of those tests: slots, trees and subscribers are numbered up to the greatest u64. The call has
--- no turns left; the store counted a fault, or some page is not readable. a is the store before, b the store after
+-- no turns left; the store counted a fault, or some page is not readable; for a flush and a merge operator memory may be wanted. `Next` and
+-- `Unsubscribe` are never refused. a is the store before, b the store after
 abbrev pub cause_of : State → Store → Store → Asked → Error → Type 0
-cause_of s a b (ToBegin tree call) e = cause_of_begin s e
+cause_of s a b (ToBegin tree call) e = cause_of_numbering s.slots_given e
 cause_of s a b (ToStep f) e = cause_of_step s a b f e
-cause_of s a b (ToPoint tree call) e = cause_of_point s a b tree call e
-cause_of s a b (ToCall whole) e = cause_of_whole s a b whole e
-cause_of s a b (ToSetOperator tree) e = cause_of_setting e
+cause_of s a b (ToPoint tree call) e = cause_of_walk a b e
+cause_of s a b (ToCall Flush) NoMemory = Unit {0}
+cause_of s a b (ToCall Flush) (Io fault) = a.faults < b.faults
+cause_of s a b (ToCall Flush) e = ⊥
+cause_of s a b (ToCall (PopMin tree)) e = cause_of_walk a b e
+cause_of s a b (ToCall (PopMax tree)) e = cause_of_walk a b e
+cause_of s a b (ToCall (Clear tree)) e = cause_of_walk a b e
+cause_of s a b (ToCall (Group batches)) e = cause_of_walk a b e
+cause_of s a b (ToCall (OpenTree name)) e = cause_of_opening s a b name e
+cause_of s a b (ToCall (DropTree name)) e = cause_of_drop s a b name e
+cause_of s a b (ToCall GenerateId) e = cause_of_id s a b e
+cause_of s a b (ToCall (Import collections)) e = cause_of_import (contents_of collections.items) e
+cause_of s a b (ToCall (Watch tree prefix)) e = cause_of_numbering s.subscribers_given e
+cause_of s a b (ToCall (Next subscriber)) e = ⊥
+cause_of s a b (ToCall (Unsubscribe subscriber)) e = ⊥
+cause_of s a b (ToSetOperator tree) NoMemory = Unit {0}
+cause_of s a b (ToSetOperator tree) e = ⊥
 
--- the call may be refused so: by the first of the tests that fails, or if none fails for one of the causes
-abbrev pub may_refuse_as : Option MustRefuse → State → Store → Store → Asked → Error → Type 0
-may_refuse_as (Some must) s a b asked e = tells must e
-may_refuse_as None s a b asked e = cause_of s a b asked e
+-- it may be refused so: by the first of the tests that fails, or if none fails for one of the causes
+abbrev pub may_refuse_as : Option MustRefuse → (Error → Type 0) → Error → Type 0
+may_refuse_as (Some must) cause e = tells must e
+may_refuse_as None cause e = cause e
 
 pub record MayRefuse (s : State) (a b : Store) (asked : Asked) (e : Error) : Type 0 where
-  pub is : may_refuse_as (must_refuse s asked) s a b asked e
+  pub is : may_refuse_as (must_refuse s asked) (cause_of s a b asked) e

@@ -1,5 +1,5 @@
 -- What a scan has still to read, and how it goes on.
-use Rattle.std.specs.Prelude.{◌≡◌, ◌⊎◌, ◌||◌, Bool, true, false, List, [], Option, Some, None}
+use Rattle.std.specs.Prelude.{◌≡◌, ◌||◌, Bool, true, false, List, [], Option, Some, None}
 use Rattle.sled_nodes.specs.Order.{Key, Below}
 use Rattle.sled_nodes.specs.Ranges.{Range, is_in_range, pairs_in, is_reversed}
 use Rattle.sled_model.specs.Maps.{Map}
@@ -30,10 +30,6 @@ pub record ReadsPart (map : Map) (waiting : List (Key × Key)) (rest : Option Ra
   pub part : Range
   pub takes : TakesBeginning range part left
   pub wait : after ≡ pairs_in part map
-
--- a call that goes on has the pairs and the range that it had, or reads a part
-abbrev pub Reads : Map → List (Key × Key) → Option Range → List (Key × Key) → Option Range → Type 0
-Reads map waiting rest after left = ((after ≡ waiting) × (left ≡ rest)) ⊎ ReadsPart map waiting rest after left
 
 -- nothing is left to read, or the bounds give nothing
 abbrev pub is_read : Option Range → Bool

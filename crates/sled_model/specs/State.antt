@@ -1,9 +1,9 @@
 -- The state of a database with calls in flight.
-use Rattle.std.specs.Prelude.{◌≡◌, ℕ, Bool, List, [], nat_eq, ◌&&◌, Option, Some, None, option_map, codes, if◌then◌else◌}
+use Rattle.std.specs.Prelude.{◌≡◌, ℕ, Bool, List, nat_eq, ◌&&◌, Option, Some, None, option_map, codes, if◌then◌else◌}
 use Rattle.std.specs.List.{starts_with}
 use Rattle.sled_nodes.specs.Order.{Key}
 use Rattle.sled_nodes.specs.Ranges.{Range}
-use Rattle.sled_store.specs.Update.{put_at, put_name}
+use Rattle.sled_store.specs.Update.{put_name}
 use Rattle.sled_model.specs.Maps.{Map, Maps, Merge}
 use Rattle.sled_model.specs.Event.{key_of_event}
 use Rattle.sled_model.specs.Answer.{Answer}
@@ -67,10 +67,6 @@ range_of call = None
 abbrev pub IsOnKey : Call → Type 0
 IsOnKey call = range_of call ≡ None
 
--- a call as it begins: a scan has all of its range to read
-abbrev pub call_begun : Tree → Call → CallInFlight
-call_begun tree call = record { tree = tree; call = call; turns = 0; waiting = []; rest = range_of call }
-
 -- the event is one that the queue waits for
 abbrev pub matches : ℕ → Event → Queue → Bool
 matches tree e q = nat_eq q.tree tree && starts_with nat_eq (key_of_event e) q.prefix
@@ -86,7 +82,3 @@ after_decision_on s name t a = record s {
   trees = put_name s.trees name (Some (record t { map = a.map }));
   queues = queues_after t.number a.event s.queues;
 }
-
--- .. and the call's slot is gone
-abbrev pub after_decision : State → ℕ → Key → NamedTree → Answer → State
-after_decision s slot name t a = record (after_decision_on s name t a) { slots = put_at s.slots slot None }

@@ -1,5 +1,5 @@
 -- One step of the machine, by cases.
-use Rattle.std.specs.Prelude.{◌≡◌, true, ℕ, ◌+◌, ◌<◌, List, [], ◌∷◌, Option, Some, None}
+use Rattle.std.specs.Prelude.{◌≡◌, ◌⊎◌, true, ℕ, ◌+◌, ◌<◌, List, [], ◌∷◌, Option, Some, None}
 use Rattle.sled_nodes.specs.Order.{Key}
 use Rattle.sled_nodes.specs.Ranges.{Range}
 use Rattle.sled_store.specs.Update.{put_at}
@@ -7,13 +7,13 @@ use Rattle.sled_store.specs.Store.{Store}
 use Rattle.sled_nodes.specs.declared.error.Error.{Error}
 use Rattle.sled_model.specs.Maps.{Maps, IsLeast, IsGreatest}
 use Rattle.sled_model.specs.Answer.{answer_of}
-use Rattle.sled_model.specs.State.{State, NamedTree, CallInFlight, maps_of, call_begun, after_decision}
-use Rattle.sled_model.specs.Scan.{Reads, is_read}
+use Rattle.sled_model.specs.State.{State, NamedTree, CallInFlight, maps_of, range_of, after_decision_on}
+use Rattle.sled_model.specs.Scan.{ReadsPart, is_read}
 use Rattle.sled_model.specs.Refusal.{ToBegin, ToStep, ToCall, must_refuse, MayRefuse, TellsTurns, turns_limit}
 use Rattle.sled_model.specs.declared.call.Call.{Call}
 use Rattle.sled_model.specs.declared.call.Whole.{Whole}
 use Rattle.sled_model.specs.declared.call.Whole.TheVariants.{Flush, PopMin, PopMax, Clear, Group, OpenTree, DropTree, GenerateId, Import, Watch, Next, Unsubscribe}
-use Rattle.sled_model.specs.Whole.{Pops, Clears, StopsClearing, OpensTree, DropsTreeOf, GeneratesId, Watches, TakesNext, GivesUpQueue}
+use Rattle.sled_model.specs.Whole.{Pops, Clears, StopsClearing, OpensTree, DropsTreeOf, GeneratesId, Watches, TakesNext}
 use Rattle.sled_model.specs.Collections.{contents_of}
 use Rattle.sled_model.specs.Imports.{Imports, StopsImporting}
 use Rattle.sled_model.specs.Groups.{DecidesGroup, StopsGroup}
@@ -33,13 +33,13 @@ pub record Configuration : Type 0 where
   pub store : Store
   pub flush_number : ℕ
 
--- the call takes the next slot, with no turns
+-- the call takes the next slot, with no turns, and a scan has all of its range to read
 pub record Begin (old : State) (tree : Tree) (call : Call) (slot : ℕ) (new : State) : Type 0 where
   pub free : must_refuse old (ToBegin tree call) ≡ None
   pub next : slot ≡ old.slots_given + 1
-  pub is : new ≡ record old { slots = put_at old.slots slot (Some (call_begun tree call)); slots_given = slot }
+  pub is : new ≡ record old { slots = put_at old.slots slot (Some (record { tree = tree; call = call; turns = 0; waiting = []; rest = range_of call })); slots_given = slot }
 
--- the call in the slot has one turn more. A scan may have read a part of its range
+-- The call in the slot has one turn more. It has the pairs and the range that it had, or a scan reads a part of its range
 pub record Move (old : State) (slot : ℕ) (new : State) : Type 0 where
   pub flying : CallInFlight
   pub here : old.slots slot ≡ Some flying
@@ -49,7 +49,7 @@ pub record Move (old : State) (slot : ℕ) (new : State) : Type 0 where
   pub rest : Option Range
   pub tree : NamedTree
   pub there : old.trees flying.tree.name ≡ Some tree
-  pub reads : Reads tree.map flying.waiting flying.rest waiting rest
+  pub reads : ((waiting ≡ flying.waiting) × (rest ≡ flying.rest)) ⊎ ReadsPart tree.map flying.waiting flying.rest waiting rest
   pub is : new ≡ record old { slots = put_at old.slots slot (Some (record flying { turns = flying.turns + 1; waiting = waiting; rest = rest })) }
 
 -- the scan in the slot gives the first pair that waits, and its turns begin again
@@ -74,7 +74,7 @@ pub record Decide (old : State) (slot : ℕ) (reply : Reply) (new : State) : Typ
   pub none : flying.waiting ≡ []
   pub done : is_read flying.rest ≡ true
   pub replies : reply ≡ (answer_of tree.merge flying.call tree.map).reply
-  pub is : new ≡ after_decision old slot flying.tree.name tree (answer_of tree.merge flying.call tree.map)
+  pub is : new ≡ record (after_decision_on old flying.tree.name tree (answer_of tree.merge flying.call tree.map)) { slots = put_at old.slots slot None }
 
 -- the call in the slot is refused, with its cause, and ends
 pub record RefuseStep (old : State) (a b : Store) (slot : ℕ) (e : Error) (new : State) : Type 0 where
@@ -84,11 +84,6 @@ pub record RefuseStep (old : State) (a b : Store) (slot : ℕ) (e : Error) (new 
   -- without turns left it is refused for that, and for nothing else
   pub limit : must_refuse old (ToStep flying) ≡ None → flying.turns ≡ turns_limit → TellsTurns e
   pub is : new ≡ record old { slots = put_at old.slots slot None }
-
--- no call has the slot, and nothing changes
-pub record NoSlot (old : State) (slot : ℕ) (new : State) : Type 0 where
-  pub free : old.slots slot ≡ None
-  pub is : new ≡ old
 
 -- the call in the slot is abandoned
 pub record Abandon (old : State) (slot : ℕ) (new : State) : Type 0 where
@@ -122,7 +117,7 @@ kind_of (Next subscriber) = Listening
 kind_of (Unsubscribe subscriber) = Listening
 
 -- A whole call is decided. A flush answers the store's number. A closed database too returns what is next for a subscriber, and drops a
--- queue
+-- queue, with the events that waited there
 abbrev pub WholeDecides : Configuration → Whole → Reply → State → List Maps → Type 0
 WholeDecides old Flush reply new maps = (must_refuse old.state (ToCall Flush) ≡ None) × (reply ≡ Number old.flush_number) × (new ≡ old.state) × (maps ≡ [])
 WholeDecides old (PopMin tree) reply new maps = Pops IsLeast old.state (PopMin tree) tree reply new maps
@@ -135,7 +130,7 @@ WholeDecides old GenerateId reply new maps = GeneratesId old.state reply new map
 WholeDecides old (Import collections) reply new maps = (reply ≡ Done) × Imports old.state (contents_of collections.items) new maps
 WholeDecides old (Watch tree prefix) reply new maps = (number : ℕ) × (reply ≡ told.Subscriber number) × Watches old.state tree prefix number new × (maps ≡ [])
 WholeDecides old (Next subscriber) reply new maps = (next : Option event.Next) × (reply ≡ told.Next next) × TakesNext old.state subscriber next new × (maps ≡ [])
-WholeDecides old (Unsubscribe subscriber) reply new maps = (reply ≡ Done) × GivesUpQueue old.state subscriber new × (maps ≡ [])
+WholeDecides old (Unsubscribe subscriber) reply new maps = (reply ≡ Done) × (new ≡ record old.state { queues = put_at old.state.queues subscriber None }) × (maps ≡ [])
 
 -- a whole call is refused for a cause, and nothing changes
 abbrev pub RefusesAtOnce : State → Store → Store → Whole → Error → State → List Maps → Type 0
@@ -158,16 +153,16 @@ WholeRefuses old a b (Next subscriber) e new maps = ⊥
 WholeRefuses old a b (Unsubscribe subscriber) e new maps = ⊥
 
 -- One step: what was done, how it came out, the state after it, and the maps that it added: those after each call that
--- it decided, in order. What no case names stays as it was, and no other case exists
+-- it decided, in order. Nothing changes if no call has the slot. What no case names stays as it was, and no other case exists
 abbrev pub transition_as : Configuration → Step → Outcome → Configuration → List Maps → Type 0
 transition_as old (step.Begin tree call) (Begun slot) new maps = Begin old.state tree call slot new.state × (maps ≡ [])
 transition_as old (step.Begin tree call) (Refused e) new maps = MayRefuse old.state old.store new.store (ToBegin tree call) e × (new.state ≡ old.state) × (maps ≡ [])
-transition_as old (step.Step slot) NoSuchSlot new maps = NoSlot old.state slot new.state × (maps ≡ [])
+transition_as old (step.Step slot) NoSuchSlot new maps = ((old.state.slots slot ≡ None) × (new.state ≡ old.state)) × (maps ≡ [])
 transition_as old (step.Step slot) Moved new maps = Move old.state slot new.state × (maps ≡ [])
 transition_as old (step.Step slot) (Yielded key value) new maps = Yield old.state slot key value new.state × (maps ≡ [])
 transition_as old (step.Step slot) (Decided reply) new maps = Decide old.state slot reply new.state × (maps ≡ maps_of new.state ∷ [])
 transition_as old (step.Step slot) (Refused e) new maps = RefuseStep old.state old.store new.store slot e new.state × (maps ≡ [])
-transition_as old (step.Abandon slot) NoSuchSlot new maps = NoSlot old.state slot new.state × (maps ≡ [])
+transition_as old (step.Abandon slot) NoSuchSlot new maps = ((old.state.slots slot ≡ None) × (new.state ≡ old.state)) × (maps ≡ [])
 transition_as old (step.Abandon slot) Abandoned new maps = Abandon old.state slot new.state × (maps ≡ [])
 transition_as old (step.Whole whole) (Decided reply) new maps = WholeDecides old whole reply new.state maps
 transition_as old (step.Whole whole) (Refused e) new maps = WholeRefuses old.state old.store new.store whole e new.state maps

@@ -1,13 +1,14 @@
 -- What whole calls make of the state.
-use Rattle.std.specs.Prelude.{◌≡◌, ◌≢◌, ℕ, zero, suc, ◌+◌, ◌≤◌, ◌⊎◌, List, [], ◌∷◌, Option, Some, None, is_some}
+use Rattle.std.specs.Prelude.{◌≡◌, ◌≢◌, ℕ, zero, suc, ◌+◌, ◌≤◌, ◌⊎◌, Bool, true, false, List, [], ◌∷◌, Option, Some, None, is_some, is_none, option_map}
 use Rattle.sled_nodes.specs.Order.{Key}
 use Rattle.sled_store.specs.Store.{Store}
-use Rattle.sled_store.specs.Update.{put_name}
+use Rattle.sled_store.specs.Update.{put_at, put_name}
 use Rattle.sled_nodes.specs.declared.error.Error.{Error}
 use Rattle.sled_model.specs.Maps.{Map, Maps, Merge}
 use Rattle.sled_model.specs.Answer.{answer_of}
+use Rattle.sled_model.specs.Backlog.{no_backlog, next_of}
 use Rattle.sled_model.specs.State.{State, NamedTree, default_name, maps_of, after_decision_on}
-use Rattle.sled_model.specs.Queues.{next_in, watched, taken, given_up}
+use Rattle.sled_model.specs.Queues.{backlog_in, without_next}
 use Rattle.sled_model.specs.Refusal.{ToPoint, ToCall, ToSetOperator, must_refuse, MayRefuse}
 use Rattle.sled_model.specs.Ids.{mark_above}
 use Rattle.sled_model.specs.Collections.{contents_of}
@@ -47,17 +48,13 @@ pub record Watches (old : State) (tree : Tree) (prefix : Key) (number : ℕ) (ne
   pub free : must_refuse old (ToCall (Watch tree prefix)) ≡ None
   pub next : number ≡ old.subscribers_given + 1
   pub fresh : old.queues number ≡ None
-  pub is : new ≡ record old { queues = watched number tree.number prefix old.queues; subscribers_given = number }
+  pub is : new ≡ record old { queues = put_at old.queues number (Some (record { tree = tree.number; prefix = prefix; backlog = no_backlog })); subscribers_given = number }
 
 -- A subscriber gets the number of events that it missed, or else takes the oldest event that waits for it, if one does, and all else is as
 -- it was
 pub record TakesNext (old : State) (subscriber : ℕ) (next : Option event.Next) (new : State) : Type 0 where
-  pub gives : next ≡ next_in (old.queues subscriber)
-  pub is : new ≡ record old { queues = taken subscriber old.queues }
-
--- A subscriber has no queue any more, and the events that waited there are gone
-pub record GivesUpQueue (old : State) (subscriber : ℕ) (new : State) : Type 0 where
-  pub is : new ≡ record old { queues = given_up subscriber old.queues }
+  pub gives : next ≡ next_of (backlog_in (old.queues subscriber))
+  pub is : new ≡ record old { queues = put_at old.queues subscriber (option_map without_next (old.queues subscriber)) }
 
 -- the state after this pair of the tree was taken out, if there is one
 abbrev pub after_pop : State → Key → NamedTree → Option (Key × Key) → State
@@ -98,41 +95,32 @@ pub record StopsClearing (old : State) (a b : Store) (tree : Tree) (e : Error) (
   pub removes : RemovesLeast tree old parts new maps
   pub may : MayRefuse new a b (ToCall (Clear tree)) e
 
--- a new tree: it has the next number, an empty map, and no merge operator
-abbrev pub new_tree : State → NamedTree
-new_tree s = record { number = s.trees_given + 1; map = []; merge = None }
-
 -- the number of a name's tree, if there is one, and else of a new one
 abbrev pub number_opened : Option NamedTree → State → ℕ
 number_opened (Some t) s = t.number
 number_opened None s = s.trees_given + 1
 
--- the state after a name was opened, which had this tree
+-- the state after a name was opened, which had this tree. A new one has the next number, an empty map, and no merge operator
 abbrev pub state_opened : Option NamedTree → State → Key → State
 state_opened (Some t) s name = s
-state_opened None s name = record s { trees = put_name s.trees name (Some (new_tree s)); trees_given = s.trees_given + 1 }
+state_opened None s name = record s { trees = put_name s.trees name (Some (record { number = s.trees_given + 1; map = []; merge = None })); trees_given = s.trees_given + 1 }
 
--- the maps that this added: if the tree is new those with its empty one, and else none
-abbrev pub maps_opened : Option NamedTree → State → List Maps
-maps_opened (Some t) new = []
-maps_opened None new = maps_of new ∷ []
+-- the maps that a change of trees adds, if there is one: those after it
+abbrev pub maps_if : Bool → State → List Maps
+maps_if false new = []
+maps_if true new = maps_of new ∷ []
 
 -- A name is opened: the reply is its tree, which is a new one if it had none
 pub record OpensTree (old : State) (name : Key) (reply : Reply) (new : State) (maps : List Maps) : Type 0 where
   pub free : must_refuse old (ToCall (OpenTree name)) ≡ None
   pub replies : reply ≡ told.Tree (record { database = old.name; name = name; number = number_opened (old.trees name) old })
   pub is : new ≡ state_opened (old.trees name) old name
-  pub added : maps ≡ maps_opened (old.trees name) new
+  pub added : maps ≡ maps_if (is_none (old.trees name)) new
 
 -- the state after a name was dropped, which had this tree
 abbrev pub state_dropped : Option NamedTree → State → Key → State
 state_dropped (Some t) s name = record s { trees = put_name s.trees name None }
 state_dropped None s name = s
-
--- the maps that this added: if there was a tree those without it, and else none
-abbrev pub maps_dropped : Option NamedTree → State → List Maps
-maps_dropped (Some t) new = maps_of new ∷ []
-maps_dropped None new = []
 
 -- A name is dropped, which is not the default tree's: the reply is whether it had a tree, and it has none from now on
 pub record DropsTreeOf (old : State) (name : Key) (reply : Reply) (new : State) (maps : List Maps) : Type 0 where
@@ -140,7 +128,7 @@ pub record DropsTreeOf (old : State) (name : Key) (reply : Reply) (new : State) 
   pub off : name ≢ default_name
   pub replies : reply ≡ Flag (is_some (old.trees name))
   pub is : new ≡ state_dropped (old.trees name) old name
-  pub added : maps ≡ maps_dropped (old.trees name) new
+  pub added : maps ≡ maps_if (is_some (old.trees name)) new
 
 -- An id is taken: it is one above the greatest that was given, and set aside
 pub record GeneratesId (old : State) (reply : Reply) (new : State) (maps : List Maps) : Type 0 where

@@ -1,7 +1,7 @@
 //! Collections, as an export gives them and an import takes them.
 ghost use Rattle.std.specs.Prelude.{◌≡◌, IfOk, IfErr};
 ghost use Rattle.sled_nodes.specs.declared.error.Error.TheVariants.{NoMemory};
-ghost use Rattle.sled_model.specs.Collections.{content_of, contents_of};
+ghost use Rattle.sled_model.specs.Collections.{Content, contents_of};
 
 use sled_nodes::{IVec, Result, clone_pair};
 
@@ -31,7 +31,7 @@ fn copied_pairs(pairs: &Vec<(IVec, IVec)>) -> Result<Vec<(IVec, IVec)>>
 
 // The same collection.
 fn copied_collection(collection: &Collection) -> Result<Collection>
-    ensures ok { IfOk result (λ copy. content_of copy ≡ content_of collection.now) }
+    ensures ok { IfOk result (λ copy. ◌≡◌ {A = Content} (copy.0.items, copy.1.items, copy.2.items) (collection.now.0.items, collection.now.1.items, collection.now.2.items)) }
     ensures err { IfErr result (λ e. e ≡ NoMemory) }
 {
     Ok((

@@ -2,7 +2,8 @@
 ghost use Rattle.std.specs.Prelude.{◌≡◌, IfOk, IfErr, Some};
 ghost use Rattle.std.specs.Option.{option_map, option_copied};
 ghost use Rattle.sled_nodes.specs.declared.error.Error.TheVariants.{NoMemory};
-ghost use Rattle.sled_model.specs.Answer.{ReadDecides, decision_of, decision_of_swap, decision_of_merge, decision_of_write, reply_of_swap};
+ghost use Rattle.sled_model.specs.Answer.{ReadDecides, decision_of, decision_of_swap, decision_of_write, reply_of_swap};
+ghost use Rattle.sled_model.specs.declared.call.Call.TheVariants.{Merge};
 
 use crate::{Call, CompareAndSwapError, MergeOperator, Reply};
 use sled_nodes::{Error, IVec, Result, clone_value};
@@ -156,7 +157,7 @@ fn merge<M: MergeOperator>(
     bytes: &IVec,
     operator: Option<&M>,
 ) -> Result<Decision>
-    ensures ok { IfOk result (λ decision. decision ≡ decision_of_merge (option_map (λ o. M.meant o.now) operator.entry) key.now bytes.now value) }
+    ensures ok { IfOk result (λ decision. decision ≡ decision_of (option_map (λ o. M.meant o.now) operator.entry) (Merge key.now bytes.now) value) }
     ensures err { IfErr result (λ e. e ≡ NoMemory) }
 {
     let Some(operator) = operator else {

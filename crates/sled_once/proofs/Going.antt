@@ -5,8 +5,7 @@ use Rattle.sled_disk.specs.Disk.{written, Torn, Shortened, Follows, NoMore, Only
 use Rattle.sled_disk.proofs.Calls.{torn_written, torn_lost, shortened_cut}
 use Rattle.sled_host.specs.Event.{Event, wrote, cut, synced}
 use Rattle.sled_host.specs.Outcomes.{seen_after_all, LeftAfterAll}
-use Rattle.sled_once.specs.Stages.{EndsAs, IsReadAsLeft, Stands}
-use Rattle.sled_once.specs.theory.Steps.{IsOver}
+use Rattle.sled_once.specs.Stages.{EndsAs, IsReadAsLeft, IsOver, Stands}
 use Rattle.sled_once.specs.declared.stage.End.{End}
 use Rattle.sled_once.specs.declared.stage.Stage.{Stage}
 use Rattle.sled_once.specs.declared.stage.Stage.TheVariants.{Through, Held, Opened, Torn as TornOff, Stopped}

@@ -65,6 +65,12 @@ abbrev pub is_through : Stage → Bool
 is_through (Through end synced) = true
 is_through _ = false
 
+-- a call was refused, and no more are made
+abbrev pub IsOver : Stage → Type 0
+IsOver (TornOff gate block) = Unit {0}
+IsOver Stopped = Unit {0}
+IsOver _ = ⊥
+
 -- no block is under way: the disk has what the calls made of it
 pub record IsThrough {D : Type 0} (seen : D → List ℕ) (may_leave : D → List ℕ → Type 0) (end : End) (synced : Bool) (disk : D) (calls : List Event) : Type 0 where
   pub same : seen disk ≡ seen_after_all calls

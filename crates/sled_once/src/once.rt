@@ -1,16 +1,15 @@
 //! A disk that brings a block and its gate to another one in one sync.
-ghost use Rattle.std.specs.Prelude.{◌≡◌, ◌≤◌, ◌+◌, ◌&&◌, ℕ, List, false, length, IfOk, IfErr, [], ◌∷◌};
+ghost use Rattle.std.specs.Prelude.{◌≡◌, ◌≤◌, ◌+◌, ◌&&◌, ℕ, List, false, length, take, drop, IfOk, IfErr, OnOk, [], ◌∷◌};
 ghost use Rattle.std.proofs.Common.{inl, refl};
-ghost use Rattle.sled_disk.specs.Disk.{Only, NoMore, HasCause, is_caused};
+ghost use Rattle.sled_disk.specs.Disk.{Only, NoMore, LeavesOnly, HasCause, is_caused};
 ghost use Rattle.sled_host.specs.Event.{opened};
-ghost use Rattle.sled_host.specs.Outcomes.{seen_after_all, MayLeave, LeftSince};
 ghost use Rattle.sled_once.specs.Once.{Once, LeavesAsRead};
 ghost use Rattle.sled_once.specs.Stages.{Stands, EndsAs, is_through};
 
 use crate::holding::end_found;
 use crate::stage::{End, Stage};
 use crate::steps::{bring, put, settle, shorten};
-use sled_disk::{Disk, DiskError, Result};
+use sled_disk::{Disk, DiskError, Result, law_only_now};
 use sled_host::{Call, Record};
 use sled_log::read_all;
 use std::alloc::Global;
@@ -60,8 +59,10 @@ fn found_on<D: Disk>(alloc: Global, disk: &mut D) -> Result<(End, Record)>
     ensures noted { IfOk result (λ found. found.1.events ≡ opened false (D.seen disk.new) ∷ []) }
     ensures seen { D.seen disk.new ≡ D.seen disk.old }
     ensures crash { NoMore (D.may_leave disk.old) (D.may_leave disk.new) }
+    ensures any_moment { LeavesOnly D.moment D.left_since disk.old disk.new (D.may_leave disk.old) }
     ensures cause { HasCause (D.faults disk.old) (D.faults disk.new) result }
 {
+    law_only_now(disk);
     if let Some(bytes) = disk.lent() {
         return Ok(found_in(alloc, bytes));
     }
@@ -88,9 +89,13 @@ impl<D: Disk> OneSync<D> {
         ensures durable { IfOk result (λ f. Only (bytes_of f) (outcomes_of f)) }
         ensures calm { IfOk result (λ f. D.faults f.disk + f.refused ≡ D.faults disk) }
         ensures stays { IfErr result (λ x. D.seen x.0 ≡ D.seen disk) }
+        // A crash, then or meanwhile, leaves nothing else than before.
+        ensures left { IfErr result (λ x. NoMore (D.may_leave disk) (D.may_leave x.0)) }
+        ensures any_moment { IfErr result (λ x. LeavesOnly D.moment D.left_since disk x.0 (D.may_leave disk)) }
         ensures cause { IfErr result (λ x. is_caused (D.faults disk) (D.faults x.0) x.1) }
     {
         let mut disk = disk;
+        law_only_now(&disk);
         if let Err(e) = disk.sync() {
             return Err((disk, e));
         }
@@ -144,17 +149,19 @@ impl<D: Disk> OneSync<D> {
 }
 
 impl<D: Disk> Disk for OneSync<D> {
+    ghost use Rattle.sled_disk.specs.Disk.{written, Torn, Shortened, Follows, Elapses};
+    ghost use Rattle.sled_once.specs.Once.{bytes_of, outcomes_of, moment_of, outcomes_since, faults_of, StaysStopped};
     ghost use Rattle.sled_host.specs.Laws.{counts_now as counts, only_now as only};
 
-    ghost seen = { λ f. seen_after_all f.calls };
+    ghost seen = { bytes_of };
 
-    ghost may_leave = { λ f. MayLeave f.calls };
+    ghost may_leave = { outcomes_of };
 
-    ghost moment = { λ f. length f.calls };
+    ghost moment = { moment_of };
 
-    ghost left_since = { λ f. LeftSince f.calls };
+    ghost left_since = { outcomes_since };
 
-    ghost faults = { λ f. D.faults f.disk + f.refused };
+    ghost faults = { faults_of D.faults };
 
     ghost lends = { λ f. is_through f.stage && D.lends f.disk };
 
@@ -164,7 +171,14 @@ impl<D: Disk> Disk for OneSync<D> {
 
     ghost may_stay = { λ f. inl refl };
 
-    fn len(&mut self) -> Result<usize> {
+    fn len(&mut self) -> Result<usize>
+        ensures bytes { IfOk result (λ len. len ≡ length (bytes_of self.old)) }
+        ensures seen { bytes_of self.new ≡ bytes_of self.old }
+        ensures crash { NoMore (outcomes_of self.old) (outcomes_of self.new) }
+        ensures time { Elapses (moment_of self.old) (moment_of self.new) (outcomes_since self.old) (outcomes_since self.new) (outcomes_of self.new) }
+        ensures cause { HasCause (faults_of D.faults self.old) (faults_of D.faults self.new) result }
+        ensures stopped { StaysStopped self.old self.new result }
+    {
         let stage = std::mem::replace(&mut self.stage, Stage::Stopped);
         match settle(&mut self.disk, stage, &mut self.refused) {
             Ok((end, is_synced)) => {
@@ -178,7 +192,15 @@ impl<D: Disk> Disk for OneSync<D> {
         }
     }
 
-    fn read(&mut self, alloc: Global, at: usize, count: usize) -> Result<Vec<u8>> {
+    fn read(&mut self, alloc: Global, at: usize, count: usize) -> Result<Vec<u8>>
+        requires { at + count ≤ length (bytes_of self.old) }
+        ensures bytes { IfOk result (λ bytes. bytes.items ≡ take count (drop at (bytes_of self.old))) }
+        ensures seen { bytes_of self.new ≡ bytes_of self.old }
+        ensures crash { NoMore (outcomes_of self.old) (outcomes_of self.new) }
+        ensures time { Elapses (moment_of self.old) (moment_of self.new) (outcomes_since self.old) (outcomes_since self.new) (outcomes_of self.new) }
+        ensures cause { HasCause (faults_of D.faults self.old) (faults_of D.faults self.new) result }
+        ensures stopped { StaysStopped self.old self.new result }
+    {
         let stage = std::mem::replace(&mut self.stage, Stage::Stopped);
         match settle(&mut self.disk, stage, &mut self.refused) {
             Ok((end, is_synced)) => {
@@ -199,7 +221,14 @@ impl<D: Disk> Disk for OneSync<D> {
         }
     }
 
-    fn write_at(&mut self, at: usize, bytes: &[u8]) -> Result<()> {
+    fn write_at(&mut self, at: usize, bytes: &[u8]) -> Result<()>
+        requires { at ≤ length (bytes_of self.old) }
+        ensures written { OnOk result (bytes_of self.new ≡ written at bytes.now (bytes_of self.old)) }
+        ensures crash { Follows (Torn at bytes.now) (outcomes_of self.old) (outcomes_of self.new) }
+        ensures time { Elapses (moment_of self.old) (moment_of self.new) (outcomes_since self.old) (outcomes_since self.new) (outcomes_of self.new) }
+        ensures cause { HasCause (faults_of D.faults self.old) (faults_of D.faults self.new) result }
+        ensures stopped { StaysStopped self.old self.new result }
+    {
         let stage = std::mem::replace(&mut self.stage, Stage::Stopped);
         let (next, answer) = put(
             self.alloc,
@@ -214,7 +243,14 @@ impl<D: Disk> Disk for OneSync<D> {
         answer
     }
 
-    fn cut(&mut self, len: usize) -> Result<()> {
+    fn cut(&mut self, len: usize) -> Result<()>
+        requires { len ≤ length (bytes_of self.old) }
+        ensures cut { OnOk result (bytes_of self.new ≡ take len (bytes_of self.old)) }
+        ensures crash { Follows (Shortened len) (outcomes_of self.old) (outcomes_of self.new) }
+        ensures time { Elapses (moment_of self.old) (moment_of self.new) (outcomes_since self.old) (outcomes_since self.new) (outcomes_of self.new) }
+        ensures cause { HasCause (faults_of D.faults self.old) (faults_of D.faults self.new) result }
+        ensures stopped { StaysStopped self.old self.new result }
+    {
         let stage = std::mem::replace(&mut self.stage, Stage::Stopped);
         let (next, answer) = shorten(&mut self.disk, stage, &mut self.refused, len);
         self.stage = next;
@@ -222,7 +258,14 @@ impl<D: Disk> Disk for OneSync<D> {
         answer
     }
 
-    fn sync(&mut self) -> Result<()> {
+    fn sync(&mut self) -> Result<()>
+        ensures durable { OnOk result (Only (bytes_of self.old) (outcomes_of self.new)) }
+        ensures seen { bytes_of self.new ≡ bytes_of self.old }
+        ensures crash { NoMore (outcomes_of self.old) (outcomes_of self.new) }
+        ensures time { Elapses (moment_of self.old) (moment_of self.new) (outcomes_since self.old) (outcomes_since self.new) (outcomes_of self.new) }
+        ensures cause { HasCause (faults_of D.faults self.old) (faults_of D.faults self.new) result }
+        ensures stopped { StaysStopped self.old self.new result }
+    {
         let stage = std::mem::replace(&mut self.stage, Stage::Stopped);
         let (next, answer) = bring(&mut self.disk, stage, &mut self.refused);
         self.stage = next;

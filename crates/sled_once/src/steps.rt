@@ -1,10 +1,11 @@
 //! The calls of a disk that holds blocks back, and what the disk behind it has after each.
-ghost use Rattle.std.specs.Prelude.{◌≡◌, ◌≤◌, ◌+◌, ◌<◌, ◌∷◌, [], ℕ, Bool, true, List, length, is_ok, IfOk, IfErr, IfSome, OnOk};
+ghost use Rattle.std.specs.Prelude.{◌≡◌, ◌≤◌, ◌+◌, ◌<◌, ◌∷◌, [], ℕ, Bool, true, false, List, length, is_ok, IfOk, IfErr, IfSome, OnOk};
 ghost use Rattle.sled_disk.specs.Disk.{HasCause, is_caused};
 ghost use Rattle.sled_log.specs.Log.{opened};
 ghost use Rattle.sled_host.specs.Event.{wrote, cut, synced as was_synced};
-ghost use Rattle.sled_once.specs.Stages.{EndsIn, EndsAs};
-ghost use Rattle.sled_once.specs.theory.Steps.{IsOver, IsStanding, HasPlace, Stays, GoesOn};
+ghost use Rattle.sled_host.specs.Stops.{told_as};
+ghost use Rattle.sled_once.specs.Stages.{EndsIn, EndsAs, IsOver};
+ghost use Rattle.sled_once.specs.theory.Steps.{IsStanding, HasPlace, Stays, GoesOn};
 ghost use Rattle.sled_once.specs.declared.stage.End.TheVariants.{Closed};
 ghost use Rattle.sled_once.specs.declared.stage.Stage.TheVariants.{Through, Held, Opened};
 
@@ -17,7 +18,8 @@ const OPENED: u8 = 255;
 
 /// A refusal, while refusals can be counted.
 pub fn fault(refused: &mut u64) -> DiskError
-    ensures { is_caused refused.old refused.new result }
+    ensures counted { is_caused refused.old refused.new result }
+    ensures told { result ≡ told_as refused.old false }
 {
     if *refused == u64::MAX {
         return DiskError::NoMemory;
@@ -96,6 +98,7 @@ pub fn settle<D: Disk>(
     ensures calm { OnOk result (D.faults disk.new + refused.new ≡ D.faults disk.old + refused.old) }
     ensures err { IfErr result (λ x. Stays D.seen D.may_leave stage disk.old x.0 disk.new) }
     ensures over { IfErr result (λ x. IsOver x.0) }
+    ensures stays { IsOver stage → (result ≡ Err (stage, told_as refused.old false)) × (disk.new ≡ disk.old) }
     ensures cause { IfErr result (λ x. is_caused (D.faults disk.old + refused.old) (D.faults disk.new + refused.new) x.1) }
 {
     match stage {
@@ -209,6 +212,7 @@ fn write_settled<D: Disk>(
     bytes: &[u8],
 ) -> (Stage, Result<()>)
     requires { HasPlace D.seen D.may_leave at stage disk.old }
+    ensures over { IsOver stage → (result ≡ (stage, Err (told_as refused.old false))) × (disk.new ≡ disk.old) }
     ensures goes_on { GoesOn D.seen D.may_leave (wrote at bytes.now (is_ok result.1)) stage disk.old result.0 disk.new }
     ensures cause { HasCause (D.faults disk.old + refused.old) (D.faults disk.new + refused.new) result.1 }
 {
@@ -228,6 +232,7 @@ pub fn put<D: Disk>(
     bytes: &[u8],
 ) -> (Stage, Result<()>)
     requires { HasPlace D.seen D.may_leave at stage disk.old }
+    ensures over { IsOver stage → (result ≡ (stage, Err (told_as refused.old false))) × (disk.new ≡ disk.old) }
     ensures goes_on { GoesOn D.seen D.may_leave (wrote at bytes.now (is_ok result.1)) stage disk.old result.0 disk.new }
     ensures cause { HasCause (D.faults disk.old + refused.old) (D.faults disk.new + refused.new) result.1 }
 {
@@ -245,6 +250,7 @@ pub fn shorten<D: Disk>(
     len: usize,
 ) -> (Stage, Result<()>)
     requires { HasPlace D.seen D.may_leave len stage disk.old }
+    ensures over { IsOver stage → (result ≡ (stage, Err (told_as refused.old false))) × (disk.new ≡ disk.old) }
     ensures goes_on { GoesOn D.seen D.may_leave (cut len (is_ok result.1)) stage disk.old result.0 disk.new }
     ensures cause { HasCause (D.faults disk.old + refused.old) (D.faults disk.new + refused.new) result.1 }
 {
@@ -272,6 +278,7 @@ fn sync_on<D: Disk>(disk: &mut D, end: End, is_synced: bool) -> (Stage, Result<(
 /// Brings all to the disk, but a block that is held back: for that there is a sync later.
 pub fn bring<D: Disk>(disk: &mut D, stage: Stage, refused: &mut u64) -> (Stage, Result<()>)
     requires { IsStanding D.seen D.may_leave stage disk.old }
+    ensures over { IsOver stage → (result ≡ (stage, Err (told_as refused.old false))) × (disk.new ≡ disk.old) }
     ensures goes_on { GoesOn D.seen D.may_leave (was_synced (is_ok result.1)) stage disk.old result.0 disk.new }
     ensures cause { HasCause (D.faults disk.old + refused.old) (D.faults disk.new + refused.new) result.1 }
 {

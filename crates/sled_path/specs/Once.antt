@@ -1,16 +1,11 @@
 -- The outcome of opening a database in a folder whose blocks are brought to the disk in one sync.
 use Rattle.std.specs.Prelude.{◌≡◌, ◌⊎◌, Bool, false}
 use Rattle.sled_nodes.specs.Order.{Key}
-use Rattle.sled_nodes.specs.declared.error.Error.{Error}
-use Rattle.sled_nodes.specs.declared.error.Error.TheVariants as error
-use Rattle.sled_store.specs.Store.{Store, now}
+use Rattle.sled_store.specs.Store.{Store}
 use Rattle.sled_disk.specs.Disk.{Only}
 use Rattle.sled_files.specs.Files.{Files}
-use Rattle.sled_files.specs.Stored.{Stored, stored_as, asked_of}
-use Rattle.sled_files.specs.Laws.{GoesOn}
-use Rattle.sled_files.specs.Opening.{OpensTo, is_why_unopened, is_fault}
-use Rattle.sled_files.specs.declared.found.OpenError as file
-use Rattle.sled_host.specs.Host.{bytes_of, outcomes_of, IsHonest}
+use Rattle.sled_files.specs.Stored.{Stored}
+use Rattle.sled_host.specs.Host.{bytes_of, outcomes_of}
 use Rattle.sled_host.specs.Pair.{OpensPair}
 use Rattle.sled_host.specs.declared.host.HostFile.{HostFile}
 use Rattle.sled_host.specs.declared.pair.Opening.{Opening}
@@ -19,11 +14,8 @@ use Rattle.sled_once.specs.Once as once
 use Rattle.sled_once.specs.Stages.{IsTold}
 use Rattle.files_once.specs.Mended.{IsMended}
 use Rattle.sled.specs.Values.{DbValue}
-use Rattle.sled.specs.Opens.{Opens}
-use Rattle.sled.specs.Checked.{RefusesChecked, IsFit}
-use Rattle.sled_path.specs.Path.{is_of_system}
+use Rattle.sled_path.specs.Path.{StoreOver, OpensOver, WereHonest, GoesOnFrom, is_why_closed_over}
 use Rattle.sled_path.specs.declared.error.OpenError.{OpenError}
-use Rattle.sled_path.specs.declared.error.OpenError.TheVariants.{NotAStore, OtherFormat, Decayed, Locked, Io, Disk, Database}
 
 -- Two files of an opening, mended. What was made of them is on the disk
 pub record AreMended (opening : Opening) (is_locked : Bool) (first second : HostFile) : Type 0 where
@@ -48,57 +40,25 @@ pub record AreWhole (opening : Opening) (is_locked : Bool) (first second : HostF
   pub again : ((first ≡ first_left) × (second ≡ second_left) × (is_locked ≡ was_locked)) ⊎ OpensPair (again_of opening) first second is_locked
 
 -- the store that they stand for, or a new one if both are blank
-pub record StoreOnceIn (opening : Opening) (is_locked : Bool) (files : Files (Once HostFile)) (store : Store) : Type 0 where
-  pub first : HostFile
-  pub second : HostFile
-  pub whole : AreWhole opening is_locked first second
-  pub opens : OpensTo once.bytes_of once.outcomes_of (bytes_of first) (bytes_of second) files store
+abbrev pub StoreOnceIn : Opening → Bool → Files (Once HostFile) → Store → Type 0
+StoreOnceIn opening is_locked files store = StoreOver once.bytes_of once.outcomes_of (AreWhole opening is_locked) files store
 
--- a database of this name was opened over it. Its pages are those of a database
-pub record OpensOnceIn {M : Type 0} (opening : Opening) (is_locked : Bool) (name : Key) (db : DbValue (Stored (Once HostFile)) M) : Type 0 where
-  pub files : Files (Once HostFile)
-  pub store : Store
-  pub is : StoreOnceIn opening is_locked files store
-  pub fit : IsFit (now store)
-  pub opens : Opens stored_as store name db
+-- a database was opened of them
+abbrev pub OpensOnceIn : {M : Type 0} → Opening → Bool → Key → DbValue (Stored (Once HostFile)) M → Type 0
+OpensOnceIn opening is_locked name db = OpensOver once.bytes_of once.outcomes_of (AreWhole opening is_locked) name db
 
--- two files are refused for this once they were mended, the first thing that is wrong with them then
-pub record AreRefusedOnce (opening : Opening) (e : file.OpenError) : Type 0 where
-  pub first : HostFile
-  pub second : HostFile
-  pub is_locked : Bool
-  pub whole : AreWhole opening is_locked first second
-  pub why : is_why_unopened e (bytes_of first) (bytes_of second)
-
--- the store that was opened is refused by a database for this
-pub record IsUnfitOnce (opening : Opening) (e : Error) : Type 0 where
-  pub files : Files (Once HostFile)
-  pub store : Store
-  pub left : Store
-  pub is_locked : Bool
-  pub is : StoreOnceIn opening is_locked files store
-  pub why : RefusesChecked store e left
-
--- Why no database was opened: as with two syncs, of the files once they were mended. `Disk` may also be of a call that mends them
+-- why none was. `Disk` may also be of a call that mends them
 abbrev pub is_why_closed_once : Opening → OpenError → Type 0
-is_why_closed_once opening NotAStore = AreRefusedOnce opening file.TheVariants.NotAStore
-is_why_closed_once opening (OtherFormat other) = AreRefusedOnce opening (file.TheVariants.OtherFormat other)
-is_why_closed_once opening (Decayed place) = AreRefusedOnce opening (file.TheVariants.Decayed place)
-is_why_closed_once opening Locked = Unit {0}
-is_why_closed_once opening (Io e) = is_of_system opening e
-is_why_closed_once opening (Disk e) = is_fault e
-is_why_closed_once opening (Database e) = (e ≡ error.NoMemory) ⊎ IsUnfitOnce opening e
+is_why_closed_once opening e = is_why_closed_over {D = Once HostFile} once.bytes_of once.outcomes_of (AreWhole opening) opening e
 
 -- The disks were honest from a store's last call to the opening of these files and to their last one, and the digest told what was left of the
 -- blocks under way
-pub record WereHonest {opening : Opening} {is_locked : Bool} {first second : HostFile} (old : Stored (Once HostFile)) (whole : AreWhole opening is_locked first second) : Type 0 where
-  pub first_found : IsHonest old.files.first.disk (bytes_of whole.mended.first_found)
-  pub second_found : IsHonest old.files.second.disk (bytes_of whole.mended.second_found)
+pub record WereHonestOnce {opening : Opening} {is_locked : Bool} {first second : HostFile} (old : Stored (Once HostFile)) (whole : AreWhole opening is_locked first second) : Type 0 where
+  pub found : WereHonest old.files.first.disk old.files.second.disk whole.mended.first_found whole.mended.second_found
   pub first_told : IsTold old.files.first.stage (bytes_of whole.mended.first_found)
   pub second_told : IsTold old.files.second.stage (bytes_of whole.mended.second_found)
-  pub first_again : IsHonest whole.first_left (bytes_of first)
-  pub second_again : IsHonest whole.second_left (bytes_of second)
+  pub again : WereHonest whole.first_left whole.second_left first second
 
 -- then the store that is opened in one sync goes on from it
 abbrev pub GoesOnOnce : Stored (Once HostFile) → Type 0
-GoesOnOnce old = (opening : Opening) (is_locked : Bool) (files : Files (Once HostFile)) (found : Store) (is : StoreOnceIn opening is_locked files found) → WereHonest old is.whole → GoesOn (asked_of old.asked) old.limits (stored_as old) found
+GoesOnOnce old = (opening : Opening) (is_locked : Bool) (files : Files (Once HostFile)) (found : Store) (is : StoreOnceIn opening is_locked files found) → WereHonestOnce old is.are → GoesOnFrom old found

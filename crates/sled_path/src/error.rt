@@ -16,9 +16,9 @@ use std::fmt::{self, Display, Formatter, Write};
 /// Why a database is not opened in a folder.
 #[derive(Debug, Drop)]
 pub enum OpenError {
-    /// The files are none of a store.
+    /// A file is one of something else.
     NotAStore,
-    /// The files are of a store in this format, which is another.
+    /// A file is one of a store in this format, which is another.
     OtherFormat(u32),
     /// A file was changed since it was written. The first fault that was met is at this place of it, a number of bytes.
     Decayed(u64),
@@ -71,16 +71,16 @@ pub(crate) fn of_disk(e: DiskError) -> OpenError
 impl Display for OpenError {
     fn fmt<W: Write>(&self, f: &mut Formatter<W>) -> fmt::Result {
         match self {
-            OpenError::NotAStore => f.write_str("the files are none of a store"),
-            OpenError::OtherFormat(format) => {
-                write!(f, "the files are of a store in format {format}")
-            }
+            OpenError::NotAStore => f.write_str("a file is none of a store"),
+            OpenError::OtherFormat(format) => write!(f, "a file is of a store in format {format}"),
             OpenError::Decayed(place) => {
                 write!(f, "a file has decayed, as is found at its byte {place}")
             }
             OpenError::Locked => f.write_str("the database is open elsewhere"),
             OpenError::Io(e) => write!(f, "{e}"),
-            OpenError::Disk(_) => f.write_str("a call of a file was refused"),
+            OpenError::Disk(DiskError::NoMemory) => f.write_str("no memory"),
+            OpenError::Disk(DiskError::Full) => f.write_str("the disk has no room"),
+            OpenError::Disk(DiskError::Failed) => f.write_str("the disk failed"),
             OpenError::Database(e) => write!(f, "{e}"),
         }
     }

@@ -1,16 +1,20 @@
 //! A database is opened in a folder.
 ghost use Rattle.std.specs.Prelude.{◌≡◌, true, IfOk, IfErr};
-ghost use Rattle.sled_path.specs.Path.{OpensIn, is_why_closed, usual};
+ghost use Rattle.sled_path.specs.Path.{OpensIn, GoesOnIn, is_why_closed, usual};
 
 use crate::error::{OpenError, of_files, of_host};
 use sled::Db;
-use sled_files::FilePages;
+use sled_files::{FilePages, law_lasts};
 use sled_host::{HostFile, Opening, Pair, open_pair};
 use sled_model::MergeOperator;
 
 /// Opens the database in the folder of this path, under this name: the one that was left there by a drop or a crash, or a new one if there
 /// is none. The folder is made in one that is there. No other process can open it as long as the database lives; if the file system has no
 /// locks it is refused, and `open_with` opens it all the same. Its merge operators are of the type M, as after `Db::with_operators`.
+///
+/// Refused with `Locked` or `Io` by the operating system; with `NotAStore`, `OtherFormat` or `Decayed` if the files are none of a store,
+/// or were changed since; with `Disk` if the disk has no room or failed; and with `Database` for want of memory, or if the pages are none
+/// of a database.
 ///
 /// ```
 /// match open::<Adds>(rt, "people.db", b"people") {
@@ -77,4 +81,19 @@ pub fn open_with<M: MergeOperator>(
             Err(OpenError::Database(e))
         }
     }
+}
+
+/// Does nothing. It says what `open` and `open_with` find after a crash or a drop: if the disks were honest, the store that is opened goes
+/// on from this one.
+///
+/// ```
+/// if let Ok(db) = open::<Adds>(rt, "people.db", b"people") {
+///     law_goes_on(db.pages()); // From here on a proof knows what is found when it is opened again.
+///     drop(db);
+/// }
+/// ```
+pub fn law_goes_on(pages: &FilePages<HostFile>)
+    ensures { GoesOnIn pages.now }
+{
+    law_lasts(pages);
 }

@@ -3,7 +3,8 @@ use Rattle.std.proofs.Common.{◌≡◌, ℕ, zero, suc, ◌+◌, ◌-◌, ◌�
 use Rattle.std.proofs.lemmas.Bool.{leb-true, leb-false}
 use Rattle.std.proofs.lemmas.List.{take_more}
 use Rattle.sled_model.specs.declared.event.Event.{Event}
-use Rattle.sled_model.specs.Backlog.{Backlog, queue_limit, most_missed, comes, come_all}
+use Rattle.sled_model.specs.Backlog.{Backlog, queue_limit, comes, come_all}
+use Rattle.sled_model.specs.Ids.{greatest_of_all}
 
 pub length_take : (xs : List Event) (i : ℕ) → i ≤ length xs → length (take i xs) ≡ i
 length_take xs zero l = refl
@@ -53,20 +54,20 @@ admits (x ∷ ys) i missed l r =
     let e : Event = get_or xs i x in
     let low : length (take i xs) < queue_limit = (let n = length_take xs i (omega (arith, l)) in omega (arith, n, r)) in
     let came : comes e (held_to missed i xs) ≡ held_to missed (i + 1) xs =
-    ap (λ b. cond b (record { missed = min (missed + 1) most_missed; events = drop 1 (take i xs) ++ e ∷ [] }) (record { missed = missed; events = take i xs ++ e ∷ [] })) (has_room (length (take i xs)) low)
+    ap (λ b. cond b (record { missed = min (missed + 1) greatest_of_all; events = drop 1 (take i xs) ++ e ∷ [] }) (record { missed = missed; events = take i xs ++ e ∷ [] })) (has_room (length (take i xs)) low)
     ∙ ap (λ l. record { missed = missed; events = l }) (sym (take_more xs i x l)) in
     sym (ap (λ z. come_all z (held_to missed i xs)) (next_first xs i x l) ∙ ap (come_all (drop (i + 1) xs)) came)
 
 -- one comes and the oldest goes
-pub pushes : (xs : List Event) (i missed count : ℕ) → i < length xs → queue_limit ≤ i → count ≡ min (missed + 1) most_missed → come_all (drop i (drop 1 xs)) (held_to count i (drop 1 xs)) ≡ come_all (drop i xs) (held_to missed i xs)
+pub pushes : (xs : List Event) (i missed count : ℕ) → i < length xs → queue_limit ≤ i → count ≡ min (missed + 1) greatest_of_all → come_all (drop i (drop 1 xs)) (held_to count i (drop 1 xs)) ≡ come_all (drop i xs) (held_to missed i xs)
 pushes [] i missed count l r c = absurd (omega (arith, l))
 pushes (x ∷ ys) i missed count l r c =
     let xs : List Event = x ∷ ys in
     let e : Event = get_or xs i x in
     let high : queue_limit ≤ length (take i xs) = (let n = length_take xs i (omega (arith, l)) in omega (arith, n, r)) in
     let came : comes e (held_to missed i xs) ≡ held_to count i (drop 1 xs) =
-    ap (λ b. cond b (record { missed = min (missed + 1) most_missed; events = drop 1 (take i xs) ++ e ∷ [] }) (record { missed = missed; events = take i xs ++ e ∷ [] })) (is_full (length (take i xs)) high)
-    ∙ ap (λ l. record { missed = min (missed + 1) most_missed; events = l }) (sym (shifted xs i x l (omega (arith, r))))
+    ap (λ b. cond b (record { missed = min (missed + 1) greatest_of_all; events = drop 1 (take i xs) ++ e ∷ [] }) (record { missed = missed; events = take i xs ++ e ∷ [] })) (is_full (length (take i xs)) high)
+    ∙ ap (λ l. record { missed = min (missed + 1) greatest_of_all; events = l }) (sym (shifted xs i x l (omega (arith, r))))
     ∙ ap (λ k. record { missed = k; events = take i (drop 1 xs) }) (sym c) in
     ap (λ z. come_all z (held_to count i (drop 1 xs))) (dropped xs i) ∙ sym (ap (λ z. come_all z (held_to missed i xs)) (next_first xs i x l) ∙ ap (come_all (drop (i + 1) xs)) came)
 
@@ -92,5 +93,5 @@ admitted xs i missed was l none is = ap (λ es. record { missed = missed; events
 pub all_came : (xs : List Event) (i : ℕ) → i ≤ length xs → length (drop i xs) ≡ 0 → i ≡ length xs
 all_came xs i l none = let d = length_drop xs i in omega (arith, d, none, l)
 
-pub pushes_to : (xs ys : List Event) (i missed count : ℕ) → i < length xs → queue_limit ≤ i → count ≡ min (missed + 1) most_missed → ys ≡ drop 1 xs → come_all (drop i ys) (held_to count i ys) ≡ come_all (drop i xs) (held_to missed i xs)
+pub pushes_to : (xs ys : List Event) (i missed count : ℕ) → i < length xs → queue_limit ≤ i → count ≡ min (missed + 1) greatest_of_all → ys ≡ drop 1 xs → come_all (drop i ys) (held_to count i ys) ≡ come_all (drop i xs) (held_to missed i xs)
 pushes_to xs ys i missed count l r c is = ap (λ z. come_all (drop i z) (held_to count i z)) is ∙ pushes xs i missed count l r c

@@ -7,10 +7,10 @@ use Rattle.sled_nodes.specs.declared.error.Error.{Error}
 use Rattle.sled_model.specs.Maps.{Maps}
 use Rattle.sled_model.specs.State.{State, NamedTree}
 use Rattle.sled_model.specs.Collections.{Content}
-use Rattle.sled_model.specs.Imports.{Part, OpensName, Puts, does_part_as, DoesParts, NoPart, OnePart, refuses_import_as, Stop, StopsAtPart}
-use Rattle.sled_model.specs.Refusal.{must_refuse_of}
+use Rattle.sled_model.specs.Imports.{Part, OpensName, Puts, does_part_as, DoesParts, NoPart, OnePart, Stop, StopsAtPart}
+use Rattle.sled_model.specs.Refusal.{must_refuse_of, cause_of_import, may_refuse_as}
 use Rattle.sled_model.specs.Whole.{after_pop, RemovesLeast, RemovesNone, RemovesOne, state_opened, state_dropped}
-use Rattle.sled_model.specs.Groups.{Write, after_write_on, after_write, after_writes, writes_of, Closes}
+use Rattle.sled_model.specs.Groups.{Write, after_write_on, after_writes, writes_of, Closes}
 use Rattle.sled_model.specs.Transition.{Configuration, transition_as}
 use Rattle.sled_model.specs.declared.call.Whole.{Whole}
 use Rattle.sled_model.specs.declared.call.Whole.TheVariants.{Flush, PopMin, PopMax, Clear, Group, OpenTree, DropTree, GenerateId, Import, Watch, Next, Unsubscribe}
@@ -19,6 +19,7 @@ use Rattle.sled_model.specs.declared.outcome.Step.{Step}
 use Rattle.sled_model.specs.declared.outcome.Step.TheVariants as step
 use Rattle.sled_model.specs.declared.outcome.Outcome.{Outcome}
 use Rattle.sled_model.specs.declared.outcome.Outcome.TheVariants as outcome
+use Rattle.sled_model.proofs.Shapes.{after_write}
 
 -- the database is open after it exactly where it was before
 abbrev Stays : State → State → Type 0
@@ -52,7 +53,7 @@ parts_done NoPart = refl
 parts_done (OnePart {a = a} {m = m} {part = part} {added = added} one more) = parts_done more ∙ part_done a part m added one.is
 
 stopped : (old : State) (a b : Store) (all : List Content) (e : Error) (new : State) (maps : List Maps)
-    → (refuses_import_as (must_refuse_of old []) all e × (new ≡ old) × (maps ≡ [])) ⊎ ((stop : Stop) × StopsAtPart old a b all stop e new maps) → Stays old new
+    → (may_refuse_as (must_refuse_of old []) (cause_of_import all) e × (new ≡ old) × (maps ≡ [])) ⊎ ((stop : Stop) × StopsAtPart old a b all stop e new maps) → Stays old new
 stopped old a b all e new maps (inl none) = ap (λ (s : State). s.is_open) none.1
 stopped old a b all e new maps (inr s) = parts_done s.1.does
 
@@ -84,7 +85,7 @@ whole_done a GenerateId (outcome.Decided reply) b maps t h = ap (λ (s : State).
 whole_done a (Import collections) (outcome.Decided reply) b maps t h = parts_done t.1.does
 whole_done a (Watch tree prefix) (outcome.Decided reply) b maps t h = ap (λ (s : State). s.is_open) t.2.is
 whole_done a (Next subscriber) (outcome.Decided reply) b maps t h = ap (λ (s : State). s.is_open) t.2.is
-whole_done a (Unsubscribe subscriber) (outcome.Decided reply) b maps t h = ap (λ (s : State). s.is_open) t.1.is
+whole_done a (Unsubscribe subscriber) (outcome.Decided reply) b maps t h = ap (λ (s : State). s.is_open) t.1
 whole_done a Flush (outcome.Refused e) b maps t h = same a.state b.state t.1
 whole_done a (PopMin tree) (outcome.Refused e) b maps t h = same a.state b.state t.1
 whole_done a (PopMax tree) (outcome.Refused e) b maps t h = same a.state b.state t.1
@@ -112,14 +113,14 @@ step_done a (step.Begin tree call) (outcome.Yielded key value) b maps t h = absu
 step_done a (step.Begin tree call) (outcome.Decided reply) b maps t h = absurd t
 step_done a (step.Begin tree call) outcome.Abandoned b maps t h = absurd t
 step_done a (step.Begin tree call) outcome.NoSuchSlot b maps t h = absurd t
-step_done a (step.Step slot) outcome.NoSuchSlot b maps t h = same a.state b.state t.0.is
+step_done a (step.Step slot) outcome.NoSuchSlot b maps t h = same a.state b.state t.0.1
 step_done a (step.Step slot) outcome.Moved b maps t h = ap (λ (s : State). s.is_open) t.0.is
 step_done a (step.Step slot) (outcome.Yielded key value) b maps t h = ap (λ (s : State). s.is_open) t.0.is
 step_done a (step.Step slot) (outcome.Decided reply) b maps t h = ap (λ (s : State). s.is_open) t.0.is
 step_done a (step.Step slot) (outcome.Refused e) b maps t h = ap (λ (s : State). s.is_open) t.0.is
 step_done a (step.Step slot) (outcome.Begun i) b maps t h = absurd t
 step_done a (step.Step slot) outcome.Abandoned b maps t h = absurd t
-step_done a (step.Abandon slot) outcome.NoSuchSlot b maps t h = same a.state b.state t.0.is
+step_done a (step.Abandon slot) outcome.NoSuchSlot b maps t h = same a.state b.state t.0.1
 step_done a (step.Abandon slot) outcome.Abandoned b maps t h = ap (λ (s : State). s.is_open) t.0.is
 step_done a (step.Abandon slot) (outcome.Begun i) b maps t h = absurd t
 step_done a (step.Abandon slot) outcome.Moved b maps t h = absurd t

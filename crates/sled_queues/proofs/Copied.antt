@@ -10,13 +10,15 @@ use Rattle.sled_nodes.specs.Order.{Key, key_cmp}
 use Rattle.sled_model.specs.Maps.{Map}
 use Rattle.sled_model.specs.Event.{key_of_event}
 use Rattle.sled_model.specs.State.{Queue, matches}
-use Rattle.sled_model.specs.Backlog.{Backlog, queue_limit, most_missed, comes, next_of, after_next}
-use Rattle.sled_model.specs.Queues.{backlog_in, waiting_in, next_in, without_next}
+use Rattle.sled_model.specs.Backlog.{Backlog, queue_limit, comes, next_of, after_next}
+use Rattle.sled_model.specs.Queues.{backlog_in, waiting_in, without_next}
+use Rattle.sled_model.specs.Ids.{greatest_of_all}
 use Rattle.sled_model.specs.declared.decision.Effect.TheVariants as effect
 use Rattle.sled_model.specs.declared.event.Event.{Event}
 use Rattle.sled_model.specs.declared.event.Event.TheVariants.{Insert, Remove}
 use Rattle.sled_model.specs.declared.event.Next.{Next}
 use Rattle.sled_model.specs.declared.event.Next.TheVariants as told
+use Rattle.sled_model.proofs.Shapes.{next_in}
 use Rattle.sled_queues.specs.Events.{Turn, Comes, Watches, Takes, Ends, after_turn, after_turns, taken_at, taken_by, brought_at, brought, Stays}
 use Rattle.sled_queues.specs.Copies.{after_event, after_events, ChangesLaw, is_under, events_under, IsCopy, CopyLaw, came_to, events_told, TellsEvents, FollowsLaw}
 use Rattle.sled_queues.proofs.Hearing.{turned, eqb_flip, after_one, brought_all, turned_tree, turned_prefix}
@@ -129,8 +131,8 @@ record Passes (ns : List Next) (came : List Event) (a b : Backlog) : Type 0 wher
 come_passes : (e : Event) (a : Backlog) → (comes e a).missed ≡ 0 → Passes [] (e ∷ []) a (comes e a)
 come_passes e a h = go (nat_le queue_limit (length a.events)) h
   where
-    go : (b : Bool) → (cond b (record { missed = min (a.missed + 1) most_missed; events = drop 1 a.events ++ e ∷ [] }) (record a { events = a.events ++ e ∷ [] })).missed ≡ 0
-        → Passes [] (e ∷ []) a (cond b (record { missed = min (a.missed + 1) most_missed; events = drop 1 a.events ++ e ∷ [] }) (record a { events = a.events ++ e ∷ [] }))
+    go : (b : Bool) → (cond b (record { missed = min (a.missed + 1) greatest_of_all; events = drop 1 a.events ++ e ∷ [] }) (record a { events = a.events ++ e ∷ [] })).missed ≡ 0
+        → Passes [] (e ∷ []) a (cond b (record { missed = min (a.missed + 1) greatest_of_all; events = drop 1 a.events ++ e ∷ [] }) (record a { events = a.events ++ e ∷ [] }))
     go true h = absurd (omega (arith, h))
     go false h = record { none = h; events = refl }
 

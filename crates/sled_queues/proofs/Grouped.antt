@@ -8,14 +8,16 @@ use Rattle.sled_nodes.specs.Order.{Key}
 use Rattle.sled_store.specs.Update.{put_at}
 use Rattle.sled_model.specs.Backlog.{Backlog, no_backlog, comes, come_all}
 use Rattle.sled_model.specs.State.{State, NamedTree, Queue, matches, queues_after}
-use Rattle.sled_model.specs.Groups.{Write, answer_of_write, after_write_on, after_write, after_writes, events_of_write, events_of_writes}
+use Rattle.sled_model.specs.Groups.{Write, after_write_on, after_writes, events_of_write, events_of_writes}
 use Rattle.sled_model.specs.declared.event.Event.{Event}
+use Rattle.sled_model.proofs.Shapes.{after_write, answer_of_write}
 use Rattle.sled_queues.specs.Values.{WaitingValue, Waitings}
 use Rattle.sled_queues.specs.Events.{after_turns}
 use Rattle.sled_queues.specs.Turns.{turns_of_events}
-use Rattle.sled_queues.specs.Queues.{queue_of, queues_of, IsCalm, prepared_in, prepared, committed_in, committed, cancelled_in, taken_in}
+use Rattle.sled_queues.specs.Queues.{queues_of, IsCalm, prepared_in, prepared, committed_in, committed, cancelled_in, taken_in}
 use Rattle.sled_queues.specs.Laws.{CalmLaw, prepared_all, delivered_all, DeliversGroupLaw}
 use Rattle.sled_queues.proofs.Lawful.{on_option, map_twice, map_same, calm_from}
+use Rattle.sled_queues.proofs.Shapes.{queue_of}
 
 -- what some events make of one queue
 abbrev gain : List (ℕ × Event) → WaitingValue → WaitingValue

@@ -4,12 +4,14 @@ use mathlib.Core.Bool.{true≢false}
 use Rattle.std.specs.Option.{option_to_list}
 use Rattle.std.proofs.lemmas.Bool.{eq-eqb, ne_eqb, eqb-true, leb-true}
 use Rattle.std.proofs.lemmas.List.{length-append}
-use Rattle.sled_model.specs.Backlog.{Backlog, queue_limit, most_missed, no_backlog, comes, next_of, after_next}
+use Rattle.sled_model.specs.Backlog.{Backlog, queue_limit, no_backlog, comes, next_of, after_next}
 use Rattle.sled_model.specs.State.{Queue, matches}
-use Rattle.sled_model.specs.Queues.{backlog_in, next_in, without_next}
+use Rattle.sled_model.specs.Queues.{backlog_in, without_next}
+use Rattle.sled_model.specs.Ids.{greatest_of_all}
 use Rattle.sled_model.specs.declared.event.Event.{Event}
 use Rattle.sled_model.specs.declared.event.Next.{Next}
 use Rattle.sled_model.specs.declared.event.Next.TheVariants as told
+use Rattle.sled_model.proofs.Shapes.{next_in}
 use Rattle.sled_queues.specs.Events.{Turn, Comes, Watches, Takes, Ends, after_turn, after_turns, taken_at, taken_by, brought_at, brought, begins_or_ends, Stays}
 use Rattle.sled_queues.specs.Hears.{Accounts, Holds, Hears, HearsLaw, HearsAllLaw, CountsLaw}
 
@@ -91,16 +93,16 @@ drop_more (suc n) [] = let e : suc n + 1 ≡ suc (n + 1) = omega arith in sym (a
 drop_more (suc n) (x ∷ xs) = let e : suc n + 1 ≡ suc (n + 1) = omega arith in drop_more n xs ∙ sym (ap (λ k. drop k (x ∷ xs)) e)
 
 -- an event that comes, and is counted
-come_holds : (e : Event) (q : Backlog) (all : List Event) → (comes e q).missed < most_missed → Holds q all → Holds (comes e q) (all ++ e ∷ [])
+come_holds : (e : Event) (q : Backlog) (all : List Event) → (comes e q).missed < greatest_of_all → Holds q all → Holds (comes e q) (all ++ e ∷ [])
 come_holds e q all few h = go (nat_le queue_limit (length q.events)) refl few
   where
     longer : length (all ++ e ∷ []) ≡ length all + 1
     longer = length-append all (e ∷ [])
 
-    go : (b : Bool) → nat_le queue_limit (length q.events) ≡ b → (cond b (record { missed = min (q.missed + 1) most_missed; events = drop 1 q.events ++ e ∷ [] }) (record q { events = q.events ++ e ∷ [] })).missed < most_missed
-        → Holds (cond b (record { missed = min (q.missed + 1) most_missed; events = drop 1 q.events ++ e ∷ [] }) (record q { events = q.events ++ e ∷ [] })) (all ++ e ∷ [])
+    go : (b : Bool) → nat_le queue_limit (length q.events) ≡ b → (cond b (record { missed = min (q.missed + 1) greatest_of_all; events = drop 1 q.events ++ e ∷ [] }) (record q { events = q.events ++ e ∷ [] })).missed < greatest_of_all
+        → Holds (cond b (record { missed = min (q.missed + 1) greatest_of_all; events = drop 1 q.events ++ e ∷ [] }) (record q { events = q.events ++ e ∷ [] })) (all ++ e ∷ [])
     go true full low =
-        let count : min (q.missed + 1) most_missed ≡ q.missed + 1 = omega (arith, low) in
+        let count : min (q.missed + 1) greatest_of_all ≡ q.missed + 1 = omega (arith, low) in
         let some : 1 ≤ length q.events = (let up : queue_limit ≤ length q.events = leb-true queue_limit (length q.events) full in omega (arith, up)) in
         let left = dropped q.missed all q.events h.waits some in
         record {
@@ -150,11 +152,11 @@ tells_next all q h = go (nat_eq q.missed 0) refl
     }
 
 -- one turn: what is told is accounted for, and what came is held
-one_turn : (t : Turn) (n : ℕ) (queues : ℕ → Option Queue) (q : Queue) → queues n ≡ Some q → (turned n t q).backlog.missed < most_missed → (all : List Event) → Holds q.backlog all
+one_turn : (t : Turn) (n : ℕ) (queues : ℕ → Option Queue) (q : Queue) → queues n ≡ Some q → (turned n t q).backlog.missed < greatest_of_all → (all : List Event) → Holds q.backlog all
     → Leaves (taken_at n t queues) all (brought_at q t) (turned n t q).backlog
 one_turn (Comes tree e) n queues q h few all holds = go (matches tree e q) few
   where
-    go : (b : Bool) → (cond b (record q { backlog = comes e q.backlog }) q).backlog.missed < most_missed → Leaves [] all (cond b (e ∷ []) []) (cond b (record q { backlog = comes e q.backlog }) q).backlog
+    go : (b : Bool) → (cond b (record q { backlog = comes e q.backlog }) q).backlog.missed < greatest_of_all → Leaves [] all (cond b (e ∷ []) []) (cond b (record q { backlog = comes e q.backlog }) q).backlog
     go true few = record { left = all ++ e ∷ []; holds = come_holds e q.backlog all few holds; accounts = λ more rest ns t. subst (λ l. Accounts ns l rest) (append_assoc all (e ∷ []) more) t }
     go false few = rests all q.backlog holds
 one_turn (Takes m) n queues q h few all holds =
@@ -170,7 +172,7 @@ pub hears_law : HearsLaw
 hears_law [] n queues q h s counts all holds = record { left = all; accounts = append-nil all; holds = subst (λ o. Holds (backlog_in o) all) (sym h) holds }
 hears_law (t ∷ ts) n queues q h s counts all holds =
     let next : after_turn t queues n ≡ Some (turned n t q) = after_one t n queues q s.0 h in
-    let one = one_turn t n queues q h (subst (λ o. (backlog_in o).missed < most_missed) next counts.0) all holds in
+    let one = one_turn t n queues q h (subst (λ o. (backlog_in o).missed < greatest_of_all) next counts.0) all holds in
     let rest = hears_law ts n (after_turn t queues) (turned n t q) next s.1 counts.1 one.left one.holds in
     record {
       left = rest.left;
@@ -208,7 +210,7 @@ hears_all_law (t ∷ ts) after n tree prefix queues none before stays counts =
 few_turned : (t : Turn) (n : ℕ) (q : Queue) → (turned n t q).backlog.missed ≤ q.backlog.missed + length (brought_at q t)
 few_turned (Comes tree e) n q = go (matches tree e q)
   where
-    come : (b : Bool) → (cond b (record { missed = min (q.backlog.missed + 1) most_missed; events = drop 1 q.backlog.events ++ e ∷ [] }) (record (q.backlog) { events = q.backlog.events ++ e ∷ [] })).missed ≤ q.backlog.missed + 1
+    come : (b : Bool) → (cond b (record { missed = min (q.backlog.missed + 1) greatest_of_all; events = drop 1 q.backlog.events ++ e ∷ [] }) (record (q.backlog) { events = q.backlog.events ++ e ∷ [] })).missed ≤ q.backlog.missed + 1
     come true = omega arith
     come false = omega arith
 
@@ -234,7 +236,7 @@ counts_law (t ∷ ts) n queues q h s few =
     let low = few_turned t n q in
     let both : length (brought q (t ∷ ts)) ≡ length (brought_at q t) + length (brought q ts) = length-append (brought_at q t) (brought q ts) in
     let same : length (brought (turned n t q) ts) ≡ length (brought q ts) = ap length (brought_all ts q (turned n t q) (turned_tree n t q) (turned_prefix n t q)) in
-    let here : (turned n t q).backlog.missed < most_missed = omega (arith, low, both, few) in (
-      subst (λ o. (backlog_in o).missed < most_missed) (sym next) here,
+    let here : (turned n t q).backlog.missed < greatest_of_all = omega (arith, low, both, few) in (
+      subst (λ o. (backlog_in o).missed < greatest_of_all) (sym next) here,
       counts_law ts n (after_turn t queues) (turned n t q) next s.1 (omega (arith, low, both, same, few)),
     )

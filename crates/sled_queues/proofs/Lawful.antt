@@ -6,8 +6,9 @@ use Rattle.sled_model.specs.Backlog.{comes, come_all}
 use Rattle.sled_model.specs.State.{Queue, matches}
 use Rattle.sled_model.specs.declared.event.Event.{Event}
 use Rattle.sled_queues.specs.Values.{WaitingValue}
-use Rattle.sled_queues.specs.Queues.{queue_of, prepared_in, committed_in, cancelled_in}
+use Rattle.sled_queues.specs.Queues.{prepared_in, committed_in, cancelled_in}
 use Rattle.sled_queues.specs.Laws.{DeliversLaw, CancelsLaw}
+use Rattle.sled_queues.proofs.Shapes.{queue_of}
 
 -- two functions that are the same on what a queue is, if there is one
 pub on_option : {W X : Type 0} (f g : W → X) (o : Option W) → ((w : W) → o ≡ Some w → f w ≡ g w) → option_map f o ≡ option_map g o

@@ -1,3 +1,4 @@
+pub mod Shapes
 pub mod Single
 pub mod Beginning
 pub mod Prefixed

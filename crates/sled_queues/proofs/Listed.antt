@@ -11,16 +11,18 @@ use Rattle.std.proofs.lemmas.List.Folds.{list_any-append}
 use Rattle.sled_nodes.proofs.Basics.{none_some, some_is}
 use Rattle.sled_nodes.specs.Order.{Key}
 use Rattle.sled_store.specs.Update.{put_at}
-use Rattle.sled_model.specs.Backlog.{Backlog, queue_limit, most_missed, comes, come_all}
+use Rattle.sled_model.specs.Backlog.{Backlog, queue_limit, comes, come_all}
 use Rattle.sled_model.specs.Event.{key_of_event}
 use Rattle.sled_model.specs.State.{matches}
+use Rattle.sled_model.specs.Ids.{greatest_of_all}
 use Rattle.sled_model.specs.declared.event.Event.{Event}
 use Rattle.sled_queues.specs.Values.{WaitingValue, QueuesValue, Waitings, queue_at}
-use Rattle.sled_queues.specs.Queues.{queue_of, AreQueues, Becomes, prepared_in, prepared, committed_in, cancelled_in, taken_in, without_next_of}
+use Rattle.sled_queues.specs.Queues.{AreQueues, Becomes, prepared_in, prepared, committed_in, cancelled_in, taken_in, without_next_of}
 use Rattle.sled_queues.specs.Tells.{waits_for, IsWatched, is_watched_as}
 use Rattle.sled_queues.specs.Lists.{is_in, Once, watches, AreListed, ArePending}
 use Rattle.sled_queues.specs.theory.Lists.{without, waits_in, has_some, changed_at, changed_in, gains}
 use Rattle.sled_queues.proofs.Single.{push_once, without_once, without_keeps, without_gone, push_without}
+use Rattle.sled_queues.proofs.Shapes.{queue_of}
 
 -- how many events wait in a queue
 abbrev waiting : WaitingValue → ℕ
@@ -90,7 +92,7 @@ drop_one (x ∷ xs) n a b c = omega arith
 come_bound : (e : Event) (q : Backlog) → length q.events ≤ queue_limit → length (comes e q).events ≤ queue_limit
 come_bound e q h = go (nat_le queue_limit (length q.events)) refl
   where
-    go : (b : Bool) → nat_le queue_limit (length q.events) ≡ b → length (cond b (record { missed = min (q.missed + 1) most_missed; events = drop 1 q.events ++ e ∷ [] }) (record q { events = q.events ++ e ∷ [] })).events ≤ queue_limit
+    go : (b : Bool) → nat_le queue_limit (length q.events) ≡ b → length (cond b (record { missed = min (q.missed + 1) greatest_of_all; events = drop 1 q.events ++ e ∷ [] }) (record q { events = q.events ++ e ∷ [] })).events ≤ queue_limit
     go true full =
         let up : queue_limit ≤ length q.events = leb-true queue_limit (length q.events) full in
         let l = length-append (drop 1 q.events) (e ∷ []) in

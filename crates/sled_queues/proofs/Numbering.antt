@@ -12,13 +12,13 @@ use Rattle.sled_store.specs.Store.{Store}
 use Rattle.sled_store.specs.theory.Facts.{same_name, name_itself}
 use Rattle.sled_nodes.specs.declared.error.Error.{Error}
 use Rattle.sled_model.specs.Collections.{Content}
-use Rattle.sled_model.specs.Refusal.{must_refuse_of}
+use Rattle.sled_model.specs.Refusal.{must_refuse_of, cause_of_import, may_refuse_as}
 use Rattle.sled_model.specs.Maps.{Maps, Map, Merge}
 use Rattle.sled_model.specs.Answer.{answer_of, key_of}
-use Rattle.sled_model.specs.State.{State, NamedTree, after_decision_on, after_decision}
-use Rattle.sled_model.specs.Imports.{Part, OpensName, Puts, does_part_as, DoesParts, NoPart, OnePart, refuses_import_as, Stop, StopsAtPart}
-use Rattle.sled_model.specs.Whole.{new_tree, after_pop, RemovesLeast, RemovesNone, RemovesOne, state_opened, state_dropped}
-use Rattle.sled_model.specs.Groups.{Write, call_of_write, answer_of_write, after_write_on, after_write, after_writes, events_of_write, events_of_writes, writes_of, tag_of, Closes}
+use Rattle.sled_model.specs.State.{State, NamedTree, after_decision_on}
+use Rattle.sled_model.specs.Imports.{Part, OpensName, Puts, does_part_as, DoesParts, NoPart, OnePart, Stop, StopsAtPart}
+use Rattle.sled_model.specs.Whole.{after_pop, RemovesLeast, RemovesNone, RemovesOne, state_opened, state_dropped}
+use Rattle.sled_model.specs.Groups.{Write, after_write_on, after_writes, events_of_write, events_of_writes, writes_of, Closes}
 use Rattle.sled_model.specs.Transition.{Configuration, transition_as}
 use Rattle.sled_model.specs.declared.call.Call.{Call}
 use Rattle.sled_model.specs.declared.call.Call.TheVariants.{Remove, Insert}
@@ -31,6 +31,7 @@ use Rattle.sled_model.specs.declared.outcome.Step.{Step}
 use Rattle.sled_model.specs.declared.outcome.Step.TheVariants as step
 use Rattle.sled_model.specs.declared.outcome.Outcome.{Outcome}
 use Rattle.sled_model.specs.declared.outcome.Outcome.TheVariants as outcome
+use Rattle.sled_model.proofs.Shapes.{after_decision, after_write, answer_of_write, call_of_write, new_tree, tag_of}
 use Rattle.sled_queues.specs.Events.{Turn, Comes, Watches, Takes, Ends}
 use Rattle.sled_queues.specs.Copies.{after_event_of, after_events, came_to, came_to_at}
 use Rattle.sled_queues.specs.Turns.{turns_of_event, turns_of_call, turns_of_pop, turns_of_removals, turns_of_part, turns_of_parts, turns_of_events, turns_of_stop, turns_of}
@@ -264,7 +265,7 @@ slot_decided a b slot name t call is there n =
 
 -- what an import that is refused has done
 abbrev Stopped : State → Store → Store → List Content → Error → State → List Maps → Type 0
-Stopped old a b all e new maps = (refuses_import_as (must_refuse_of old []) all e × (new ≡ old) × (maps ≡ [])) ⊎ ((stop : Stop) × StopsAtPart old a b all stop e new maps)
+Stopped old a b all e new maps = (may_refuse_as (must_refuse_of old []) (cause_of_import all) e × (new ≡ old) × (maps ≡ [])) ⊎ ((stop : Stop) × StopsAtPart old a b all stop e new maps)
 
 stop_told : {old : State} {a b : Store} {all : List Content} {e : Error} {new : State} {maps : List Maps} (s : Stopped old a b all e new maps) → AreNumbered old → Tells old keeps_all (turns_of_stop s) new
 stop_told {old = old} {new = new} (inl none) n = same_state old new none.1 n
@@ -283,7 +284,7 @@ decided_told a GenerateId reply b maps t n = same_trees a.state b.state (ap (λ 
 decided_told a (Import collections) reply b maps t n = parts_told t.1.does n
 decided_told a (Watch tree prefix) reply b maps t n = quiet (Watches t.0 tree.number prefix) a.state b.state (λ k. refl) (ap (λ (s : State). s.trees) t.2.is) (ap (λ (s : State). s.trees_given) t.2.is) n
 decided_told a (Next subscriber) reply b maps t n = quiet (Takes subscriber) a.state b.state (λ k. refl) (ap (λ (s : State). s.trees) t.2.is) (ap (λ (s : State). s.trees_given) t.2.is) n
-decided_told a (Unsubscribe subscriber) reply b maps t n = quiet (Ends subscriber) a.state b.state (λ k. refl) (ap (λ (s : State). s.trees) t.1.is) (ap (λ (s : State). s.trees_given) t.1.is) n
+decided_told a (Unsubscribe subscriber) reply b maps t n = quiet (Ends subscriber) a.state b.state (λ k. refl) (ap (λ (s : State). s.trees) t.1) (ap (λ (s : State). s.trees_given) t.1) n
 
 -- maps are told of an open database alone
 where_open : (a : State) (s : Step) (o : Outcome) (turns : List Turn) (b : State) → Tells a (λ name. drops name s o) turns b → TellsTrees a s o turns b
@@ -341,7 +342,7 @@ begin_told a tree call outcome.NoSuchSlot b maps t n = absurd t
 
 step_told : (a : Configuration) (slot : ℕ) (o : Outcome) (b : Configuration) (maps : List Maps) (t : transition_as a (step.Step slot) o b maps)
     → AreNumbered a.state → Tells a.state keeps_all (turns_of a (step.Step slot) o b maps t) b.state
-step_told a slot outcome.NoSuchSlot b maps t n = same_state a.state b.state t.0.is n
+step_told a slot outcome.NoSuchSlot b maps t n = same_state a.state b.state t.0.1 n
 step_told a slot outcome.Moved b maps t n = same_trees a.state b.state (ap (λ (s : State). s.trees) t.0.is) (ap (λ (s : State). s.trees_given) t.0.is) n
 step_told a slot (outcome.Yielded key value) b maps t n = same_trees a.state b.state (ap (λ (s : State). s.trees) t.0.is) (ap (λ (s : State). s.trees_given) t.0.is) n
 step_told a slot (outcome.Decided reply) b maps t n = slot_decided a.state b.state slot t.0.flying.tree.name t.0.tree t.0.flying.call t.0.is t.0.there n
@@ -351,7 +352,7 @@ step_told a slot outcome.Abandoned b maps t n = absurd t
 
 abandon_told : (a : Configuration) (slot : ℕ) (o : Outcome) (b : Configuration) (maps : List Maps) (t : transition_as a (step.Abandon slot) o b maps)
     → AreNumbered a.state → Tells a.state keeps_all (turns_of a (step.Abandon slot) o b maps t) b.state
-abandon_told a slot outcome.NoSuchSlot b maps t n = same_state a.state b.state t.0.is n
+abandon_told a slot outcome.NoSuchSlot b maps t n = same_state a.state b.state t.0.1 n
 abandon_told a slot outcome.Abandoned b maps t n = same_trees a.state b.state (ap (λ (s : State). s.trees) t.0.is) (ap (λ (s : State). s.trees_given) t.0.is) n
 abandon_told a slot (outcome.Begun i) b maps t n = absurd t
 abandon_told a slot outcome.Moved b maps t n = absurd t

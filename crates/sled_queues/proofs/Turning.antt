@@ -7,13 +7,12 @@ use Rattle.sled_nodes.specs.Order.{Key}
 use Rattle.sled_store.specs.Store.{Store}
 use Rattle.sled_nodes.specs.declared.error.Error.{Error}
 use Rattle.sled_model.specs.Collections.{Content}
-use Rattle.sled_model.specs.Refusal.{must_refuse_of}
+use Rattle.sled_model.specs.Refusal.{must_refuse_of, cause_of_import, may_refuse_as}
 use Rattle.sled_model.specs.Maps.{Maps}
 use Rattle.sled_model.specs.State.{State, NamedTree, Queue, queues_after}
-use Rattle.sled_model.specs.Imports.{Part, OpensName, Puts, does_part_as, DoesParts, NoPart, OnePart, refuses_import_as, Stop, StopsAtPart}
+use Rattle.sled_model.specs.Imports.{Part, OpensName, Puts, does_part_as, DoesParts, NoPart, OnePart, Stop, StopsAtPart}
 use Rattle.sled_model.specs.Whole.{after_pop, RemovesLeast, RemovesNone, RemovesOne, state_opened, state_dropped}
 use Rattle.sled_model.specs.Groups.{Closes, writes_of, events_of_writes}
-use Rattle.sled_model.specs.Queues.{next_in}
 use Rattle.sled_model.specs.Transition.{Configuration, transition_as}
 use Rattle.sled_model.specs.declared.call.Whole.{Whole}
 use Rattle.sled_model.specs.declared.call.Whole.TheVariants.{Flush, PopMin, PopMax, Clear, Group, OpenTree, DropTree, GenerateId, Import, Watch, Next, Unsubscribe}
@@ -26,6 +25,7 @@ use Rattle.sled_model.specs.declared.outcome.Step.{Step}
 use Rattle.sled_model.specs.declared.outcome.Step.TheVariants as step
 use Rattle.sled_model.specs.declared.outcome.Outcome.{Outcome}
 use Rattle.sled_model.specs.declared.outcome.Outcome.TheVariants as outcome
+use Rattle.sled_model.proofs.Shapes.{next_in}
 use Rattle.sled_queues.specs.Events.{Turn, Takes, after_turn, after_turns, taken_at, taken_by, Stays}
 use Rattle.sled_queues.specs.Turns.{turns_of_event, turns_of_pop, turns_of_removals, turns_of_part, turns_of_parts, turns_of_events, turns_of_stop, turns_of, told_at, gives_up, IsHeard, TurnsLaw, HeardLaw}
 use Rattle.sled_queues.proofs.Grouped.{writes_deliver, turns_deliver}
@@ -85,7 +85,7 @@ parts_turns (OnePart {a = a} {m = m} {part = part} {added = added} one more) =
 
 -- what an import that is refused has done
 abbrev Stopped : State → Store → Store → List Content → Error → State → List Maps → Type 0
-Stopped old a b all e new maps = (refuses_import_as (must_refuse_of old []) all e × (new ≡ old) × (maps ≡ [])) ⊎ ((stop : Stop) × StopsAtPart old a b all stop e new maps)
+Stopped old a b all e new maps = (may_refuse_as (must_refuse_of old []) (cause_of_import all) e × (new ≡ old) × (maps ≡ [])) ⊎ ((stop : Stop) × StopsAtPart old a b all stop e new maps)
 
 stop_turns : {old : State} {a b : Store} {all : List Content} {e : Error} {new : State} {maps : List Maps} (s : Stopped old a b all e new maps) → new.queues ≡ after_turns (turns_of_stop s) old.queues
 stop_turns {old = old} {new = new} (inl none) = same_queues old new none.1
@@ -112,7 +112,7 @@ whole_turns a GenerateId (outcome.Decided reply) b maps t = same_queues _ b.stat
 whole_turns a (Import collections) (outcome.Decided reply) b maps t = parts_turns t.1.does
 whole_turns a (Watch tree prefix) (outcome.Decided reply) b maps t = same_queues _ b.state t.2.is
 whole_turns a (Next subscriber) (outcome.Decided reply) b maps t = same_queues _ b.state t.2.is
-whole_turns a (Unsubscribe subscriber) (outcome.Decided reply) b maps t = same_queues _ b.state t.1.is
+whole_turns a (Unsubscribe subscriber) (outcome.Decided reply) b maps t = same_queues _ b.state t.1
 whole_turns a Flush (outcome.Refused e) b maps t = same_queues a.state b.state t.1
 whole_turns a (PopMin tree) (outcome.Refused e) b maps t = same_queues a.state b.state t.1
 whole_turns a (PopMax tree) (outcome.Refused e) b maps t = same_queues a.state b.state t.1
@@ -140,14 +140,14 @@ turns_law a (step.Begin tree call) (outcome.Yielded key value) b maps t = absurd
 turns_law a (step.Begin tree call) (outcome.Decided reply) b maps t = absurd t
 turns_law a (step.Begin tree call) outcome.Abandoned b maps t = absurd t
 turns_law a (step.Begin tree call) outcome.NoSuchSlot b maps t = absurd t
-turns_law a (step.Step slot) outcome.NoSuchSlot b maps t = same_queues a.state b.state t.0.is
+turns_law a (step.Step slot) outcome.NoSuchSlot b maps t = same_queues a.state b.state t.0.1
 turns_law a (step.Step slot) outcome.Moved b maps t = same_queues _ b.state t.0.is
 turns_law a (step.Step slot) (outcome.Yielded key value) b maps t = same_queues _ b.state t.0.is
 turns_law a (step.Step slot) (outcome.Decided reply) b maps t = same_queues _ b.state t.0.is ∙ event_comes t.0.tree.number _ a.state.queues
 turns_law a (step.Step slot) (outcome.Refused e) b maps t = same_queues _ b.state t.0.is
 turns_law a (step.Step slot) (outcome.Begun i) b maps t = absurd t
 turns_law a (step.Step slot) outcome.Abandoned b maps t = absurd t
-turns_law a (step.Abandon slot) outcome.NoSuchSlot b maps t = same_queues a.state b.state t.0.is
+turns_law a (step.Abandon slot) outcome.NoSuchSlot b maps t = same_queues a.state b.state t.0.1
 turns_law a (step.Abandon slot) outcome.Abandoned b maps t = same_queues _ b.state t.0.is
 turns_law a (step.Abandon slot) (outcome.Begun i) b maps t = absurd t
 turns_law a (step.Abandon slot) outcome.Moved b maps t = absurd t

@@ -1,9 +1,11 @@
 -- What happens to queues, in order, and what a subscriber gets of it.
-use Rattle.std.specs.Prelude.{ℕ, nat_eq, Bool, false, ◌≡◌, List, [], ◌∷◌, ◌++◌, Option, Some, if◌then◌else◌}
+use Rattle.std.specs.Prelude.{ℕ, nat_eq, Bool, false, ◌≡◌, List, [], ◌∷◌, ◌++◌, Option, Some, None, option_map, if◌then◌else◌}
 use Rattle.std.specs.Option.{option_to_list}
 use Rattle.sled_nodes.specs.Order.{Key}
+use Rattle.sled_store.specs.Update.{put_at}
+use Rattle.sled_model.specs.Backlog.{no_backlog, next_of}
 use Rattle.sled_model.specs.State.{Queue, matches, queues_after}
-use Rattle.sled_model.specs.Queues.{next_in, watched, taken, given_up}
+use Rattle.sled_model.specs.Queues.{backlog_in, without_next}
 use Rattle.sled_model.specs.declared.event.Event.{Event}
 use Rattle.sled_model.specs.declared.event.Next.{Next}
 
@@ -16,9 +18,9 @@ pub data Turn : Type 0 where
 
 abbrev pub after_turn : Turn → (ℕ → Option Queue) → ℕ → Option Queue
 after_turn (Comes tree e) queues = queues_after tree (Some e) queues
-after_turn (Watches n tree prefix) queues = watched n tree prefix queues
-after_turn (Takes n) queues = taken n queues
-after_turn (Ends n) queues = given_up n queues
+after_turn (Watches n tree prefix) queues = put_at queues n (Some (record { tree = tree; prefix = prefix; backlog = no_backlog }))
+after_turn (Takes n) queues = put_at queues n (option_map without_next (queues n))
+after_turn (Ends n) queues = put_at queues n None
 
 abbrev pub after_turns : List Turn → (ℕ → Option Queue) → ℕ → Option Queue
 after_turns [] queues = queues
@@ -26,7 +28,7 @@ after_turns (t ∷ ts) queues = after_turns ts (after_turn t queues)
 
 -- what a subscriber takes at these turns, in order
 abbrev pub taken_at : ℕ → Turn → (ℕ → Option Queue) → List Next
-taken_at n (Takes m) queues = if nat_eq m n then option_to_list (next_in (queues n)) else []
+taken_at n (Takes m) queues = if nat_eq m n then option_to_list (next_of (backlog_in (queues n))) else []
 taken_at n t queues = []
 
 abbrev pub taken_by : ℕ → List Turn → (ℕ → Option Queue) → List Next

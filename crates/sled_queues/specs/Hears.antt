@@ -2,9 +2,10 @@
 -- whose number it gets.
 use Rattle.std.specs.Prelude.{◌≡◌, ℕ, ◌+◌, ◌<◌, ◌≤◌, length, drop, List, [], ◌∷◌, ◌++◌, Option, Some, None}
 use Rattle.sled_nodes.specs.Order.{Key}
-use Rattle.sled_model.specs.Backlog.{Backlog, no_backlog, most_missed}
+use Rattle.sled_model.specs.Backlog.{Backlog, no_backlog}
 use Rattle.sled_model.specs.State.{Queue}
 use Rattle.sled_model.specs.Queues.{backlog_in}
+use Rattle.sled_model.specs.Ids.{greatest_of_all}
 use Rattle.sled_model.specs.declared.event.Event.{Event}
 use Rattle.sled_model.specs.declared.event.Next.{Next}
 use Rattle.sled_model.specs.declared.event.Next.TheVariants as told
@@ -31,7 +32,7 @@ pub record Hears (told : List Next) (all : List Event) (b : Backlog) : Type 0 wh
 -- after each of these turns the count of the subscriber's queue is below the greatest, at which it would stay
 abbrev pub CountsAll : ℕ → List Turn → (ℕ → Option Queue) → Type 0
 CountsAll n [] queues = Unit {0}
-CountsAll n (t ∷ ts) queues = ((backlog_in (after_turn t queues n)).missed < most_missed) × CountsAll n ts (after_turn t queues)
+CountsAll n (t ∷ ts) queues = ((backlog_in (after_turn t queues n)).missed < greatest_of_all) × CountsAll n ts (after_turn t queues)
 
 -- What a subscriber took, then as many events as are counted, and then those that wait, are those that it had at first and then those
 -- that came for it, in their order. That is so if it watched before and does not end, and all that it missed was counted
@@ -43,7 +44,7 @@ HearsLaw = (turns : List Turn) (n : ℕ) (queues : ℕ → Option Queue) (q : Qu
 -- All that it missed was counted if what was counted before and the events that came are fewer than the greatest count
 abbrev pub CountsLaw : Type 0
 CountsLaw = (turns : List Turn) (n : ℕ) (queues : ℕ → Option Queue) (q : Queue) → queues n ≡ Some q → Stays n turns
-    → q.backlog.missed + length (brought q turns) < most_missed → CountsAll n turns queues
+    → q.backlog.missed + length (brought q turns) < greatest_of_all → CountsAll n turns queues
 
 -- If it begins in the midst of these turns, they are all that came for it since
 abbrev pub HearsAllLaw : Type 0

@@ -1,8 +1,10 @@
 -- What the calls on queues do in the model, as laws.
-use Rattle.std.specs.Prelude.{◌≡◌, ℕ, List, [], ◌∷◌, Option, Some}
+use Rattle.std.specs.Prelude.{◌≡◌, ℕ, List, [], ◌∷◌, Option, Some, None, option_map}
 use Rattle.sled_nodes.specs.Order.{Key}
+use Rattle.sled_store.specs.Update.{put_at}
+use Rattle.sled_model.specs.Backlog.{no_backlog, next_of}
 use Rattle.sled_model.specs.State.{Queue, queues_after}
-use Rattle.sled_model.specs.Queues.{next_in, watched, taken, given_up}
+use Rattle.sled_model.specs.Queues.{backlog_in, without_next}
 use Rattle.sled_model.specs.declared.event.Event.{Event}
 use Rattle.sled_queues.specs.Values.{Waitings}
 use Rattle.sled_queues.specs.Queues.{queues_of, IsCalm, with_subscriber, prepared, committed, cancelled, next_at, without_next_of, without_subscriber}
@@ -22,10 +24,10 @@ CancelsLaw = (queues : Waitings) → IsCalm queues → (tree : ℕ) (e : Event) 
 
 -- the other calls are those of the model
 pub record Serves (queues : Waitings) : Type 0 where
-  pub watches : (n tree : ℕ) (prefix : Key) → queues_of (with_subscriber n tree prefix queues) ≡ watched n tree prefix (queues_of queues)
-  pub gives : (n : ℕ) → next_at (queues n) ≡ next_in (queues_of queues n)
-  pub takes : (n : ℕ) → queues_of (without_next_of n queues) ≡ taken n (queues_of queues)
-  pub gives_up : (n : ℕ) → queues_of (without_subscriber n queues) ≡ given_up n (queues_of queues)
+  pub watches : (n tree : ℕ) (prefix : Key) → queues_of (with_subscriber n tree prefix queues) ≡ put_at (queues_of queues) n (Some (record { tree = tree; prefix = prefix; backlog = no_backlog }))
+  pub gives : (n : ℕ) → next_at (queues n) ≡ next_of (backlog_in (queues_of queues n))
+  pub takes : (n : ℕ) → queues_of (without_next_of n queues) ≡ put_at (queues_of queues) n (option_map without_next (queues_of queues n))
+  pub gives_up : (n : ℕ) → queues_of (without_subscriber n queues) ≡ put_at (queues_of queues) n None
 
 abbrev pub ServesLaw : Type 0
 ServesLaw = (queues : Waitings) → Serves queues

@@ -8,12 +8,9 @@ use Rattle.sled_model.specs.declared.event.Event.{Event}
 use Rattle.sled_model.specs.declared.event.Next.{Next}
 use Rattle.sled_queues.specs.Values.{WaitingValue, QueuesValue, Waitings, queue_at}
 
--- what the model has of a queue, and of all of them: what waits, and nothing of what is prepared
-abbrev pub queue_of : WaitingValue → Queue
-queue_of w = record { tree = w.tree; prefix = w.prefix; backlog = w.backlog }
-
+-- what the model has of the queues: what waits, and nothing of what is prepared
 abbrev pub queues_of : Waitings → ℕ → Option Queue
-queues_of queues n = option_map queue_of (queues n)
+queues_of queues n = option_map (λ w. record { tree = w.tree; prefix = w.prefix; backlog = w.backlog }) (queues n)
 
 -- What always holds of queues: the subscribers have numbers from 1 to the last one that was given, and no more than 1024 events wait in a
 -- queue
@@ -40,7 +37,7 @@ with_subscriber n tree prefix queues = put_at queues n (Some (record { tree = tr
 
 -- the event is prepared in each queue that waits for it
 abbrev pub prepared_in : ℕ → Event → WaitingValue → WaitingValue
-prepared_in tree e w = if matches tree e (queue_of w) then (record w { coming = w.coming ++ e ∷ [] }) else w
+prepared_in tree e w = if matches tree e (record { tree = w.tree; prefix = w.prefix; backlog = w.backlog }) then (record w { coming = w.coming ++ e ∷ [] }) else w
 
 abbrev pub prepared : ℕ → Event → Waitings → Waitings
 prepared tree e queues n = option_map (prepared_in tree e) (queues n)

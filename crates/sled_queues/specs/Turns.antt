@@ -8,10 +8,10 @@ use Rattle.sled_nodes.specs.declared.error.Error.{Error}
 use Rattle.sled_model.specs.Maps.{Maps}
 use Rattle.sled_model.specs.Answer.{answer_of}
 use Rattle.sled_model.specs.State.{State, NamedTree, Queue}
-use Rattle.sled_model.specs.Imports.{Part, OpensName, Puts, does_part_as, DoesParts, NoPart, OnePart, refuses_import_as, Stop, StopsAtPart}
+use Rattle.sled_model.specs.Imports.{Part, OpensName, Puts, does_part_as, DoesParts, NoPart, OnePart, Stop, StopsAtPart}
 use Rattle.sled_model.specs.Whole.{RemovesLeast, RemovesNone, RemovesOne}
 use Rattle.sled_model.specs.Groups.{writes_of, events_of_writes}
-use Rattle.sled_model.specs.Refusal.{must_refuse_of}
+use Rattle.sled_model.specs.Refusal.{must_refuse_of, cause_of_import, may_refuse_as}
 use Rattle.sled_model.specs.Transition.{Configuration, transition_as, WholeDecides, WholeRefuses}
 use Rattle.sled_model.specs.declared.call.Call.{Call}
 use Rattle.sled_model.specs.declared.call.Call.TheVariants.{Insert, Remove}
@@ -77,7 +77,7 @@ turns_of_whole old (Unsubscribe subscriber) reply new maps d = Ends subscriber �
 
 -- an import that is refused has done none of its parts, or the first
 abbrev pub turns_of_stop : {old : State} {a b : Store} {all : List (Key × Key × List (Key × Key))} {e : Error} {new : State} {maps : List Maps}
-    → (refuses_import_as (must_refuse_of old []) all e × (new ≡ old) × (maps ≡ [])) ⊎ ((stop : Stop) × StopsAtPart old a b all stop e new maps) → List Turn
+    → (may_refuse_as (must_refuse_of old []) (cause_of_import all) e × (new ≡ old) × (maps ≡ [])) ⊎ ((stop : Stop) × StopsAtPart old a b all stop e new maps) → List Turn
 turns_of_stop (inl none) = []
 turns_of_stop (inr s) = turns_of_parts s.1.does
 

@@ -3,12 +3,13 @@ use Rattle.std.proofs.Common.{◌≡◌, ◌≢◌, Bool, true, false, cond, Opt
 use Rattle.sled_nodes.proofs.Basics.{some_none}
 use Rattle.sled_nodes.specs.Order.{Key}
 use Rattle.sled_model.specs.Maps.{Merge as Operator}
-use Rattle.sled_model.specs.Answer.{decision_of, effect_of_write, reply_of_read, read_decides_as, same_value}
+use Rattle.sled_model.specs.Answer.{decision_of, effect_of_write, reply_of_read, read_decides_as}
 use Rattle.sled_model.specs.State.{IsOnKey}
 use Rattle.sled_model.specs.declared.call.Call.{Call}
 use Rattle.sled_model.specs.declared.call.Call.TheVariants.{Get, Insert, Remove, CompareAndSwap, Merge, Scan}
 use Rattle.sled_model.specs.declared.decision.Effect.TheVariants as effect
 use Rattle.sled_model.specs.declared.reply.Reply.TheVariants.{Value, Swapped}
+use Rattle.sled_model.proofs.Shapes.{same_value}
 
 written : (new : Option Key) → effect_of_write new ≢ effect.Nothing
 written None = λ e. cc

@@ -81,12 +81,21 @@ fn tell_events(report: &Report, db: &mut Db<MemPages>, subscriber: &Subscriber) 
     }
 }
 
-/// Prints the outcomes of calls step by step, what was kept of their replies, and which events a subscriber got. The database is returned.
+// Prints how many slots were given.
+fn tell_slots(report: &Report, machine: &Machine<MemPages>) {
+    report.show("slots given", machine.slots_given());
+}
+
+/// Prints the outcomes of calls step by step, what was kept of their replies, how many slots they were given, and which events a subscriber
+/// got. The database is returned.
 pub fn tell_on(report: &Report, mut db: Db<MemPages>, tree: &Tree) -> Db<MemPages> {
     let subscriber = report.keep(watched(&mut db, tree, b""));
     let mut machine = Machine::new(db);
+    tell_slots(report, &machine);
     tell_changes(report, &mut machine, tree);
+    tell_slots(report, &machine);
     tell_others(report, &mut machine, tree);
+    tell_slots(report, &machine);
     let mut db = machine.into_db();
     if let Some(subscriber) = subscriber {
         tell_events(report, &mut db, &subscriber);

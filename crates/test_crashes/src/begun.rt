@@ -3,12 +3,11 @@ use crate::crashes::crash_twice;
 use crate::runs::Run;
 use crate::starts::{Start, changes_of, first, later};
 use crate::store::Disks;
-use crate::tally::{Numbered, Tally};
-use crate::trouble::{Result, expect};
 use sled_disk::MemoryDisk;
 use sled_files::begin_file;
 use std::alloc::Global;
-use test_report::Report;
+use test_report::trouble::{Result, expect};
+use test_report::{Numbered, Report, Tally};
 
 // How many seeds each crash is chosen by.
 const SEEDS: u64 = 12;

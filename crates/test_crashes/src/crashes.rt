@@ -1,19 +1,17 @@
 //! Each call of a disk refused in turn, and crashes after that; and crashes after each call of a script.
 use crate::runs::{Run, flush, flush_all, is_fault, look, run_script};
 use crate::script::STEPS;
-use crate::seeds::crash;
 use crate::starts::{Kind, Start, prepare};
-use crate::store::{Disks, Files, Store, image, into_disks, open};
-use crate::tally::{Numbered, Tally};
-use crate::trouble::{Result, Trouble, expect};
-use example_parts::Adds;
+use crate::store::{Disks, Files, Store, image, into_disks, open, set_snapshots, with_adds};
 use sled::Db;
 use sled_files::{FilePages, OpenError};
 use std::alloc::Global;
 use std::fmt::{self, Display, Formatter, Write};
-use test_report::Report;
+use test_report::seeds::crash;
+use test_report::trouble::{Result, Trouble, expect};
+use test_report::{Numbered, Report, Tally};
 
-// How many seeds each crash is chosen by.
+// Each crash is chosen by the seeds below that.
 const SEEDS: u64 = 6;
 
 // A script has fewer calls of a disk than that.
@@ -44,7 +42,9 @@ fn found(db: &mut Files, run: &Run) -> Result<Run> {
         return Err(Trouble::Wrong("the maps are none of those since the last flush"));
     };
     let id = later_id(db, run.greatest)?;
-    Run::new(run.alloc, &maps, id)
+    let mut then = Run::new(run.alloc, &maps, id)?;
+    then.has_snapshots = run.has_snapshots;
+    Ok(then)
 }
 
 // Opens what a crash left, makes some calls more and flushes them.
@@ -58,11 +58,11 @@ fn go_on(mut db: Files, run: &Run, seed: u64) -> Result<(Disks, Run)> {
 /// Crashes, and crashes again once some calls were made after that.
 pub fn crash_twice(disks: &Disks, run: &Run, seed: u64) -> Result<()> {
     let left = crash(run.alloc, disks, seed)?;
-    let db = open(run.alloc, left)?;
+    let db = open(run.alloc, left, run.has_snapshots)?;
     let (disks, then) = go_on(db, run, seed)?;
     let left = crash(run.alloc, &disks, seed.wrapping_add(3))?;
     drop(disks);
-    let mut db = open(run.alloc, left)?;
+    let mut db = open(run.alloc, left, run.has_snapshots)?;
     let last = found(&mut db, &then)?;
     drop(then);
     drop(last);
@@ -79,7 +79,7 @@ fn ended(mut db: Files, mut run: Run, script: u64, steps: u64) -> Result<(Disks,
 // Opens a database whose disks may refuse a call, and runs a script.
 fn run_store(store: Store, mut run: Run, script: u64) -> Result<(Disks, Run)> {
     match Db::open_checked(run.alloc, store, b"weather") {
-        Ok(db) => ended_over(db.with_operators::<Adds>(), run, script),
+        Ok(db) => ended_over(with_adds(db)?, run, script),
         Err((store, e)) => {
             let is_fault = is_fault(&e);
             drop(e);
@@ -122,7 +122,10 @@ impl Case {
     fn run(self, start: &Start) -> Result<Option<(Disks, Run)>> {
         let disks = self.disks(start)?;
         match FilePages::open(start.alloc, disks.0, disks.1) {
-            Ok(store) => Ok(Some(run_store(store, start.run()?, self.script)?)),
+            Ok(mut store) => {
+                set_snapshots(&mut store, start.has_snapshots);
+                Ok(Some(run_store(store, start.run()?, self.script)?))
+            }
             Err(refused) => {
                 let why = refused.error;
                 drop(refused);
@@ -168,12 +171,14 @@ struct Counts<'a> {
     runs: Tally<'a>,
     // Crashes after them.
     crashes: Tally<'a>,
+    // The greatest generation of a file.
+    generation: u64,
 }
 
 impl Counts<'_> {
     // Crashes by all seeds.
     fn crash_all(&mut self, case: Case, disks: &Disks, run: &Run) {
-        for seed in 0..SEEDS {
+        for seed in case.kind.first_seed()..SEEDS {
             let crashed = crash_twice(disks, run, seed);
             self.crashes.count(crashed, Seeded { case, seed });
         }
@@ -189,6 +194,7 @@ impl Counts<'_> {
             Ok(Some((disks, run))) => {
                 self.runs.count(Ok(()), case);
                 self.crash_all(case, &disks, &run);
+                self.generation = self.generation.max(run.generation);
                 let is_last = !run.is_over;
                 drop(run);
                 drop(disks);
@@ -238,6 +244,7 @@ fn tell_refused(report: &Report, kind: Kind) {
     let mut counts = Counts {
         runs: Tally::new(report),
         crashes: Tally::new(report),
+        generation: 0,
     };
     counts.run_scripts(report.alloc(), kind);
     let words = kind.words();
@@ -247,11 +254,15 @@ fn tell_refused(report: &Report, kind: Kind) {
     counts
         .crashes
         .tell(format_args!("{words}, and crashes after that"));
+    if kind.has_snapshots() {
+        report.tell(format_args!("    the last file is of generation {}", counts.generation));
+    }
+    drop(counts);
 }
 
 // The disks and the run of so many steps of a script.
 fn run_steps(start: &Start, script: u64, steps: u64) -> Result<(Disks, Run)> {
-    let db = open(start.alloc, start.disks(0, 0)?)?;
+    let db = open(start.alloc, start.disks(0, 0)?, start.has_snapshots)?;
     ended(db, start.run()?, script, steps)
 }
 
@@ -294,9 +305,18 @@ fn tell_steps(report: &Report, kind: Kind) {
     tally.tell(format_args!("{}, a crash after each call", kind.words()));
 }
 
-pub fn tell(report: &Report) {
-    for kind in [Kind::New, Kind::First, Kind::Second, Kind::Later] {
-        tell_refused(report, kind);
-        tell_steps(report, kind);
+// Reports on kinds of pairs of files.
+fn tell_kinds(report: &Report, kinds: &[Kind]) {
+    for kind in kinds {
+        tell_refused(report, *kind);
+        tell_steps(report, *kind);
     }
+}
+
+pub fn tell(report: &Report) {
+    tell_kinds(report, &[Kind::New, Kind::First, Kind::Second, Kind::Later]);
+}
+
+pub fn tell_snapshots(report: &Report) {
+    tell_kinds(report, &[Kind::Anew]);
 }

@@ -2,12 +2,11 @@
 use crate::maps::Maps;
 use crate::starts::{Kind, Start, prepare};
 use crate::store::{Disks, Store, image, image_of, into_disks, open_db};
-use crate::tally::{Numbered, Tally};
-use crate::trouble::{Result, Trouble, expect};
 use sled_disk::MemoryDisk;
 use sled_files::{FilePages, OpenError};
 use std::alloc::Global;
-use test_report::Report;
+use test_report::trouble::{Result, Trouble, expect};
+use test_report::{Numbered, Report, Tally};
 
 // The bits of a byte.
 const BITS: [u8; 8] = [1, 2, 4, 8, 16, 32, 64, 128];

@@ -2,9 +2,10 @@
 //! refuse calls, each call in turn, and the maps that are found are compared with maps that the test keeps itself. It prints how many
 //! cases there were and how many passed, and of each that failed the numbers that make it again.
 //!
-//! Its words say what is run: `calls`, `files`, `bits` and `numbers`. `calls` refuses each call of a disk, and crashes after that and after
-//! each step; `files` tests a file that is begun anew. `bits` turns each bit of a file, and cuts it at each place; `numbers` tests that no
-//! number is given twice. It prints each of them before its outcome.
+//! Its words say what is run: `calls`, `snapshots`, `files`, `bits` and `numbers`. `calls` refuses each call of a disk, and crashes after
+//! that and after each step; `snapshots` does so where every few flushes the other file is begun anew, and the older one emptied then.
+//! `files` tests a file that is begun anew. `bits` turns each bit of a file, and cuts it at each place; `numbers` tests that no number is
+//! given twice. It prints each of them before its outcome.
 #![tactic(auto)]
 
 mod begun;
@@ -14,11 +15,8 @@ mod maps;
 mod numbers;
 mod runs;
 mod script;
-mod seeds;
 mod starts;
 mod store;
-mod tally;
-mod trouble;
 
 use std::process::ExitCode;
 use std::{env, io};
@@ -33,6 +31,7 @@ fn words_of(rt: &HostRuntime) -> io::Result<Vec<String>> {
 fn run(report: &Report, word: &str) -> bool {
     match word {
         "calls" => crashes::tell(report),
+        "snapshots" => crashes::tell_snapshots(report),
         "files" => begun::tell(report),
         "bits" => decay::tell(report),
         "numbers" => numbers::tell(report),

@@ -1,12 +1,11 @@
 //! Page numbers, versions and ids, which no later opening gives again, whether or not there was a flush.
-use crate::seeds::crash;
 use crate::store::{Disks, Files, Store, into_disks, open_db, open_store};
-use crate::tally::{Numbered, Tally};
-use crate::trouble::{Result, expect};
 use sled::{Data, IVec, Leaf, Node, Pages};
 use sled_disk::MemoryDisk;
 use std::alloc::Global;
-use test_report::Report;
+use test_report::seeds::crash;
+use test_report::trouble::{Result, expect};
+use test_report::{Numbered, Report, Tally};
 
 // How many openings follow each other.
 const OPENINGS: u64 = 5;

@@ -1,10 +1,16 @@
 //! A script that is run, and its expected outcome.
-use crate::maps::{Maps, SIDE, key_of, value_of};
+use crate::maps::{KEYS, Maps, SIDE, Value, key_of, value_at, value_of};
 use crate::script::{Kind, Step, step_of};
-use crate::store::{Files, image, image_of};
-use crate::trouble::{Result, Trouble, expect};
-use sled::{Batch, Error, Fault, Tree};
+use crate::store::{Files, Store, image, image_of};
+use sled::{
+    Batch, Collection, ConflictableTransactionResult, Error, Fault, IVec, TransactionError,
+    TransactionResult, TransactionalTree, Tree, abort,
+};
 use std::alloc::Global;
+use test_report::trouble::{Result, Trouble, expect};
+
+// How many parts an import has: that it opens the tree, and each pair.
+const PARTS: u8 = 4;
 
 /// What is known of a run.
 #[derive(Drop)]
@@ -22,8 +28,12 @@ pub struct Run {
     pub is_over: bool,
     /// Whether there are numbers that no limit in the files has to be raised for.
     pub has_room: bool,
-    /// Whether a batch was refused midway, so that all calls are refused.
+    /// Whether a group was refused midway, so that all calls are refused.
     pub is_closed: bool,
+    /// Whether a flush begins the other file anew whenever the log is twice as long as its snapshot.
+    pub has_snapshots: bool,
+    /// Of which generation the file is that counts.
+    pub generation: u64,
 }
 
 impl Run {
@@ -38,6 +48,8 @@ impl Run {
             is_over: false,
             has_room: false,
             is_closed: false,
+            has_snapshots: false,
+            generation: 0,
         };
         run.note()?;
         Ok(run)
@@ -55,6 +67,38 @@ impl Run {
         self.note()?;
         if is_there {
             self.note_flush();
+        }
+        Ok(())
+    }
+
+    // Notes the maps as they are, if they were others before. A change gives a page or a version a number.
+    fn note_if_changed(&mut self, before: &Maps) -> Result<()> {
+        if self.maps == *before {
+            return Ok(());
+        }
+        self.has_room = true;
+        self.note()
+    }
+
+    // Notes the maps after so many parts of a clear.
+    fn note_cleared(&mut self, count: u64) -> Result<()> {
+        for _ in 0..count {
+            let before = self.maps;
+            self.maps.lose_first();
+            self.note_if_changed(&before)?;
+        }
+        Ok(())
+    }
+
+    // Notes the maps after so many parts of an import.
+    fn note_imported(&mut self, step: &Step, count: u64) -> Result<()> {
+        for part in 0..PARTS {
+            if count <= part as u64 {
+                return Ok(());
+            }
+            let before = self.maps;
+            self.maps.import(step, part);
+            self.note_if_changed(&before)?;
         }
         Ok(())
     }
@@ -105,13 +149,14 @@ fn note_refusal(run: &mut Run, e: Error) -> Result<()> {
 }
 
 // Notes a call that changes maps and was refused, and so changed none: it may be while it has to raise a limit.
-fn note_refused_change(run: &mut Run, kind: Kind, e: Error) -> Result<()> {
+fn note_refused_change(run: &mut Run, kind: Kind, had_side: bool, e: Error) -> Result<()> {
     expect(
         !run.has_room || run.is_closed,
         "a call was refused that needs no disk",
     )?;
     note_refusal(run, e)?;
-    run.is_closed = run.is_closed || kind == Kind::Batch;
+    let is_group = kind.is_group() && (kind != Kind::Group || had_side);
+    run.is_closed = run.is_closed || is_group;
     Ok(())
 }
 
@@ -139,7 +184,7 @@ fn take_id(db: &mut Files, run: &mut Run) -> Result<()> {
 }
 
 // Puts a value to a key of a tree, or takes it out.
-fn put(alloc: Global, db: &mut Files, tree: &Tree, key: u8, value: Option<u8>) -> Result<()> {
+fn put(alloc: Global, db: &mut Files, tree: &Tree, key: u8, value: Option<Value>) -> Result<()> {
     let old = match value {
         Some(value) => {
             let value = value_of(alloc, value)?;
@@ -152,7 +197,7 @@ fn put(alloc: Global, db: &mut Files, tree: &Tree, key: u8, value: Option<u8>) -
 }
 
 // A call on the default tree.
-fn put_main(alloc: Global, db: &mut Files, key: u8, value: Option<u8>) -> Result<()> {
+fn put_main(alloc: Global, db: &mut Files, key: u8, value: Option<Value>) -> Result<()> {
     let tree = db.default_tree()?;
     put(alloc, db, &tree, key, value)?;
     drop(tree);
@@ -165,7 +210,7 @@ fn put_side(
     db: &mut Files,
     is_there: bool,
     key: u8,
-    value: Option<u8>,
+    value: Option<Value>,
 ) -> Result<()> {
     let tree = db.open_tree(SIDE)?;
     if is_there {
@@ -178,11 +223,11 @@ fn put_side(
 // The batch of a step.
 fn batch_of(alloc: Global, step: &Step) -> Result<Batch> {
     let mut batch = Batch::default(alloc);
-    for write in 0..4 {
-        let (key, value) = step.write(write);
-        match value {
-            Some(value) => batch.insert(alloc, &key_of(key), &value_of(alloc, value)?)?,
-            None => batch.remove(alloc, &key_of(key))?,
+    for place in 0..4 {
+        let key = key_of(step.key(place));
+        match step.write(place) {
+            Some(value) => batch.insert(alloc, &key, &value_of(alloc, value)?)?,
+            None => batch.remove(alloc, &key)?,
         }
     }
     Ok(batch)
@@ -195,6 +240,159 @@ fn put_batch(alloc: Global, db: &mut Files, step: &Step) -> Result<()> {
     db.apply_batch(&tree, batch)?;
     drop(tree);
     Ok(())
+}
+
+// Makes the writes of a group of both trees, or opens the second if it is not there.
+fn put_group(alloc: Global, db: &mut Files, is_there: bool, step: &Step) -> Result<()> {
+    let side = db.open_tree(SIDE)?;
+    if !is_there {
+        drop(side);
+        return Ok(());
+    }
+    let first = (db.default_tree()?, batch_of(alloc, step)?);
+    let second = (side, batch_of(alloc, step)?);
+    let group = [first, second];
+    let made = db.apply_group(&group);
+    drop(group);
+    Ok(made?)
+}
+
+// Adds a number to the value of a key.
+fn merge(db: &mut Files, step: &Step) -> Result<()> {
+    let tree = db.default_tree()?;
+    let sum = db.merge(&tree, &key_of(step.key), &step.number().to_be_bytes())?;
+    drop(tree);
+    drop(sum);
+    Ok(())
+}
+
+// The bytes of a value, if there is one.
+fn bytes_of(alloc: Global, value: Option<Value>) -> Result<Option<Vec<u8>>> {
+    match value {
+        Some(value) => Ok(Some(value_of(alloc, value)?)),
+        None => Ok(None),
+    }
+}
+
+// Makes a swap, which is made if it expects what is there.
+fn swap(db: &mut Files, run: &Run, step: &Step) -> Result<()> {
+    let there = value_at(&run.maps.main, step.key);
+    let old = bytes_of(run.alloc, step.expects(there))?;
+    let new = bytes_of(run.alloc, step.sets())?;
+    let tree = db.default_tree()?;
+    let swapped = db.compare_and_swap(
+        &tree,
+        &key_of(step.key),
+        old.as_ref().map(|old| old.as_slice()),
+        new.as_ref().map(|new| new.as_slice()),
+    )?;
+    drop(tree);
+    drop(old);
+    drop(new);
+    let is_made = swapped.is_ok();
+    drop(swapped);
+    expect(
+        is_made == step.is_expected(),
+        "a swap was made that should not be, or was not",
+    )
+}
+
+// What the closure of a transaction does that moves a value to another key.
+fn move_inside(
+    inside: &mut TransactionalTree<'_, Store>,
+    from: &[u8],
+    to: &[u8],
+) -> ConflictableTransactionResult<(), ()> {
+    let Some(value) = inside.remove(from)? else {
+        return abort(());
+    };
+    let stood = inside.insert(to, value.as_ref())?;
+    drop(value);
+    drop(stood);
+    Ok(())
+}
+
+// Runs the transaction that moves a value, which is aborted if there is none.
+fn move_value(db: &mut Files, run: &Run, step: &Step) -> Result<()> {
+    let is_there = value_at(&run.maps.main, step.key).is_some();
+    let from = key_of(step.key);
+    let to = key_of(step.key(1));
+    let tree = db.default_tree()?;
+    let ended: TransactionResult<(), ()> = db.transaction(
+        &tree,
+        |inside| move_inside(inside, &from, &to),
+    );
+    drop(tree);
+    match ended {
+        Ok(()) => expect(is_there, "a transaction was made that should be aborted"),
+        Err(TransactionError::Abort(())) => {
+            expect(!is_there, "a transaction was aborted that should be made")
+        }
+        Err(TransactionError::Storage(e)) => Err(Trouble::Refused(e)),
+    }
+}
+
+// Clears the second tree, or opens it if it is not there.
+fn clear_side(db: &mut Files, run: &mut Run, is_there: bool) -> Result<()> {
+    let tree = db.open_tree(SIDE)?;
+    if !is_there {
+        drop(tree);
+        return Ok(());
+    }
+    let (done, count) = db.clear_counted(&tree);
+    drop(tree);
+    run.note_cleared(count)?;
+    done?;
+    expect(
+        run.maps.side == Some([None; KEYS]),
+        "a tree was cleared in part",
+    )
+}
+
+// The pairs of an import.
+fn pairs_of(alloc: Global, step: &Step) -> Result<Vec<(IVec, IVec)>> {
+    let mut pairs = Vec::new(alloc);
+    for place in 0..PARTS.wrapping_sub(1) {
+        let value = value_of(alloc, step.value(place))?;
+        let key = IVec::from_slice(alloc, &key_of(step.key(place)))?;
+        pairs.push((key, IVec::from_slice(alloc, &value)?))?;
+        drop(value);
+    }
+    Ok(pairs)
+}
+
+// What an import imports.
+fn collection_of(alloc: Global, step: &Step) -> Result<Collection> {
+    let pairs = pairs_of(alloc, step)?;
+    let name = Vec::from_slice(alloc, SIDE)?;
+    Ok((Vec::from_slice(alloc, b"tree")?, name, pairs))
+}
+
+// The place of the pair that is next after so many parts of an import.
+fn place_after(parts: u64) -> u8 {
+    match parts {
+        0 | 1 => 0,
+        2 => 1,
+        _ => 2,
+    }
+}
+
+// Imports pairs into the second tree, up to the first whose key is there.
+fn import(db: &mut Files, run: &mut Run, step: &Step) -> Result<()> {
+    let collections = [collection_of(run.alloc, step)?];
+    let (done, count) = db.import_counted(&collections);
+    drop(collections);
+    run.note_imported(step, count)?;
+    match done {
+        Ok(()) => expect(count == PARTS as u64, "an import was made in part"),
+        Err(Error::Unsupported(_)) => {
+            expect(
+                run.maps.has_side(step.key(place_after(count))),
+                "an import was refused at a key that is not there",
+            )
+        }
+        Err(e) => Err(Trouble::Refused(e)),
+    }
 }
 
 // Drops the second tree, if it is there.
@@ -211,11 +409,17 @@ fn make(db: &mut Files, run: &mut Run, step: &Step) -> Result<()> {
     let alloc = run.alloc;
     let has_side = run.maps.side.is_some();
     match step.kind {
-        Kind::Insert => put_main(alloc, db, step.key, Some(step.value)),
+        Kind::Insert => put_main(alloc, db, step.key, Some(step.value(0))),
         Kind::Remove => put_main(alloc, db, step.key, None),
+        Kind::Merge => merge(db, step),
+        Kind::Swap => swap(db, run, step),
         Kind::Batch => put_batch(alloc, db, step),
-        Kind::InsertSide => put_side(alloc, db, has_side, step.key, Some(step.value)),
+        Kind::Move => move_value(db, run, step),
+        Kind::InsertSide => put_side(alloc, db, has_side, step.key, Some(step.value(0))),
         Kind::RemoveSide => put_side(alloc, db, has_side, step.key, None),
+        Kind::ClearSide => clear_side(db, run, has_side),
+        Kind::Group => put_group(alloc, db, has_side, step),
+        Kind::Import => import(db, run, step),
         Kind::DropSide => drop_side(db, has_side),
         Kind::Id => take_id(db, run),
         Kind::Flush => flush(db, run),
@@ -235,9 +439,10 @@ fn note_change(run: &mut Run, step: &Step) -> Result<()> {
 
 // Makes the call of a step, and notes the maps after it.
 fn take(db: &mut Files, run: &mut Run, step: &Step) -> Result<()> {
+    let had_side = run.maps.side.is_some();
     match make(db, run, step) {
         Ok(()) => note_change(run, step),
-        Err(Trouble::Refused(e)) => note_refused_change(run, step.kind, e),
+        Err(Trouble::Refused(e)) => note_refused_change(run, step.kind, had_side, e),
         Err(e) => Err(e),
     }
 }
@@ -258,6 +463,7 @@ pub fn run_script(db: &mut Files, run: &mut Run, script: u64, steps: u64) -> Res
     for place in 0..steps {
         take(db, run, &step_of(script, place))?;
     }
+    run.generation = db.pages().stats().generation;
     look(db, run)
 }
 

@@ -2,11 +2,11 @@
 use crate::maps::Maps;
 use crate::runs::{Run, flush_all, run_script};
 use crate::store::{Disks, Files, into_disks, open};
-use crate::trouble::{Result, Trouble};
 use sled_disk::{Disk, MemoryDisk};
 use sled_files::begin_file;
 use sled_log::read_log;
 use std::alloc::Global;
+use test_report::trouble::{Result, Trouble};
 
 /// A kind of pair.
 #[derive(Clone, Copy)]
@@ -19,6 +19,8 @@ pub enum Kind {
     Second,
     /// The second counts, begun anew, and the first is older, with other maps.
     Later,
+    /// As new files, but that the other file is begun anew every few flushes.
+    Anew,
 }
 
 impl Kind {
@@ -29,7 +31,18 @@ impl Kind {
             Kind::First => "the first file",
             Kind::Second => "the second file",
             Kind::Later => "the later file",
+            Kind::Anew => "new files, begun anew every few flushes",
         }
+    }
+
+    /// Whether the other file is begun anew every few flushes.
+    pub fn has_snapshots(self) -> bool {
+        matches!(self, Kind::Anew)
+    }
+
+    /// The first seed that a crash is chosen by. Runs over files that are begun anew take longer: they leave out the first ones.
+    pub fn first_seed(self) -> u64 {
+        if self.has_snapshots() { 3 } else { 0 }
     }
 }
 
@@ -43,6 +56,8 @@ pub struct Start {
     /// What they have if the file that counts is blank.
     pub older: Maps,
     pub greatest: u64,
+    /// Whether the other file is begun anew every few flushes.
+    pub has_snapshots: bool,
 }
 
 // The header of a log of a store, in its first payload.
@@ -58,6 +73,7 @@ impl Start {
             maps: run.maps,
             older: Maps::new(),
             greatest: run.greatest,
+            has_snapshots: false,
         })
     }
 
@@ -72,7 +88,9 @@ impl Start {
 
     /// A run on them.
     pub fn run(&self) -> Result<Run> {
-        Run::new(self.alloc, &self.maps, self.greatest)
+        let mut run = Run::new(self.alloc, &self.maps, self.greatest)?;
+        run.has_snapshots = self.has_snapshots;
+        Ok(run)
     }
 }
 
@@ -113,7 +131,7 @@ pub fn first(alloc: Global, script: u64, steps: u64) -> Result<Start> {
     let mut run = Run::new(alloc, &Maps::new(), 0)?;
     let first = MemoryDisk::new(alloc, Vec::new(alloc))?;
     let second = MemoryDisk::new(alloc, Vec::new(alloc))?;
-    let db = open(alloc, (first, second))?;
+    let db = open(alloc, (first, second), false)?;
     let disks = ended(db, &mut run, script, steps)?;
     Start::of(&disks, &run)
 }
@@ -127,21 +145,28 @@ fn put_older(start: &mut Start, script: u64) -> Result<()> {
     Ok(())
 }
 
+// Empties the files.
+fn empty(start: &mut Start) {
+    start.first = Vec::new(start.alloc);
+    start.maps = Maps::new();
+    start.greatest = 0;
+}
+
+// Begins the second file anew with what the first has, which is an older one then.
+fn begin_later(start: &mut Start, script: u64) -> Result<()> {
+    start.second = later(start.alloc, 2, &start.first)?;
+    put_older(start, script)
+}
+
 /// A pair of a kind, after so many steps of a script.
 pub fn prepare(alloc: Global, kind: Kind, script: u64, steps: u64) -> Result<Start> {
     let mut start = first(alloc, script, steps)?;
+    start.has_snapshots = kind.has_snapshots();
     match kind {
-        Kind::New => {
-            start.first = Vec::new(alloc);
-            start.maps = Maps::new();
-            start.greatest = 0;
-        }
+        Kind::New | Kind::Anew => empty(&mut start),
         Kind::First => {}
         Kind::Second => std::mem::swap(&mut start.first, &mut start.second),
-        Kind::Later => {
-            start.second = later(alloc, 2, &start.first)?;
-            put_older(&mut start, script)?;
-        }
+        Kind::Later => begin_later(&mut start, script)?,
     }
     Ok(start)
 }

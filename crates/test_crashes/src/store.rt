@@ -1,16 +1,16 @@
 //! A database in two files, and what it has, as bytes.
 use crate::maps::{KEYS, Map, Maps, SIDE, key_of, value_of};
-use crate::trouble::{Result, Trouble};
 use example_parts::Adds;
 use sled::{DEFAULT_TREE, Db, IVec, Tree};
 use sled_disk::MemoryDisk;
 use sled_files::FilePages;
 use std::alloc::Global;
+use test_report::trouble::{Result, Trouble};
 
 /// A store in two files of a disk in memory.
 pub type Store = FilePages<MemoryDisk>;
 
-/// A database over it. No tree is given a merge operator.
+/// A database over it. Its default tree has the operator that adds numbers.
 pub type Files = Db<Store, Adds>;
 
 /// Two disks.
@@ -28,10 +28,30 @@ pub fn open_store(alloc: Global, disks: Disks) -> Result<Store> {
     }
 }
 
+// Gives the default tree the operator that adds numbers.
+fn set_adds(db: &mut Files) -> Result<()> {
+    let tree = db.default_tree()?;
+    db.set_merge_operator(&tree, Adds)?;
+    drop(tree);
+    Ok(())
+}
+
+/// A database whose default tree has the operator that adds numbers.
+pub fn with_adds(db: Db<Store>) -> Result<Files> {
+    let mut db = db.with_operators::<Adds>();
+    match set_adds(&mut db) {
+        Ok(()) => Ok(db),
+        Err(e) => {
+            drop(into_disks(db));
+            Err(e)
+        }
+    }
+}
+
 /// Opens the database of a store.
 pub fn open_db(alloc: Global, store: Store) -> Result<Files> {
     match Db::open_checked(alloc, store, b"weather") {
-        Ok(db) => Ok(db.with_operators::<Adds>()),
+        Ok(db) => with_adds(db),
         Err((store, e)) => {
             drop(store);
             Err(Trouble::Refused(e))
@@ -39,9 +59,18 @@ pub fn open_db(alloc: Global, store: Store) -> Result<Files> {
     }
 }
 
-/// Opens the database of two disks.
-pub fn open(alloc: Global, disks: Disks) -> Result<Files> {
-    open_db(alloc, open_store(alloc, disks)?)
+/// Opens the database of two disks. With `has_snapshots` the other file is begun anew whenever the log is twice as long as its snapshot.
+pub fn open(alloc: Global, disks: Disks, has_snapshots: bool) -> Result<Files> {
+    let mut store = open_store(alloc, disks)?;
+    set_snapshots(&mut store, has_snapshots);
+    open_db(alloc, store)
+}
+
+/// Sets whether the other file is begun anew whenever the log is twice as long as its snapshot.
+pub fn set_snapshots(store: &mut Store, has_snapshots: bool) {
+    if has_snapshots {
+        store.compact_from(1);
+    }
 }
 
 /// Drops a database, but for its disks.

@@ -17,8 +17,8 @@ fn new_store(alloc: Global) -> Option<FilePages<MemoryDisk>> {
 fn tell_stats(report: &Report, words: &str, store: &FilePages<MemoryDisk>) {
     let stats = store.stats();
     report.tell(format_args!(
-        "{words}: {} page numbers, {} bytes, generation {}",
-        stats.pages, stats.bytes, stats.generation
+        "{words}: {} page numbers, {} bytes, generation {}, {} missed",
+        stats.pages, stats.bytes, stats.generation, stats.missed
     ));
 }
 

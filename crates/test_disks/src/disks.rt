@@ -57,6 +57,14 @@ fn last(alloc: Global) -> Result<Vec<u8>> {
     disk.read(alloc, len - 1, 1)
 }
 
+// Whether it lends what a read returns. None if it lends nothing.
+fn lends_read(alloc: Global) -> Result<Option<bool>> {
+    let disk = written(alloc)?;
+    let is_read = disk.lent().map(|bytes| bytes == disk.bytes());
+    drop(disk);
+    Ok(is_read)
+}
+
 // What a file has of which the second call is refused, and the call that is refused is a write.
 fn refused_write(alloc: Global) -> Result<MemoryDisk> {
     let mut disk = MemoryDisk::new(alloc, [1, 2].to_vec(alloc)?)?;
@@ -103,6 +111,7 @@ pub fn tell(report: &Report) {
     let alloc = report.alloc();
     show_disk(report, "written", written(alloc));
     report.show("the last byte", last(alloc));
+    report.show("it lends what is read", lends_read(alloc));
     show_disk(report, "a crash loses the write", left(alloc, &[0, 1]));
     show_disk(report, "a crash tears the write", left(alloc, &[1, 0, 42]));
     show_disk(report, "a crash keeps the write", left(alloc, &[2]));

@@ -59,7 +59,12 @@ fn tell_calls(report: &Report, words: &str, files: Result<TwoFiles<MemoryDisk>>)
                 files.failed()
             ));
             let anew = files.rewrite(&[5]);
-            report.tell(format_args!("anew: {anew:?}, {} bytes, {}", files.len(), files.failed()));
+            report.tell(format_args!(
+                "anew: {anew:?}, {} bytes, a snapshot of {}, {}",
+                files.len(),
+                files.snapshot(),
+                files.failed()
+            ));
             let added = files.append(&[6]);
             report.tell(format_args!(
                 "added: {added:?}, {} bytes, {}",
@@ -72,14 +77,21 @@ fn tell_calls(report: &Report, words: &str, files: Result<TwoFiles<MemoryDisk>>)
     }
 }
 
+// How long each of two files is, as one looks at it.
+fn lens(files: &TwoFiles<MemoryDisk>) -> (usize, usize) {
+    let (first, second) = files.disks();
+    (first.bytes().len(), second.bytes().len())
+}
+
 // Prints the generation of two files, and how long each is.
 fn tell_disks(report: &Report, words: &str, files: Result<TwoFiles<MemoryDisk>>) {
     match files {
         Ok(files) => {
             let generation = files.generation();
+            let seen = lens(&files);
             let (first, second) = files.into_disks();
             report.tell(format_args!(
-                "{words}: generation {generation}, {} and {} bytes",
+                "{words}: generation {generation}, {} and {} bytes, seen {seen:?}",
                 first.bytes().len(),
                 second.bytes().len()
             ));

@@ -1,6 +1,10 @@
 //! Blocks that are added to a log, and logs that are read.
+use crate::disks::show_disk;
 use sled_disk::{Choices, Disk, MemoryDisk, Result};
-use sled_log::{append, append_once, block_of, digest_of, mend, read_all, read_log, read_to_tear};
+use sled_log::{
+    append, append_once, block_of, cut_through, digest_of, mend, read_all, read_log, read_to_tear,
+    write_through,
+};
 use std::alloc::Global;
 use test_report::Report;
 
@@ -147,8 +151,28 @@ fn tell_tears(report: &Report) {
     );
 }
 
+// What a crash leaves of a file whose first bytes were written over, which was brought to the disk.
+fn written_through(alloc: Global) -> Result<MemoryDisk> {
+    let mut disk = MemoryDisk::new(alloc, [1, 2, 3].to_vec(alloc)?)?;
+    write_through(&mut disk, 0, &[9, 8])?;
+    disk.crash(&mut Choices::new(Vec::new(alloc)))
+}
+
+// The same of one that was cut.
+fn all_cut(alloc: Global) -> Result<MemoryDisk> {
+    let mut disk = MemoryDisk::new(alloc, [1, 2, 3].to_vec(alloc)?)?;
+    cut_through(&mut disk, 0)?;
+    disk.crash(&mut Choices::new(Vec::new(alloc)))
+}
+
 pub fn tell(report: &Report) {
     let alloc = report.alloc();
+    show_disk(
+        report,
+        "a write is brought to the disk",
+        written_through(alloc),
+    );
+    show_disk(report, "a cut is brought to the disk", all_cut(alloc));
     tell_disk(report, "a block is added", appended(alloc, 0));
     tell_disk(report, "its gate is not opened", appended(alloc, 3));
     report.show("the digest of no bytes", digest_of(&[]));

@@ -8,6 +8,8 @@ use std::alloc::Global;
 pub enum Act<'a> {
     /// Prints what it has.
     Tell,
+    /// Prints what it lends.
+    Lend,
     /// Prints how many bytes it has.
     Len,
     /// Writes at a place, and brings it to the disk.
@@ -26,6 +28,13 @@ fn tell(rt: &HostRuntime, file: &mut HostFile) {
     let _ = match all(rt.alloc(), file) {
         Ok(bytes) => println!(rt; "it has `{}`", bytes.as_slice().escape_ascii()),
         Err(_) => println!(rt; "it is not read"),
+    };
+}
+
+fn lend(rt: &HostRuntime, file: &HostFile) {
+    let _ = match file.lent() {
+        Some(bytes) => println!(rt; "it lends `{}`", bytes.escape_ascii()),
+        None => println!(rt; "it lends nothing"),
     };
 }
 
@@ -52,6 +61,7 @@ impl Act<'_> {
     pub fn run(self, rt: &HostRuntime, file: &mut HostFile) {
         let len = match self {
             Act::Tell => return tell(rt, file),
+            Act::Lend => return lend(rt, file),
             Act::Len => file.len(),
             Act::Put(at, bytes) => put(file, at, bytes),
             Act::Cut(len) => cut(file, len),

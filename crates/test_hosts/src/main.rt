@@ -5,6 +5,7 @@
 
 mod act;
 mod databases;
+mod front;
 mod refused;
 
 use act::Act;
@@ -62,24 +63,26 @@ fn act_on(rt: &HostRuntime, path: &str, opening: Opening, acts: &[Act<'_>]) {
     drop(opened);
 }
 
-// What was written is read at the next opening, and so is what a cut leaves.
+// What was written is read at the next opening, and so is what a cut leaves. A file lends what it is read as.
 fn tell_written(rt: &HostRuntime) {
     let fill = [
         Act::Tell,
+        Act::Lend,
         Act::Put(0, b"abcdef"),
         Act::Put(4, b"xyz"),
         Act::Len,
     ];
     act_on(rt, "written", USUAL, &fill);
-    act_on(rt, "written", AS_IS, &[Act::Tell, Act::Cut(2)]);
-    act_on(rt, "written", AS_IS, &[Act::Tell]);
+    act_on(rt, "written", AS_IS, &[Act::Tell, Act::Lend, Act::Cut(2)]);
+    act_on(rt, "written", AS_IS, &[Act::Tell, Act::Lend]);
 }
 
-// A file is read until it is changed. Its length is known, and it can be changed again.
+// A file is read and lent until it is changed. Its length is known, and it can be changed again.
 fn tell_changed(rt: &HostRuntime) {
     let acts = [
         Act::Put(0, b"abcdef"),
         Act::Tell,
+        Act::Lend,
         Act::Len,
         Act::Put(6, b"g"),
     ];
@@ -173,6 +176,9 @@ fn main(rt: HostRuntime) -> io::Result<()> {
     tell_written(&rt);
     tell_changed(&rt);
     tell_once(&rt);
+    if front::tell(&rt).is_err() {
+        println!(rt; "there is no memory")?;
+    }
     tell_other(&rt)?;
     tell_databases(&rt);
     tell_decayed(&rt);

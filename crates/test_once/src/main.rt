@@ -5,12 +5,11 @@
 
 mod pairs;
 mod runs;
-mod seeds;
-mod trouble;
 
 use runs::{Case, FILES, run_case};
+use std::fmt::{self, Display, Formatter, Write};
 use std::process::ExitCode;
-use test_report::Report;
+use test_report::{Report, Tally};
 
 // How many seeds each crash is chosen by.
 const SEEDS: u64 = 6;
@@ -18,45 +17,56 @@ const SEEDS: u64 = 6;
 // A run has fewer calls of a disk than that.
 const CALLS: u64 = 400;
 
-// Counts of what was run.
-#[derive(Drop)]
-struct Counts {
-    cases: u64,
-    passed: u64,
+// The numbers that make a case again.
+#[derive(Clone, Copy, Drop)]
+struct Seeded {
+    has_snapshots: bool,
+    disk: u64,
+    call: u64,
+    seed: u64,
+}
+
+impl Display for Seeded {
+    fn fmt<W: Write>(&self, f: &mut Formatter<W>) -> fmt::Result {
+        write!(
+            f,
+            "snapshots {}, disk {}, call {}, seed {}",
+            self.has_snapshots, self.disk, self.call, self.seed
+        )
+    }
 }
 
 // Runs a case by each seed. Whether a call was refused.
-fn run_seeds(report: &Report, counts: &mut Counts, case: Case) -> bool {
+fn run_seeds(report: &Report, tally: &mut Tally<'_>, case: Case) -> bool {
     let mut is_refused = false;
     for seed in 0..SEEDS {
-        counts.cases = counts.cases.saturating_add(1);
-        match run_case(report.alloc(), case, seed) {
-            Ok(refused) => {
-                counts.passed = counts.passed.saturating_add(1);
-                is_refused = refused;
-            }
-            Err(e) => report.tell_failed(format_args!(
-                "snapshots {}, disk {}, call {}, seed {seed}: {e}",
-                case.has_snapshots, case.disk, case.call
-            )),
+        let outcome = run_case(report.alloc(), case, seed);
+        if let Ok(refused) = &outcome {
+            is_refused = *refused;
         }
+        tally.count(
+            outcome.map(|_| ()),
+            Seeded {
+                has_snapshots: case.has_snapshots,
+                disk: case.disk,
+                call: case.call,
+                seed,
+            },
+        );
     }
     is_refused
 }
 
 // Refuses each call of a disk in turn.
 fn run_calls(report: &Report, has_snapshots: bool, disk: u64) {
-    let mut counts = Counts {
-        cases: 0,
-        passed: 0,
-    };
+    let mut tally = Tally::new(report);
     for call in 1..CALLS {
         let case = Case {
             has_snapshots,
             disk,
             call,
         };
-        if !run_seeds(report, &mut counts, case) {
+        if !run_seeds(report, &mut tally, case) {
             break;
         }
     }
@@ -65,10 +75,8 @@ fn run_calls(report: &Report, has_snapshots: bool, disk: u64) {
     } else {
         "without snapshots"
     };
-    report.tell(format_args!(
-        "{words}, disk {disk}: {} cases, {} passed",
-        counts.cases, counts.passed
-    ));
+    tally.tell(format_args!("{words}, disk {disk}"));
+    drop(tally);
 }
 
 fn main(rt: HostRuntime) -> ExitCode {

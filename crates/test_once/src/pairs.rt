@@ -1,11 +1,11 @@
 //! Pairs of a database in two files whose blocks are brought to the disk in one sync.
-use crate::trouble::{Result, Trouble, expect};
 use example_parts::Adds;
-use files_once::{OneSync, open_once};
+use files_once::{OneSync, mend_both, mend_store, open_mended, open_once};
 use sled::{Db, Error};
-use sled_disk::MemoryDisk;
-use sled_files::{FilePages, OpenError};
+use sled_disk::{Disk, MemoryDisk};
+use sled_files::{FilePages, NotOpened, OpenError};
 use std::alloc::Global;
+use test_report::trouble::{Result, Trouble, expect};
 
 // A store in two disks in memory.
 type Store = FilePages<OneSync<MemoryDisk>>;
@@ -16,9 +16,20 @@ pub type Files = Db<Store, Adds>;
 /// Two disks.
 pub type Disks = (MemoryDisk, MemoryDisk);
 
-// Opens the store of two disks. None if a disk refused a call.
-fn open_store(alloc: Global, disks: Disks) -> Result<Option<Store>> {
-    match open_once(alloc, disks.0, disks.1) {
+/// How a store is opened.
+#[derive(Clone, Copy)]
+pub enum Form {
+    /// By one call.
+    Whole,
+    /// Both files are mended by one, and then it is opened.
+    Mended,
+    /// Each file is mended, and put behind a disk of one sync.
+    Apart,
+}
+
+// The same answer, but none if a disk refused a call.
+fn opened<D: Disk>(answer: std::result::Result<Store, NotOpened<D>>) -> Result<Option<Store>> {
+    match answer {
         Ok(store) => Ok(Some(store)),
         Err(refused) => {
             let why = refused.error;
@@ -27,6 +38,38 @@ fn open_store(alloc: Global, disks: Disks) -> Result<Option<Store>> {
                 OpenError::Disk(_) => Ok(None),
                 why => Err(Trouble::Closed(why)),
             }
+        }
+    }
+}
+
+// A disk of one sync in front of another one.
+fn once(alloc: Global, disk: MemoryDisk) -> Result<OneSync<MemoryDisk>> {
+    let mut disk = disk;
+    mend_store(alloc, &mut disk)?;
+    match OneSync::new(alloc, disk) {
+        Ok(once) => Ok(once),
+        Err((disk, e)) => {
+            drop(disk);
+            Err(Trouble::Disk(e))
+        }
+    }
+}
+
+// Opens the store of two disks. None if a disk refused a call.
+fn open_store(alloc: Global, disks: Disks, form: Form) -> Result<Option<Store>> {
+    let (first, second) = disks;
+    match form {
+        Form::Whole => opened(open_once(alloc, first, second)),
+        Form::Mended => {
+            let mut first = first;
+            let mut second = second;
+            mend_both(alloc, &mut first, &mut second)?;
+            opened(open_mended(alloc, first, second))
+        }
+        Form::Apart => {
+            let first = once(alloc, first)?;
+            let second = once(alloc, second)?;
+            opened(FilePages::open(alloc, first, second))
         }
     }
 }
@@ -46,8 +89,8 @@ fn open_db(alloc: Global, store: Store) -> Result<Option<Files>> {
 }
 
 /// Opens the database of two disks. With `has_snapshots` its log is begun anew every few flushes. None if a disk refused a call.
-pub fn open(alloc: Global, disks: Disks, has_snapshots: bool) -> Result<Option<Files>> {
-    let Some(mut store) = open_store(alloc, disks)? else {
+pub fn open(alloc: Global, disks: Disks, form: Form, has_snapshots: bool) -> Result<Option<Files>> {
+    let Some(mut store) = open_store(alloc, disks, form)? else {
         return Ok(None);
     };
     if has_snapshots {
@@ -60,6 +103,12 @@ pub fn open(alloc: Global, disks: Disks, has_snapshots: bool) -> Result<Option<F
 pub fn into_disks(db: Files) -> Disks {
     let (first, second) = db.into_pages().into_disks();
     (first.into_disk(), second.into_disk())
+}
+
+/// How long the file of each disk is, as one looks at it.
+pub fn lens(db: &Files) -> (usize, usize) {
+    let (first, second) = db.pages().disks();
+    (first.disk().bytes().len(), second.disk().bytes().len())
 }
 
 /// Inserts the pair of a number.

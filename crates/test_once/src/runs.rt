@@ -1,9 +1,9 @@
 //! A run whose disks refuse a call, and crash.
-use crate::pairs::{Disks, Files, count, insert, into_disks, open};
-use crate::seeds::crash;
-use crate::trouble::{Result, Trouble, expect};
+use crate::pairs::{Disks, Files, Form, count, insert, into_disks, lens, open};
 use sled_disk::MemoryDisk;
 use std::alloc::Global;
+use test_report::seeds::crash;
+use test_report::trouble::{Result, Trouble, expect};
 
 /// The numbers of the two disks.
 pub const FILES: [u64; 2] = [1, 2];
@@ -71,9 +71,18 @@ fn found(db: &mut Files, known: Known) -> Result<Known> {
     })
 }
 
+// How what a crash left is opened, by the number of its seed.
+fn form_of(seed: u64) -> Form {
+    match seed % 3 {
+        0 => Form::Whole,
+        1 => Form::Mended,
+        _ => Form::Apart,
+    }
+}
+
 // Opens what a crash left.
-fn reopen(alloc: Global, disks: Disks, known: Known) -> Result<(Files, Known)> {
-    let Some(mut db) = open(alloc, disks, false)? else {
+fn reopen(alloc: Global, disks: Disks, form: Form, known: Known) -> Result<(Files, Known)> {
+    let Some(mut db) = open(alloc, disks, form, false)? else {
         return Err(Trouble::Wrong("a disk refused a call after a crash"));
     };
     match found(&mut db, known) {
@@ -87,20 +96,26 @@ fn reopen(alloc: Global, disks: Disks, known: Known) -> Result<(Files, Known)> {
 
 // Crashes, opens what is left, goes on, and crashes again.
 fn crash_twice(alloc: Global, disks: &Disks, known: Known, seed: u64) -> Result<()> {
-    let (mut db, mut known) = reopen(alloc, crash(alloc, disks, seed)?, known)?;
+    let form = form_of(seed);
+    let (mut db, mut known) = reopen(alloc, crash(alloc, disks, seed)?, form, known)?;
     let is_refused = run(&mut db, &mut known, 2);
+    let seen = lens(&db);
     let disks = into_disks(db);
+    expect(
+        seen == (disks.0.bytes().len(), disks.1.bytes().len()),
+        "a disk is not as it was seen",
+    )?;
     expect(!is_refused, "a call was refused after a crash")?;
     let left = crash(alloc, &disks, seed.wrapping_add(3))?;
     drop(disks);
-    let (db, _) = reopen(alloc, left, known)?;
+    let (db, _) = reopen(alloc, left, form, known)?;
     drop(into_disks(db));
     Ok(())
 }
 
 /// Runs a case, and crashes by the numbers of a seed. Whether a call was refused.
 pub fn run_case(alloc: Global, case: Case, seed: u64) -> Result<bool> {
-    let Some(mut db) = open(alloc, disks(alloc, case)?, case.has_snapshots)? else {
+    let Some(mut db) = open(alloc, disks(alloc, case)?, Form::Whole, case.has_snapshots)? else {
         return Ok(true);
     };
     let mut known = Known {

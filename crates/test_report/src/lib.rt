@@ -1,11 +1,17 @@
-//! What programs of tests print, and whether something failed that should not.
+//! What programs of tests print, and whether something failed that should not; and for cases of disks that crash how many passed, why one did
+//! not (`trouble`), and what crashes leave (`seeds`).
 #![tactic(auto)]
+
+pub mod seeds;
+mod tally;
+pub mod trouble;
 
 use sled_nodes::{IVec, Result};
 use std::alloc::Global;
 use std::cell::Cell;
 use std::fmt::{Debug, Display};
 use std::process::ExitCode;
+pub use tally::{Numbered, Tally};
 
 /// Where lines are printed, and whether something failed that should not.
 #[derive(Drop)]

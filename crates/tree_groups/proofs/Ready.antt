@@ -16,7 +16,7 @@ use Rattle.sled_store.specs.In.{In}
 use Rattle.sled_store.specs.Store.{Store, now, Changes, IsRefused, is_refused_as, IsReadRefused, is_read_refused_as}
 use Rattle.sled_store.specs.declared.page.Page.{Page}
 use Rattle.sled_store.specs.declared.page.View.{View}
-use Rattle.sled_model.specs.Answer.{answer_of, decision_of, key_of, same_value, reply_of_read}
+use Rattle.sled_model.specs.Answer.{answer_of, decision_of, key_of, reply_of_read}
 use Rattle.sled_model.specs.Maps.{Merge as Operator}
 use Rattle.sled_model.specs.Groups.{call_with}
 use Rattle.sled_model.specs.declared.decision.Effect.TheVariants as effect
@@ -25,6 +25,7 @@ use Rattle.sled_model.specs.State.{IsOnKey}
 use Rattle.sled_model.specs.declared.reply.Reply.{Reply}
 use Rattle.sled_model.specs.declared.reply.Reply.TheVariants.{Value}
 use Rattle.sled_model.specs.declared.tree.Tree.{Tree as ModelTree}
+use Rattle.sled_model.proofs.Shapes.{same_value}
 use Rattle.tree_laws.specs.Forest.{Tree, Forest, Place, place, IsNodeAt, Holds, contents}
 use Rattle.tree_laws.specs.Snapshot.{Snapshot, snapshot_of, nodes_at, HasForest, IsInChain, LiesUnder, IsActing}
 use Rattle.tree_laws.proofs.Viewed.{viewed}

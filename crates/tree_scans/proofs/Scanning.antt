@@ -21,7 +21,14 @@ use Rattle.tree_laws.proofs.Pairs.{not_below_empty}
 use Rattle.sled_tree.specs.declared.flight.Aim.{Aim}
 use Rattle.sled_tree.specs.declared.flight.Aim.TheVariants.{Own, At}
 use Rattle.sled_tree.specs.declared.flight.InFlight.{InFlight}
-use Rattle.tree_scans.specs.Scans.{range_from, range_up, range_down, range_behind, rest_in, rest_of, waiting_in, waiting_of, aim_behind, behind}
+use Rattle.tree_scans.specs.Scans.{range_from, range_by, range_behind, rest_in, rest_of, waiting_in, waiting_of, aim_behind, behind}
+
+-- the range from a key up, or below it
+abbrev pub range_up : Key → Range → Option Range
+range_up k r = range_by k (λ b. record r { lo = Included b })
+
+abbrev pub range_down : Key → Range → Option Range
+range_down k r = range_by k (λ b. record r { hi = Excluded b })
 
 cons_none : {P X : Type 0} {x : X} {xs : List X} → x ∷ xs ≡ [] → P
 cons_none e = cc

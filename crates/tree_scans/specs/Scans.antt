@@ -25,18 +25,14 @@ abbrev pub range_from : Aim → Range → Range
 range_from Own r = r
 range_from (At bound) r = if r.back then (record r { hi = bound }) else (record r { lo = bound })
 
--- the range from a key up, or below it; none if the key is no bound
-abbrev pub range_up : Key → Range → Option Range
-range_up [] r = None
-range_up (b ∷ bs) r = Some (record r { lo = Included (b ∷ bs) })
-
-abbrev pub range_down : Key → Range → Option Range
-range_down [] r = None
-range_down (b ∷ bs) r = Some (record r { hi = Excluded (b ∷ bs) })
+-- the range that is bounded by a key; none if the key is no bound
+abbrev pub range_by : Key → (Key → Range) → Option Range
+range_by [] bounded = None
+range_by (b ∷ bs) bounded = Some (bounded (b ∷ bs))
 
 -- what is behind a leaf in the direction of the range: from where it ends or, backwards, below where it begins
 abbrev pub range_behind : Node → Range → Option Range
-range_behind n r = if r.back then (range_down n.lo r) else (range_up n.hi r)
+range_behind n r = if r.back then (range_by n.lo (λ k. record r { hi = Excluded k })) else (range_by n.hi (λ k. record r { lo = Included k }))
 
 -- what is left to read: behind its leaf, if a scan has one
 abbrev pub rest_at : Stage → Range → Option Range

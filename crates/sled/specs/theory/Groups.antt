@@ -1,7 +1,8 @@
 -- Of Groups, for inner functions and proofs. How a group is made ready, and then made.
 use Rattle.std.specs.Prelude.{◌≡◌, ℕ, ◌⊎◌, List, [], ◌∷◌, ◌++◌, map, Bool, false, Option, Some, None}
 use Rattle.std.specs.FinMap.Entries.{find}
-use Rattle.std.specs.Option.{option_to_list}
+use Rattle.std.specs.Option.{option_to_list, option_eq}
+use Rattle.std.specs.Str.{bytes_eq}
 use Rattle.std.specs.declared.ops.Bound.TheVariants.{Included}
 use Rattle.sled_nodes.specs.Node.{value_at}
 use Rattle.sled_nodes.specs.Order.{Key, key_cmp}
@@ -10,8 +11,8 @@ use Rattle.sled_nodes.specs.declared.error.Error.TheVariants.{NoMemory, Reportab
 use Rattle.sled_nodes.specs.declared.texts.TheConstants.{WALK_PASSED_TURNS}
 use Rattle.sled_store.specs.Store.{Store, now, refuses_read_as}
 use Rattle.sled_store.specs.declared.page.View.{View}
-use Rattle.sled_model.specs.Answer.{same_value}
-use Rattle.sled_model.specs.Groups.{Write, call_of_write, answer_of_write, after_write}
+use Rattle.sled_model.specs.Answer.{answer_of}
+use Rattle.sled_model.specs.Groups.{Write, call_with, after_write_on}
 use Rattle.sled_model.specs.State.{State, NamedTree}
 use Rattle.sled_model.specs.declared.call.Call.{Call}
 use Rattle.sled_model.specs.declared.call.Call.TheVariants as call
@@ -32,12 +33,12 @@ use Rattle.sled_tree.specs.declared.flight.Job.{Job}
 -- the call of a write that brings an event, if it brings one
 abbrev pub jobs_of_write : Option NamedTree → Write → List Job
 jobs_of_write None w = []
-jobs_of_write (Some t) w = map (λ e. record { tree = w.tree; call = call_of_write w }) (option_to_list (answer_of_write t w).event)
+jobs_of_write (Some t) w = map (λ e. record { tree = w.tree; call = call_with w.key w.value }) (option_to_list (answer_of t.merge (call_with w.key w.value) t.map).event)
 
 -- the calls of those of these writes that bring an event, if all are made one after the other
 abbrev pub jobs_of_writes : List Write → State → List Job
 jobs_of_writes [] s = []
-jobs_of_writes (w ∷ ws) s = jobs_of_write (s.trees w.tree.name) w ++ jobs_of_writes ws (after_write w s)
+jobs_of_writes (w ∷ ws) s = jobs_of_write (s.trees w.tree.name) w ++ jobs_of_writes ws (after_write_on (s.trees w.tree.name) w s)
 
 -- writes do these jobs, and each leaf is that of its call
 pub record Finds (m : Snapshot) (js : List Job) (writes : List KeyWrite) : Type 0 where
@@ -57,18 +58,18 @@ value_in (Some t) key = find key_cmp key t.map
 
 -- whether the value that a key is to have is there
 pub record Stands (s : State) (tree : Tree) (key : Key) (value : Option Key) (stands : Bool) : Type 0 where
-  pub is : stands ≡ same_value (value_in (s.trees tree.name) key) value
+  pub is : stands ≡ option_eq bytes_eq (value_in (s.trees tree.name) key) value
 
 -- .. once writes are made that have this for the key, if it is among them
 abbrev pub stands_over : Option (Option Key) → Option Key → Bool → Bool
 stands_over None value stands = stands
-stands_over (Some written) value stands = same_value written value
+stands_over (Some written) value stands = option_eq bytes_eq written value
 
 -- the leaf of a key was read, and whether the value that the key is to have is there
 pub record ReadsKey (s : Store) (root : ℕ) (key : Key) (value : Option Key) (leaf : View) (stands : Bool) : Type 0 where
   pub looked : ℕ
   pub found : IsLeafFor (now s) root (Included key) 0 leaf looked
-  pub is : stands ≡ same_value (value_at leaf.node.content key) value
+  pub is : stands ≡ option_eq bytes_eq (value_at leaf.node.content key) value
 
 -- a write is linked at its leaf only if it changes the leaf and nothing is to be repaired there
 abbrev pub begins_as : View → Bool → Option (ℕ × ℕ) → Type 0

@@ -1,9 +1,9 @@
 -- Of Imports, for inner functions and proofs. What comes of some of an import's parts.
-use Rattle.std.specs.Prelude.{◌≡◌, ℕ, List, length, Option, Some, None}
+use Rattle.std.specs.Prelude.{◌≡◌, ℕ, List, ◌∷◌, ◌++◌, length, Option, Some, None}
 use Rattle.sled_store.specs.Store.{Store}
 use Rattle.sled_nodes.specs.declared.error.Error.{Error}
 use Rattle.sled_model.specs.Maps.{Maps, Merge}
-use Rattle.sled_model.specs.Imports.{Part, Stop, parts_about, DoesParts, refuses_part, tree_at}
+use Rattle.sled_model.specs.Imports.{Part, Stop, DoesParts, refuses_part, tree_at}
 use Rattle.sled_model.specs.State.{CallInFlight}
 use Rattle.sled_model.specs.declared.tree.Tree.{Tree}
 use Rattle.sled.specs.Values.{DbValue, state_of, db_state}
@@ -30,7 +30,7 @@ module _ {P M : Type 0} (store : P → Store) (meant : M → Merge) where
     pub maps : List Maps
     pub stop : Stop
     pub counted : count ≡ length stop.done
-    pub all_parts : parts ≡ parts_about stop
+    pub all_parts : parts ≡ stop.done ++ stop.next ∷ stop.later
     pub mid : DbValue P M
     pub does : (slots : ℕ → Option CallInFlight) (given : ℕ) → DoesParts (state_of store meant old slots given) stop.done (state_of store meant mid slots given) maps
     pub refuses : (slots : ℕ → Option CallInFlight) (given : ℕ) → refuses_part (state_of store meant mid slots given) (store old.pages) (store new.pages) stop.next e

@@ -1,7 +1,9 @@
 -- What one file of a store is found to be.
-use Rattle.std.specs.Prelude.{◌≡◌, ◌⊎◌, ◌<◌, ◌≤◌, ◌^◌, ℕ, List, ◌∷◌, ◌++◌, length, take, drop, Ok}
+use Rattle.std.specs.Prelude.{◌≡◌, ◌⊎◌, ◌<◌, ◌≤◌, ◌^◌, ℕ, Bool, true, List, ◌∷◌, ◌++◌, length, take, drop, map, Option, MatchOption, Ok}
+use Rattle.std.specs.Global.{Vec}
 use Rattle.sled_log.specs.Digest.{digest}
 use Rattle.sled_log.specs.Log.{log_of, IsLog}
+use Rattle.sled_files.specs.declared.found.Found.{Found}
 use Rattle.sled_files.specs.declared.found.OpenError.{OpenError}
 use Rattle.sled_files.specs.declared.found.OpenError.TheVariants.{NoMemory, NotAStore, OtherFormat, Decayed}
 use Rattle.sled_files.specs.Header.{magic, format, header}
@@ -17,6 +19,14 @@ pub record IsFileOf (bytes : List ℕ) (generation gate : ℕ) (first : List ℕ
 -- the same by all payloads
 abbrev pub IsFileIn : List ℕ → ℕ → ℕ → List ℕ → List (List ℕ) → Type 0
 IsFileIn bytes generation gate first payloads = IsFileOf bytes generation gate first (drop 1 payloads)
+
+-- what a file is found to be: blank, or such a log
+abbrev pub IsFoundAs : List ℕ → Option Found → Type 0
+IsFoundAs bytes found = MatchOption found (IsBlank bytes) (λ f. IsFileIn bytes f.generation f.gate f.first.now (map (λ p. p.now) f.payloads.items))
+
+-- all bytes of a file: those that were read, and where none were, the disk lends them
+abbrev pub AreReadOrLent : Option (Vec ℕ) → Bool → List ℕ → Type 0
+AreReadOrLent read lends bytes = MatchOption read (lends ≡ true) (λ r. r.items ≡ bytes)
 
 -- a file that is none of a store: it is not blank, and no log that begins with a header
 pub record IsNoFile (bytes : List ℕ) : Type 0 where

@@ -3,14 +3,7 @@ use Rattle.std.specs.Prelude.{◌≤◌, ℕ, List, ◌∷◌, length}
 use Rattle.sled_host.specs.Event.{Event}
 use Rattle.sled_host.specs.Outcomes.{seen_after_all}
 use Rattle.sled_once.specs.declared.stage.Stage.{Stage}
-use Rattle.sled_once.specs.declared.stage.Stage.TheVariants.{Torn as TornOff, Stopped}
 use Rattle.sled_once.specs.Stages.{Stands}
-
--- a call was refused, and no more are made
-abbrev pub IsOver : Stage → Type 0
-IsOver (TornOff gate block) = Unit {0}
-IsOver Stopped = Unit {0}
-IsOver _ = ⊥
 
 -- the same after some calls
 pub record IsStanding {D : Type 0} (seen : D → List ℕ) (may_leave : D → List ℕ → Type 0) (stage : Stage) (disk : D) : Type 0 where

@@ -1,5 +1,7 @@
 -- The writes of a group, one after the other, in a group that is open.
 use Rattle.std.specs.Prelude.{◌≡◌, ℕ, Bool, true, false, List, Option, Some, None, Result, Ok, Err}
+use Rattle.std.specs.Option.{option_eq}
+use Rattle.std.specs.Str.{bytes_eq}
 use Rattle.std.specs.declared.ops.Bound.TheVariants.{Included}
 use Rattle.sled_nodes.specs.Node.{after_link, value_at}
 use Rattle.sled_nodes.specs.Order.{Key}
@@ -9,7 +11,6 @@ use Rattle.sled_nodes.specs.declared.link.Link.TheVariants.{Set, Del}
 use Rattle.sled_store.specs.State.{State}
 use Rattle.sled_store.specs.Store.{Store, view_of, Changes, IsRefused}
 use Rattle.sled_store.specs.declared.page.View.{View}
-use Rattle.sled_model.specs.Answer.{same_value}
 use Rattle.tree_laws.specs.Forest.{Tree, Forest}
 use Rattle.tree_laws.specs.Snapshot.{Snapshot, snapshot_of, HasForest, LiesUnder}
 use Rattle.sled_tree.specs.Known.{IsKnown}
@@ -36,7 +37,7 @@ pub record LinksWrite (w : KeyWrite) (pid version : ℕ) (old : Store) (done : R
 pub record MayChange (w : KeyWrite) (v : View) : Type 0 where
   pub settled : IsSettled v.node
   pub under : LiesUnder (Included w.key.now) v.node
-  pub changes : same_value (value_at v.node.content w.key.now) w.value.now ≡ false
+  pub changes : option_eq bytes_eq (value_at v.node.content w.key.now) w.value.now ≡ false
 
 -- .. as it is read now, at this version
 pub record IsReadAgain (s : State) (w : KeyWrite) (pid version : ℕ) : Type 0 where

@@ -1,9 +1,9 @@
-use Rattle.std.proofs.Common.{inr}
+use Rattle.machine_shared.specs.UnderLock.{IsDone}
 use Rattle.machine_shared.proofs.UnderLocks.{abandons}
 use Rattle.machine_shared.proofs.steps.abandon_in.Goals as goal
 
 pub returns-in-Some-clause-abandons : goal.returns-in-Some-clause-abandons
-returns-in-Some-clause-abandons g c = inr (record {
+returns-in-Some-clause-abandons g c = IsDone (record {
   old = _;
   new = c.abandon-outcome.new.self;
   before = c.audit.ensures.held;

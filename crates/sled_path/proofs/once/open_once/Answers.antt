@@ -8,7 +8,7 @@ returns-in-Ok-open_checked-clause-ok g c = let pages = c.in-Ok-open_mended.pages
     rw c.with_operators.ensures (record {
       files = pages.files;
       store = stored_as pages;
-      is = record { first = c.in-Ok.pair.first; second = c.in-Ok.pair.second; whole = c.in-Ok.ensures.whole; opens = c.in-Ok-open_mended.ensures.opens };
+      is = record { first = c.in-Ok.pair.first; second = c.in-Ok.pair.second; are = c.in-Ok.ensures.whole; opens = c.in-Ok-open_mended.ensures.opens };
       fit = c.in-Ok-open_checked.ensures.fit;
       opens = opens_alike stored_as (stored_as pages) c.args.name.now c.in-Ok-open_checked.db c.in-Ok-open_checked.ensures.ok;
     })
@@ -20,6 +20,6 @@ returns-in-Err-open_checked-clause-err g c = let pages = c.in-Ok-open_mended.pag
       store = stored_as pages;
       left = stored_as c.in-Err-open_checked.pages;
       is_locked = c.in-Ok.pair.is_locked;
-      is = record { first = c.in-Ok.pair.first; second = c.in-Ok.pair.second; whole = c.in-Ok.ensures.whole; opens = c.in-Ok-open_mended.ensures.opens };
+      is = record { first = c.in-Ok.pair.first; second = c.in-Ok.pair.second; are = c.in-Ok.ensures.whole; opens = c.in-Ok-open_mended.ensures.opens };
       why = c.in-Err-open_checked.ensures.err;
     })

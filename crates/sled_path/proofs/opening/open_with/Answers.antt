@@ -6,11 +6,14 @@ use Rattle.sled_path.proofs.opening.open_with.Goals as goal
 pub returns-in-Ok-open_checked-clause-ok : goal.returns-in-Ok-open_checked-clause-ok
 returns-in-Ok-open_checked-clause-ok g c = let pages = c.in-Ok-open.pages in
     rw c.with_operators.ensures (record {
-      files = pages.files;
-      store = stored_as pages;
-      is = record { first = c.in-Ok.pair.first; second = c.in-Ok.pair.second; pair = c.in-Ok.ensures.pair; opens = c.in-Ok-open.ensures.opens };
-      fit = c.in-Ok-open_checked.ensures.fit;
-      opens = opens_alike stored_as (stored_as pages) c.args.name.now c.in-Ok-open_checked.db c.in-Ok-open_checked.ensures.ok;
+      over = record {
+        files = pages.files;
+        store = stored_as pages;
+        is = record { first = c.in-Ok.pair.first; second = c.in-Ok.pair.second; are = c.in-Ok.ensures.pair; opens = c.in-Ok-open.ensures.opens };
+        fit = c.in-Ok-open_checked.ensures.fit;
+        opens = opens_alike stored_as (stored_as pages) c.args.name.now c.in-Ok-open_checked.db c.in-Ok-open_checked.ensures.ok;
+      };
+      meanwhile = c.in-Ok-open.ensures.any_moment;
     })
 
 pub returns-in-Err-clause-err : goal.returns-in-Err-clause-err
@@ -26,6 +29,6 @@ returns-in-Err-open_checked-clause-err g c = let pages = c.in-Ok-open.pages in
       store = stored_as pages;
       left = stored_as c.in-Err-open_checked.pages;
       is_locked = c.in-Ok.pair.is_locked;
-      is = record { first = c.in-Ok.pair.first; second = c.in-Ok.pair.second; pair = c.in-Ok.ensures.pair; opens = c.in-Ok-open.ensures.opens };
+      is = record { first = c.in-Ok.pair.first; second = c.in-Ok.pair.second; are = c.in-Ok.ensures.pair; opens = c.in-Ok-open.ensures.opens };
       why = c.in-Err-open_checked.ensures.err;
     })

@@ -2,6 +2,7 @@ use Rattle.std.proofs.Common.{Err}
 use Rattle.sled.proofs.Grouping.{group_untested, group_unread, group_ok, group_err, group_db, group_quiet}
 use Rattle.sled.proofs.Mapping.{group_changes}
 use Rattle.sled.proofs.Keeping.{group_refuses, group_leaves}
+use Rattle.sled.proofs.Writing.{group_wrote}
 use Rattle.sled.proofs.db.Db.apply_group.Goals as goal
 
 pub returns-in-Err-clause-err : goal.returns-in-Err-clause-err
@@ -42,3 +43,6 @@ returns-clause-refuses g c = group_refuses g.P.Pages.store g.M.MergeOperator.mea
 
 pub returns-clause-leaves : goal.returns-clause-leaves
 returns-clause-leaves g c = group_leaves g.P.Pages.store g.M.MergeOperator.meant _ _ c.args.batches.now c.make_group-made.result (returns-clause-ok g c) (returns-clause-err g c)
+
+pub returns-clause-writes : goal.returns-clause-writes
+returns-clause-writes g c = group_wrote g.P.Pages.store g.M.MergeOperator.meant c.args.self.now _ _ c.self.view_is c.self.invariant c.args.batches.now c.make_group-made.result (returns-clause-ok g c)

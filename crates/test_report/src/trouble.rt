@@ -1,7 +1,7 @@
 //! Why a case did not pass.
-use sled::Error;
 use sled_disk::DiskError;
 use sled_files::OpenError;
+use sled_nodes::Error;
 use std::alloc::{AllocError, AllocFailed};
 use std::fmt::{self, Display, Formatter, Write};
 

@@ -1,7 +1,7 @@
 //! How many cases there were, and how many passed.
+use crate::Report;
 use crate::trouble::Result;
 use std::fmt::{self, Display, Formatter, Write};
-use test_report::Report;
 
 /// What a case is called: words, and two numbers.
 #[derive(Clone, Copy, Drop)]
