@@ -49,13 +49,13 @@ use Rattle.machine_alone.specs.Kept.{counts_as}
 use Rattle.machine_alone.specs.Step.{MachineStep, MachineStepContract}
 use Rattle.machine_alone.specs.Values.{MachineValue, configuration_of, slots_of}
 use Rattle.machine_alone.proofs.Runs.{extended}
-use Rattle.machine_shared.specs.Crashes.{TakesThrough, TakesNoMore, TakesOneMore, MakesThrough, MakesNoMore, MakesOneMore, whole_through, through_as, left_by_whole, left_by, LeadsThrough, LeadsNoMore, LeadsOneMore}
+use Rattle.machine_shared.specs.Crashes.{whole_through, through_as, left_by_whole, left_by, LeadsThrough, LeadsNoMore, LeadsOneMore}
 use Rattle.machine_shared.specs.History.{MakesPoint, makes_as, IsLegal, NoEntries, OneEntry, maps_from}
 use Rattle.machine_shared.specs.Moments.{AreMoments, LastMoment}
 use Rattle.machine_shared.specs.Made.{EntryValue, MadeValue, PointMade, WholeMade, PartsMade, ReadMade, TransactionMade, whole_value}
 use Rattle.machine_shared.specs.Notes.{entries_of, noted_as, noted_in}
 use Rattle.machine_shared.specs.Sound.{IsOpen, maps_now, Leads, CrashLeaves, IsState}
-use Rattle.machine_shared.specs.WholeMade.{map_with, TakesLeast, TakesNone, TakesOne, MakesParts, makes_whole_as}
+use Rattle.machine_shared.specs.WholeMade.{map_with, TakesLeast, TakesNone, TakesOne, MakesParts, TakesThrough, TakesNoMore, TakesOneMore, MakesThrough, MakesNoMore, MakesOneMore, makes_whole_as}
 use Rattle.machine_shared.specs.WholeNotes.{noted_with, noted_whole, ComesToWhole, NotesWhole}
 use Rattle.machine_shared.specs.Wholes.{WholeValue}
 use Rattle.machine_shared.specs.Wholes as value

@@ -11,7 +11,7 @@ use Rattle.sled_model.specs.declared.decision.Decision.{Decision}
 use Rattle.sled_model.specs.declared.reply.Reply.{Reply}
 use Rattle.sled_model.specs.declared.reply.Reply.TheVariants.{Number, Done}
 use Rattle.sled_model.specs.declared.tree.Tree.{Tree}
-use Rattle.machine_shared.specs.Wholes.{WholeValue, Flush, PopMin, PopMax, Clear, Group, OpenTree, DropTree, GenerateId, Import, Watch, Next, Unsubscribe}
+use Rattle.machine_shared.specs.Wholes.{WholeValue, Group, GenerateId}
 use Rattle.machine_shared.specs.Made.{MadeValue, PointMade, WholeMade, PartsMade, ReadMade, TransactionMade, EntryValue}
 pub use Rattle.machine_shared.specs.Openings.{maps_from}
 use Rattle.machine_shared.specs.Reads.{reads_as}
@@ -48,19 +48,8 @@ pub data IsLegal : Maps → List EntryValue → Maps → Type 0 where
 
 -- the id that a whole call gave, if it gave one
 abbrev pub id_given : WholeValue → Reply → List ℕ
-id_given Flush reply = []
-id_given (PopMin tree) reply = []
-id_given (PopMax tree) reply = []
-id_given (Clear tree) reply = []
-id_given (Group batches) reply = []
-id_given (OpenTree name) reply = []
-id_given (DropTree name) reply = []
 id_given GenerateId (Number id) = id ∷ []
-id_given GenerateId reply = []
-id_given (Import all) reply = []
-id_given (Watch tree prefix) reply = []
-id_given (Next subscriber) reply = []
-id_given (Unsubscribe subscriber) reply = []
+id_given whole reply = []
 
 -- the id that was given, if one was
 abbrev pub id_made : MadeValue → List ℕ
