@@ -14,4 +14,4 @@ pub use gathering::gather_one;
 pub use handle::{call, read, step_by_handle};
 pub use reading::{next_page, update_and_fetch};
 pub use state::{step, whole};
-pub use transactions::{transaction_all, transaction_of_one};
+pub use transactions::{transaction, transaction_all, transaction_of_one};

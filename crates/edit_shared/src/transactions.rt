@@ -1,8 +1,10 @@
-//! Transactions of one of two callers.
+//! Transactions of callers.
 ghost use Rattle.std.specs.Prelude.{◌≡◌, true};
 ghost use Rattle.std.specs.List.{zip};
 ghost use Rattle.sled.specs.Transactions.{has_trees, trees_of_list};
-ghost use Rattle.machine_shared.specs.Transactions.{AddsTransaction, RunsAllOnce, RunsOnce, batches_of_tree};
+ghost use Rattle.machine_shared.specs.Inside.{RunsOver};
+ghost use Rattle.machine_shared.specs.Transacted.{TransactsUnderLock};
+ghost use Rattle.machine_shared.specs.Transactions.{AddsTransaction, RunsAllOnce, RunsOnce, batches_of_tree, fails_tests};
 
 use machine_shared::{Handle, Lent};
 use sled::{TransactionAnswer, TransactionalTree, TransactionalTrees};
@@ -53,4 +55,22 @@ where
     ensures made { AddsTransaction (RunsAllOnce P.store M.meant F.Fn R.result_of f (trees_of_list trees.now)) (zip (trees_of_list trees.now)) (has_trees (trees_of_list trees.now)) (R.answer_of result) handle.old.made handle.new.made }
 {
     handle.transaction_all(rt, trees, f)
+}
+
+/// A transaction of a tree, under the lock. It is refused for a cause.
+pub fn transaction<
+    P: Pages + Sync,
+    L: Ledger,
+    M: MergeOperator,
+    A: Drop,
+    E,
+    R: TransactionAnswer<A, E>,
+    F,
+>(rt: &impl Wait, handle: &mut Handle<P, L, M>, tree: &Tree, f: F) -> R::Ended
+where
+    F: Fn(&mut TransactionalTree<'_, Lent<'_, P>>) -> R,
+    requires { (shown : _) → F.pre f shown }
+    ensures under_lock { TransactsUnderLock P.store P.flush_number M.meant (fails_tests P.store M.meant tree.now) (RunsOver P.store M.meant F.Fn R.result_of f tree.now) (batches_of_tree tree.now) true (R.answer_of result) handle.old handle.new }
+{
+    handle.transaction(rt, tree, f)
 }

@@ -7,5 +7,7 @@ pub use Rattle.sled.specs as sled
 pub use Rattle.machine_alone.specs as machine_alone
 pub use Rattle.sled_disk.specs as sled_disk
 pub use Rattle.sled_files.specs as sled_files
+pub use Rattle.sled_host.specs as sled_host
+pub use Rattle.sled_once.specs as sled_once
 pub use Rattle.sled_path.specs as sled_path
 pub use Rattle.example_parts.specs as example_parts

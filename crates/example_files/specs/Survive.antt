@@ -1,5 +1,5 @@
 -- What is found in two files after a crash.
-use Rattle.std.specs.Prelude.{◌≡◌, ◌≤◌, List}
+use Rattle.std.specs.Prelude.{◌≡◌, ◌≤◌, Bool, List}
 use Rattle.sled_store.specs.In.{In}
 use Rattle.sled_nodes.specs.Order.{Key}
 use Rattle.sled_nodes.specs.declared.error.Error.{Error}
@@ -17,6 +17,11 @@ use Rattle.machine_alone.specs.Values.{MachineValue}
 use Rattle.sled_files.specs.Stored.{Stored, stored_as, asked_of, flush_number_in}
 use Rattle.sled_files.specs.Opening.{is_refusal}
 use Rattle.sled_files.specs.Laws.{GoesOn}
+use Rattle.sled_host.specs.declared.host.HostFile.{HostFile}
+use Rattle.sled_host.specs.declared.pair.Opening.{Opening}
+use Rattle.sled_once.specs.Once.{Once}
+use Rattle.sled_path.specs.Path.{OpensIn, WereHonest}
+use Rattle.sled_path.specs.Once.{OpensOnceIn, WereHonestOnce}
 use Rattle.example_files.specs.declared.lost.Lost.{Lost}
 use Rattle.example_files.specs.declared.lost.Lost.TheVariants.{Steps, Crash, Files, Database}
 
@@ -41,6 +46,19 @@ pub record Survives {D E M : Type 0} (meant : M → Merge) (name : Key) (old : M
   pub reopens : Reopens name new.db found
   pub keeps : (kept : List Maps) → AreCrashMaps (stored_as old.db.pages) kept → KeepsCrashMaps stored_as flush_number_in meant old steps outcomes new kept
   pub maps : (kept : List Maps) (before : AreCrashMaps (stored_as old.db.pages) kept) → IsOneOf (keeps kept before).last (trees_of (now (stored_as found.pages)))
+
+-- A database that `open` opens in a folder finds maps of each list that a crash might have left of this one before, if the disks were
+-- honest meanwhile
+abbrev pub FindsMaps : {M : Type 0} → DbValue (Stored HostFile) M → Type 0
+FindsMaps {M} old = (opening : Opening) (is_locked : Bool) (name : Key) (new : DbValue (Stored HostFile) M) (is : OpensIn opening is_locked name new)
+    → WereHonest old.pages.files.first old.pages.files.second is.over.is.first is.over.is.second
+    → (kept : List Maps) → AreCrashMaps (stored_as old.pages) kept → IsOneOf kept (trees_of (now (stored_as new.pages)))
+
+-- and so does one that `open_once` opens, if the digest told what was left of the blocks under way
+abbrev pub FindsMapsOnce : {M : Type 0} → DbValue (Stored (Once HostFile)) M → Type 0
+FindsMapsOnce {M} old = (opening : Opening) (is_locked : Bool) (name : Key) (new : DbValue (Stored (Once HostFile)) M) (is : OpensOnceIn opening is_locked name new)
+    → WereHonestOnce old.pages is.is.are
+    → (kept : List Maps) → AreCrashMaps (stored_as old.pages) kept → IsOneOf kept (trees_of (now (stored_as new.pages)))
 
 -- refused for want of memory, or for a fault
 abbrev pub is_passing : Error → Type 0

@@ -35,24 +35,24 @@ pub fn reopen_pages<D: Disk + Send, E: Disk + Send>(
     FilePages::open(alloc, first, second)
 }
 
-/// Opens what a crash left of the files of a machine's store, and a database of this name over it. The maps that are found are those of a
-/// state that a crash may leave: of any list of maps that a crash might leave of the machine they are one. Ids go on above those that the
-/// machine gave; no tree has a merge operator. One of the machine's disks may have refused a call. So a power cut in the midst of a call is
-/// here a disk that did a part of a call, and refused all after it.
-pub fn reopen<D: Disk + Send, E: Disk + Send, M: MergeOperator>(
+/// Opens what a crash left of the files of a database, and a database of this name over it. The maps that are found are those of a state
+/// that a crash may leave: of any list of maps that a crash might leave of the database they are one. Ids go on above those that it gave;
+/// no tree has a merge operator. One of its disks may have refused a call. So a power cut in the midst of a call is here a disk that did a
+/// part of a call, and refused all after it.
+pub fn reopen_db<D: Disk + Send, E: Disk + Send, M: MergeOperator>(
     alloc: Global,
-    machine: &Machine<FilePages<D>, M>,
+    db: &Db<FilePages<D>, M>,
     first: E,
     second: E,
     name: &[u8],
 ) -> Result<Db<FilePages<E>, M>, Lost>
-    requires first { D.may_leave machine.now.db.pages.files.first (E.seen first) }
-    requires second { D.may_leave machine.now.db.pages.files.second (E.seen second) }
-    ensures ok { IfOk result (Reopens name.now machine.now.db) }
+    requires first { D.may_leave db.now.pages.files.first (E.seen first) }
+    requires second { D.may_leave db.now.pages.files.second (E.seen second) }
+    ensures ok { IfOk result (Reopens name.now db.now) }
     ensures err { IfErr result is_no_loss }
 {
-    machine.audit();
-    let pages = match reopen_pages(alloc, machine.db().pages(), first, second) {
+    db.audit();
+    let pages = match reopen_pages(alloc, db.pages(), first, second) {
         Ok(pages) => pages,
         Err(refused) => {
             let why = refused.error;
@@ -67,5 +67,24 @@ pub fn reopen<D: Disk + Send, E: Disk + Send, M: MergeOperator>(
             drop(pages);
             Err(Lost::Database(e))
         }
+    }
+}
+
+/// The same of the files of a machine.
+pub fn reopen<D: Disk + Send, E: Disk + Send, M: MergeOperator>(
+    alloc: Global,
+    machine: &Machine<FilePages<D>, M>,
+    first: E,
+    second: E,
+    name: &[u8],
+) -> Result<Db<FilePages<E>, M>, Lost>
+    requires first { D.may_leave machine.now.db.pages.files.first (E.seen first) }
+    requires second { D.may_leave machine.now.db.pages.files.second (E.seen second) }
+    ensures ok { IfOk result (Reopens name.now machine.now.db) }
+    ensures err { IfErr result is_no_loss }
+{
+    match reopen_db(alloc, machine.db(), first, second, name) {
+        Ok(db) => Ok(db),
+        Err(why) => Err(why),
     }
 }

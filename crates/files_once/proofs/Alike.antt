@@ -39,7 +39,7 @@ from_is (suc most) at bytes ps is =
 pub whole_is : (file : List ℕ) (ps : List (List ℕ)) → log_of digest file ≡ Ok ps → log_to_tear digest file ≡ ps
 whole_is file ps is = from_is (length file) 0 file ps is
 
-blank_is : (file : List ℕ) → IsBlank file → log_to_tear digest file ≡ []
+pub blank_is : (file : List ℕ) → IsBlank file → log_to_tear digest file ≡ []
 blank_is file (inl short) = ends_here digest (length file) file (short_ends digest file short)
 blank_is file (inr log) = whole_is file [] log
 

@@ -5,7 +5,8 @@ ghost use Rattle.sled_disk.specs.declared.disk.DiskError.TheVariants.{NoMemory};
 ghost use Rattle.sled_log.specs.Digest.{digest};
 ghost use Rattle.sled_log.specs.Log.{closed, log_of};
 ghost use Rattle.sled_log.specs.Tear.{log_to_tear};
-ghost use Rattle.sled_files.specs.Header.{magic, header};
+ghost use Rattle.sled_files.specs.Flaws.{format_in};
+ghost use Rattle.sled_files.specs.Header.{magic, header, format};
 ghost use Rattle.files_once.specs.Mended.{IsOfStore, BeginsAsStore, IsMended, LeftMeanwhile};
 
 use sled_disk::{Disk, DiskError, Result, law_only_now};
@@ -32,6 +33,7 @@ fn begins_with_magic(bytes: &[u8]) -> bool
 // Whether a payload begins as the header of a store in this format does.
 fn is_headed(payload: &[u8]) -> bool
     ensures begins { result ≡ true → take 8 payload.now ≡ magic }
+    ensures same { result ≡ true → format_in payload.now ≡ format }
     ensures whole { (generation : ℕ) (first : List ℕ) → payload.now ≡ header generation ++ first → result ≡ true }
 {
     if !begins_with_magic(payload) {

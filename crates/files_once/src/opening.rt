@@ -1,22 +1,23 @@
 //! A store is opened in two files whose blocks are brought to the disk in one sync.
-ghost use Rattle.std.specs.Prelude.{◌≡◌, ◌+◌, ℕ, false, List, IfOk, IfErr, OnOk};
+ghost use Rattle.std.specs.Prelude.{◌≡◌, ◌⊎◌, ◌+◌, ℕ, false, List, IfOk, IfErr, OnOk};
 ghost use Rattle.sled_store.specs.Store.{Store};
-ghost use Rattle.sled_disk.specs.Disk.{Only, LeavesOnly, HasCause};
+ghost use Rattle.sled_disk.specs.Disk.{Only, NoMore, LeavesOnly, HasCause};
 ghost use Rattle.sled_pages.specs.Memory.{empty_store};
 ghost use Rattle.sled_files.specs.Change.{Durable};
 ghost use Rattle.sled_files.specs.Standing.{AreFor, AreBlank};
 ghost use Rattle.sled_files.specs.Lasting.{Limits, AreLimits};
 ghost use Rattle.sled_files.specs.Laws.{GoesOn};
-ghost use Rattle.sled_files.specs.Opening.{IsReopened, OpensTo, AreOpenable, IsTold, IsFresh, is_refusal, is_why_closed};
+ghost use Rattle.sled_files.specs.Opening.{IsReopened, OpensTo, AreOpenable, IsTold, IsFresh, StayAsTheyWere, is_refusal, is_why_closed};
 ghost use Rattle.sled_files.specs.Flaws.{is_flaw};
 ghost use Rattle.sled_files.specs.declared.found.OpenError.{OpenError};
 ghost use Rattle.sled_files.specs.Stored.{stored_as};
 ghost use Rattle.sled_once.specs.Once.{bytes_of, outcomes_of};
-ghost use Rattle.files_once.specs.Mended.{IsMended, LeftMeanwhile};
+ghost use Rattle.sled_once.specs.Stages.{LeavesReadAs};
+ghost use Rattle.files_once.specs.Mended.{IsMended, StayMended, LeftMeanwhile, LeftOrBegun};
 ghost use Rattle.files_once.specs.Lasting.{AreReadFor, AreReadLasting, LastsAsRead, MendedLasts, OpensMended, IsWhyUnmended};
 
 use crate::mending::mend_store;
-use sled_disk::{Disk, DiskError, law_only_now};
+use sled_disk::{Disk, DiskError, law_counts_now, law_may_stay, law_only_now};
 use sled_files::{FilePages, NotOpened, OpenError, law_lasts, law_opened_goes_on};
 use sled_once::{OneSync, law_read_as_left};
 use std::alloc::Global;
@@ -53,6 +54,33 @@ pub fn mend_both<D: Disk>(alloc: Global, first: &mut D, second: &mut D) -> sled_
     Ok(is_first || is_second)
 }
 
+// Why an opening is refused that was refused for one error, and then by a disk: the first, unless it tells what is wrong with the files.
+fn refusal_then(error: OpenError, e: DiskError) -> OpenError
+    ensures is { is_refusal result }
+    ensures first { is_refusal error → result ≡ error }
+{
+    match error {
+        OpenError::NoMemory => OpenError::NoMemory,
+        OpenError::Disk(DiskError::Full) => OpenError::Disk(DiskError::Full),
+        OpenError::Disk(DiskError::Failed) => OpenError::Disk(DiskError::Failed),
+        _ => refusal_of(e),
+    }
+}
+
+// The disk behind a `OneSync`, of which nothing is held back, once an opening was refused, and why it was.
+fn handed_back<D: Disk>(once: OneSync<D>, error: OpenError) -> (D, OpenError)
+    ensures told { (result.1 ≡ error) ⊎ is_refusal result.1 }
+    ensures first { is_refusal error → result.1 ≡ error }
+    ensures seen { (is_refusal result.1 → ⊥) → D.seen result.0 ≡ bytes_of once }
+    ensures left { (is_refusal result.1 → ⊥) → NoMore (outcomes_of once) (D.may_leave result.0) }
+    ensures read { LeavesReadAs (outcomes_of once) (D.may_leave result.0) }
+{
+    match once.into_settled() {
+        Ok(disk) => (disk, error),
+        Err((disk, e)) => (disk, refusal_then(error, e)),
+    }
+}
+
 // Puts a `OneSync` in front of each of two disks.
 fn both_once<D: Disk>(
     alloc: Global,
@@ -61,8 +89,13 @@ fn both_once<D: Disk>(
 ) -> Result<(OneSync<D>, OneSync<D>), NotOpened<D>>
     ensures first { IfOk result (λ x. bytes_of x.0 ≡ D.seen first) }
     ensures second { IfOk result (λ x. bytes_of x.1 ≡ D.seen second) }
+    ensures first_only { IfOk result (λ x. Only (D.seen first) (outcomes_of x.0)) }
+    ensures second_only { IfOk result (λ x. Only (D.seen second) (outcomes_of x.1)) }
     ensures err { IfErr result (λ x. is_refusal x.error) }
+    ensures first_left { IfErr result (λ x. LeavesReadAs (D.may_leave first) (D.may_leave x.first)) }
+    ensures second_left { IfErr result (λ x. LeavesReadAs (D.may_leave second) (D.may_leave x.second)) }
 {
+    law_may_stay(&first);
     let first = match OneSync::new(alloc, first) {
         Ok(first) => first,
         Err((first, e)) => {
@@ -75,11 +108,14 @@ fn both_once<D: Disk>(
     };
     match OneSync::new(alloc, second) {
         Ok(second) => Ok((first, second)),
-        Err((second, e)) => Err(NotOpened {
-            error: refusal_of(e),
-            first: first.into_disk(),
-            second,
-        }),
+        Err((second, e)) => {
+            let (first, error) = handed_back(first, refusal_of(e));
+            Err(NotOpened {
+                error,
+                first,
+                second,
+            })
+        }
     }
 }
 
@@ -112,7 +148,14 @@ pub fn open_mended<D: Disk>(
     ensures told { IfErr result (λ x. (e : OpenError) → is_flaw e (D.seen first) (D.seen second) → IsTold e x.error) }
     // If they stand for a store, or for one that is still to be made, it is refused for want of memory or by a disk alone.
     ensures refused { IfErr result (λ x. AreOpenable (D.seen first) (D.seen second) → is_refusal x.error) }
+    // Whatever refuses it, a crash leaves of the disks what is read as what it might have left, or what begins a store in two blank files.
+    ensures first_left { IfErr result (λ x. LeavesReadAs (LeftOrBegun (D.may_leave first) (D.seen first) (D.seen second)) (D.may_leave x.first)) }
+    ensures second_left { IfErr result (λ x. LeavesReadAs (D.may_leave second) (D.may_leave x.second)) }
+    // Refused for another cause, the disks have what they had, and nothing was written.
+    ensures stay { IfErr result (λ x. (is_refusal x.error → ⊥) → StayAsTheyWere D.seen D.may_leave first second x.first x.second) }
 {
+    law_may_stay(&first);
+    law_may_stay(&second);
     let (first, second) = match both_once(alloc, first, second) {
         Ok(both) => both,
         Err(refused) => return Err(refused),
@@ -125,10 +168,12 @@ pub fn open_mended<D: Disk>(
                 first,
                 second,
             } = refused;
+            let (first, error) = handed_back(first, error);
+            let (second, error) = handed_back(second, error);
             Err(NotOpened {
                 error,
-                first: first.into_disk(),
-                second: second.into_disk(),
+                first,
+                second,
             })
         }
     }
@@ -162,11 +207,20 @@ pub fn open_once<D: Disk>(
     ensures err { IfErr result (λ x. IsWhyUnmended (D.seen first) (D.seen second) x.error) }
     // And it is refused for want of memory or by a disk alone.
     ensures refused { IfErr result (λ x. (d : Durable) → AreReadFor (D.seen first) (D.seen second) d → is_refusal x.error) }
+    // Whatever refuses it, a crash leaves of the disks what is read as what it might have left, or what begins a store in two blank files.
+    ensures first_left { IfErr result (λ x. LeavesReadAs (LeftOrBegun (D.may_leave first) (D.seen first) (D.seen second)) (D.may_leave x.first)) }
+    ensures second_left { IfErr result (λ x. LeavesReadAs (D.may_leave second) (D.may_leave x.second)) }
+    // Refused for another cause, both files were mended, which are on the disks, and nothing else was written.
+    ensures stay { IfErr result (λ x. (is_refusal x.error → ⊥) → StayMended D.seen D.may_leave first second x.first x.second) }
 {
     law_opened_goes_on();
+    law_may_stay(&first);
+    law_may_stay(&second);
     let mut first = first;
     let mut second = second;
     if let Err(e) = mend_both(alloc, &mut first, &mut second) {
+        law_counts_now(&first);
+        law_counts_now(&second);
         return Err(NotOpened {
             error: refusal_of(e),
             first,

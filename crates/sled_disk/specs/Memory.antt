@@ -1,6 +1,7 @@
 -- What a disk in memory shows.
-use Rattle.std.specs.Prelude.{◌≡◌, ℕ, ◌+◌, min, false, length, List, [], ◌∷◌, ◌++◌, Result, OnOk, OnErr, IfErr}
+use Rattle.std.specs.Prelude.{◌≡◌, ℕ, ◌+◌, ◌^◌, ◌<◌, min, false, length, List, [], ◌∷◌, ◌++◌, Result, OnOk, OnErr, IfErr}
 use Rattle.std.specs.Global.{Vec}
+use Rattle.std.specs.List.{All}
 use Rattle.sled_disk.specs.declared.disk.DiskError.{DiskError}
 use Rattle.sled_disk.specs.declared.memory.MemoryDisk.{MemoryDisk}
 use Rattle.sled_disk.specs.declared.memory.Call.{Call}
@@ -42,6 +43,15 @@ left_by_choices m numbers = (left_by (history_of m).1 numbers (history_of m).0).
 
 abbrev pub choices_left : MemoryDisk → List ℕ → List ℕ
 choices_left m numbers = (left_by (history_of m).1 numbers (history_of m).0).1
+
+-- by some numbers of 64 bits, as many as it takes, `crash` leaves this
+abbrev pub IsChosen : MemoryDisk → List ℕ → Type 0
+IsChosen m c = (numbers : List ℕ) × All (λ n. n < 2 ^ 64) numbers × (left_by_choices m numbers ≡ c)
+
+-- Each outcome that the disk may leave is left by some numbers, if it is one of bytes: `Torn` does not say that what a crash leaves
+-- in the range of a write is below 256.
+pub record ChoosesAll (m : MemoryDisk) : Type 0 where
+  pub each : (c : List ℕ) → outcomes_of m c → All (λ b. b < 256) c → IsChosen m c
 
 -- the numbers of the calls that are refused
 abbrev pub calls_refused : MemoryDisk → List ℕ

@@ -7,8 +7,10 @@
 
 mod choices;
 mod disk;
+mod laws;
 mod memory;
 
 pub use choices::Choices;
 pub use disk::{Disk, DiskError, Result, law_counts_now, law_may_stay, law_only_now};
+pub use laws::law_chooses_all;
 pub use memory::MemoryDisk;

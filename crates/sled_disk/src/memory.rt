@@ -4,7 +4,7 @@ ghost use Rattle.std.proofs.Common.{inl};
 ghost use Rattle.sled_disk.specs.declared.disk.DiskError.TheVariants.{NoMemory, Full, Failed};
 ghost use Rattle.sled_disk.specs.Disk.{written, is_caused, HasCause};
 ghost use Rattle.sled_disk.specs.Refusals.{last_number, is_refused, refusal_of};
-ghost use Rattle.sled_disk.specs.Calls.{seen_after_all, seen_after};
+ghost use Rattle.sled_disk.specs.Calls.{seen_after_all, seen_after, IsFile, WritesFit};
 ghost use Rattle.sled_disk.specs.Choices.{left_of};
 ghost use Rattle.sled_disk.specs.Chosen.{byte_by, bytes_by, count_by, several_by, torn_by, numbers_of_write, shortened_by, made_by, numbers_of, is_sync};
 ghost use Rattle.std.specs.List.{list_any};
@@ -44,6 +44,8 @@ pub struct MemoryDisk {
     refused: Vec<u64>,
     faults: u64,
     ghost replayed: { bytes.items ≡ seen_after_all calls.items first.items },
+    ghost begun: { IsFile first.items },
+    ghost fits: { WritesFit calls.items first.items },
 }
 
 // The fault of a write, or of another call.
@@ -281,8 +283,9 @@ impl MemoryDisk {
         })
     }
 
-    /// What a crash leaves: a file of its own, all of it on the disk, which refuses no call. The numbers choose among outcomes that
-    /// the disk may leave: of each call since the last sync, the first of them first.
+    /// What a crash leaves: a file of its own, all of it on the disk, which refuses no call. The numbers choose among the outcomes that
+    /// the disk may leave, and some numbers choose each of those (`law_chooses_all`). They choose for each call since the last sync, the
+    /// first of them first.
     ///
     /// - Of a write of a single byte within the file, a number says whether it is lost (1) or not (0).
     /// - Of any other write, the first number says how many bytes are written past the old end. Then a number for each byte says

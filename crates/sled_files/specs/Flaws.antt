@@ -1,4 +1,4 @@
--- What is wrong with two files that are those of no store.
+-- What is wrong with two files that are not those of a store.
 use Rattle.std.specs.Prelude.{◌≡◌, ◌⊎◌, ◌<◌, ◌≤◌, ℕ, List, ◌∷◌, ◌++◌, length, take, drop, Ok, Err}
 use Rattle.std.specs.Int.{w32, from_le_bytes}
 use Rattle.sled_log.specs.Digest.{digest}
@@ -63,7 +63,7 @@ pub record AreEven (first second : List ℕ) : Type 0 where
   pub first_is : OfGeneration first generation
   pub second_is : OfGeneration second generation
 
--- the file that counts has a closed gate at this place, and before it changes that are none of a store
+-- the file that counts has a closed gate at this place, and before it changes that no store makes
 pub record IsNoStore (place : ℕ) (one other : List ℕ) : Type 0 where
   pub generation : ℕ
   pub is : OfGeneration one generation

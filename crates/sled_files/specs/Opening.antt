@@ -17,7 +17,7 @@ use Rattle.sled_files.specs.Stored.{Stored}
 abbrev pub AreOpenable : List ℕ → List ℕ → Type 0
 AreOpenable first second = AreBlank first second ⊎ ((d : Durable) × AreFor first second d)
 
--- two files are those of no store, nor of one that is still to be made
+-- two files are not those of a store, nor of one that is still to be made
 pub record AreOfNone (first second : List ℕ) : Type 0 where
   pub no_blanks : AreBlank first second → ⊥
   pub no_store : (d : Durable) → AreFor first second d → ⊥
@@ -52,7 +52,7 @@ is_refusal NoMemory = Unit {0}
 is_refusal (Disk e) = is_fault e
 is_refusal _ = ⊥
 
--- why no store was opened: a disk refused a call for a fault, or as the two files are of none
+-- why no store was opened: a disk refused a call for a fault, or the two files are not those of a store
 abbrev pub is_why_closed : OpenError → List ℕ → List ℕ → Type 0
 is_why_closed (Disk e) first second = is_fault e
 is_why_closed e first second = is_why_unopened e first second

@@ -565,7 +565,7 @@ impl<D: Disk> FilePages<D> {
 
 impl<D: Disk + Send> Pages for FilePages<D> {
     ghost use Rattle.sled_files.specs.Stored.{stored_as, asked_of, flush_number_in, KeepsFiles, KeepsRule, AsksFor};
-    ghost use Rattle.sled_files.specs.Codes.{IsUnstored, LacksRoom, FailsAnew, FailsOn, is_why_ungiven, StopsOnlyAsFailed, SaysThatItFailed};
+    ghost use Rattle.sled_files.specs.Codes.{IsUnstored, LacksRoom, FailsAnew, FailsInMemory, FailsOn, is_why_ungiven, StopsOnlyAsFailed, SaysThatItFailed};
     ghost use Rattle.sled_files.specs.Raised.{FlushesOn, FlushesAnew, Reaches, ReachesOrFails};
     ghost use Rattle.sled_files.specs.Files.{LeavesPairs, IsGrown};
     ghost use Rattle.sled_files.specs.Lasting.{IsLasting};
@@ -688,6 +688,8 @@ impl<D: Disk + Send> Pages for FilePages<D> {
     ) -> Result<std::result::Result<(), Option<Version>>>
         ensures ok { IfOk result (Frees pid version (stored_as self.old) (stored_as self.new)) }
         ensures err { IfErr result (λ e. IsRefused e (stored_as self.old) (stored_as self.new)) }
+        // The pages in memory refuse it, which is no fault of the files.
+        ensures cause { IfErr result (λ e. FailsInMemory self.old self.new e) }
         // What the next flush adds to the log is longer by this change.
         ensures adds { IfOk result (λ made. AddsMade (λ _. Freed pid) made self.old.pending self.new.pending) }
         ensures kept { OnErr result (self.new.pending ≡ self.old.pending) }
@@ -704,6 +706,8 @@ impl<D: Disk + Send> Pages for FilePages<D> {
     ) -> Result<std::result::Result<(), Option<Pid>>>
         ensures ok { IfOk result (SwapsRoot name.now old new (stored_as self.old) (stored_as self.new)) }
         ensures err { IfErr result (λ e. IsRefused e (stored_as self.old) (stored_as self.new)) }
+        // The pages in memory refuse it, which is no fault of the files.
+        ensures cause { IfErr result (λ e. FailsInMemory self.old self.new e) }
         // What the next flush adds to the log is longer by this change.
         ensures adds { IfOk result (λ made. AddsMade (λ _. Rooted name.now new) made self.old.pending self.new.pending) }
         ensures kept { OnErr result (self.new.pending ≡ self.old.pending) }
@@ -716,6 +720,8 @@ impl<D: Disk + Send> Pages for FilePages<D> {
         requires { (now (stored_as self.old)).in_group ≡ false }
         ensures ok { OnOk result (stored_as self.new ≡ after_action GroupBegins (stored_as self.old)) }
         ensures err { IfErr result (λ e. IsRefused e (stored_as self.old) (stored_as self.new)) }
+        // The pages in memory refuse it, which is no fault of the files.
+        ensures cause { IfErr result (λ e. FailsInMemory self.old self.new e) }
         // What the next flush adds to the log is longer by this change.
         ensures adds { OnOk result (self.new.pending ≡ self.old.pending ++ change_bytes Begun) }
         ensures kept { OnErr result (self.new.pending ≡ self.old.pending) }
@@ -728,6 +734,8 @@ impl<D: Disk + Send> Pages for FilePages<D> {
         requires { (now (stored_as self.old)).in_group ≡ true }
         ensures ok { OnOk result (stored_as self.new ≡ after_action GroupEnds (stored_as self.old)) }
         ensures err { IfErr result (λ e. IsRefused e (stored_as self.old) (stored_as self.new)) }
+        // The pages in memory refuse it, which is no fault of the files.
+        ensures cause { IfErr result (λ e. FailsInMemory self.old self.new e) }
         // What the next flush adds to the log is longer by this change.
         ensures adds { OnOk result (self.new.pending ≡ self.old.pending ++ change_bytes Sealed) }
         ensures kept { OnErr result (self.new.pending ≡ self.old.pending) }
@@ -789,6 +797,8 @@ impl<D: Disk + Send> Pages for FilePages<D> {
         ensures err { IfErr result (λ e. IsRefused e (stored_as self.old) (stored_as self.new)) }
         ensures asked { OnOk result (self.new.asked ≡ self.old.asked) }
         ensures asks { OnErr result (AsksFor upto self.old self.new) }
+        // What waits for the next flush stays.
+        ensures pending { self.new.pending ≡ self.old.pending }
         // Once a disk refused a call, it is refused, and says that.
         ensures up { OnOk result ((self.old.files.failed ≡ false) × (self.new.files.failed ≡ false)) }
         ensures stops { IfErr result (StopsOnlyAsFailed D.faults self.old self.new) }

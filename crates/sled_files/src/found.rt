@@ -37,11 +37,9 @@ impl Display for OpenError {
     fn fmt<W: Write>(&self, f: &mut Formatter<W>) -> fmt::Result {
         match self {
             OpenError::NoMemory => f.write_str("no memory"),
-            OpenError::NotAStore => f.write_str("a file is none of a store"),
+            OpenError::NotAStore => f.write_str("a file is not part of a store"),
             OpenError::OtherFormat(format) => write!(f, "a file is of a store in format {format}"),
-            OpenError::Decayed(place) => {
-                write!(f, "a file has decayed, as is found at its byte {place}")
-            }
+            OpenError::Decayed(place) => write!(f, "a file is damaged at byte {place}"),
             OpenError::Disk(_) => f.write_str("a disk refused a call"),
         }
     }

@@ -20,9 +20,9 @@ impl<D: Disk> FilePages<D> {
     ghost use Rattle.sled_files.specs.Stored.{stored_as};
 
     /// Opens a store in two files: the one that they stand for, as a crash or a drop left it, or a new one if both are blank. What the
-    /// files have is brought to the disks first. Refused if they are of none (`NotAStore`, `OtherFormat`, `Decayed`), for want of memory,
-    /// or by a disk. Then the disks are handed back: a read returns what it did, and a crash leaves what it might have left before. If both
-    /// were blank, the first may have a part of a new store.
+    /// files have is synced first. Refused if they are not a store's (`NotAStore`, `OtherFormat`, `Decayed`), for want of memory, or by a
+    /// disk. Then the disks are handed back: a read returns what it did, and a crash leaves what it might have left before. If both were
+    /// blank, the first may have a part of a new store.
     ///
     /// ```
     /// match FilePages::open(alloc, first, second) {

@@ -33,7 +33,7 @@ pub struct HostFile {
 impl HostFile {
     ghost use Rattle.sled_host.specs.Host.{calls_of, bytes_of, outcomes_of, faults_of};
 
-    /// An open file, brought to the disk and read.
+    /// An open file, synced and read.
     pub(crate) fn settle(alloc: Global, file: OpenFile) -> io::Result<HostFile>
         ensures opened { IfOk result (λ f. calls_of f ≡ opened file.is_new (bytes_of f) ∷ []) }
         ensures lock { IfOk result (λ f. f.system.lock ≡ file.lock) }

@@ -7,8 +7,8 @@
 //!
 //! 1. Each method of `SystemFile` (src/system.rt) makes the call that it notes. A body that notes a sync and makes none would be proved
 //!    too, so these few lines have to be read.
-//! 2. The opening says whether it made the file, and reads what the disk has: a sync of the file goes before the read. If an earlier process had a failed sync, the
-//!    system may still show bytes in its memory that the disk does not have; std has no call that drops them.
+//! 2. The opening says whether it made the file, and reads what the disk has: a sync of the file goes before the read. If a sync failed in
+//!    an earlier process, the system may still show bytes in its memory that the disk does not have; std has no call that drops them.
 //! 3. The disk is honest (`IsHonest` in specs/Host.antt): what the next opening reads is what the calls of this one may have left. So a
 //!    sync that was answered keeps all, and the disk does not decay. A write changes no byte outside of its range, a write of one byte
 //!    within the file leaves the old byte or the new one, and a cut leaves a beginning. A call under way when the machine stops counts
@@ -16,8 +16,8 @@
 //! 4. No one else changes the files: the lock keeps out programs that ask for it, and no others.
 //!
 //! Of the opening little is proved. A file has what was read. None is made if that is not wanted. It is locked, unless the system answered
-//! that it cannot lock it, and that is refused only if a lock is needed. That the files are locked and regular, and that the folder is brought to the disk, is tested
-//! or read from the code alone.
+//! that it cannot lock it, and that is refused only if a lock is needed. That the files are locked and regular, and that the folder is
+//! synced, is tested or read from the code alone.
 #![tactic(auto)]
 
 mod host;

@@ -84,8 +84,8 @@ impl Display for HostError {
             HostError::NoMemory => f.write_str("no memory"),
             HostError::Locked => f.write_str("the store is open elsewhere"),
             HostError::NoLocks(error) => write!(f, "the files cannot be locked: {error}"),
-            HostError::NotAFolder => f.write_str("the path of the store is no folder"),
-            HostError::NotAFile => f.write_str("a file of the store is no regular file"),
+            HostError::NotAFolder => f.write_str("the path of the store is not a folder"),
+            HostError::NotAFile => f.write_str("a file of the store is not a regular file"),
             HostError::Io(error) => write!(f, "{error}"),
         }
     }
@@ -93,12 +93,13 @@ impl Display for HostError {
 
 impl std::error::Error for HostError {}
 
-/// Opens the files `log.0` and `log.1` in the folder of this path, each of them with all that it has brought to the disk. A folder is
-/// made in one that is there. What is made is on the disk with its name. A refusal may leave a folder or files that were made.
+/// Opens the files `log.0` and `log.1` in the folder of this path, and syncs all that each of them has. A folder is made in one that is
+/// there. What is made is on the disk with its name. A refusal may leave a folder or files that were made.
 ///
 /// Refused with `Locked` if a file is open elsewhere, and with `NoLocks` if the file system has no locks and they are needed; with
 /// `NotAFolder` or `NotAFile` if something else is at the path or at the name of a file; with `NoMemory`; and with `Io` as the system
-/// refused a call, of the kind `NotFound` if something is not there and is not to be made.
+/// refused a call, of the kind `NotFound` if something is not there and is not to be made. Of these causes a clause says only that
+/// `NoLocks` comes if locks are needed.
 ///
 /// ```
 /// let pair = open_pair(&rt, "people.db", Opening { creates: true, needs_lock: true })?;
@@ -234,7 +235,7 @@ fn lock(file: &mut OpenFile, needs_lock: bool) -> Result<bool, HostError>
     }
 }
 
-// Brings the names of the files to the disk, and that of the folder.
+// Syncs the names of the files, and that of the folder.
 fn sync_names(rt: &HostRuntime, folder: PathBuf, is_new: bool) -> io::Result<()> {
     sync_folder(rt, folder.as_str())?;
     sync_parent(rt, folder, is_new)
@@ -244,7 +245,7 @@ fn sync_folder(rt: &HostRuntime, path: &str) -> io::Result<()> {
     File::open(rt, path)?.sync_all()
 }
 
-// Brings the name of a folder to the disk. One that was there may be in a folder that this process cannot read.
+// Syncs the name of a folder. One that was there may be in a folder that this process cannot read.
 fn sync_parent(rt: &HostRuntime, mut folder: PathBuf, is_new: bool) -> io::Result<()> {
     if !folder.pop() {
         return Ok(());

@@ -23,13 +23,13 @@ unsafe impl Send for Record {}
 /// A call, and what the system answered.
 #[derive(Clone, Copy, Drop)]
 pub enum Call<'a> {
-    /// The file was made, or was there; it was brought to the disk, and then these bytes were read, all that it has.
+    /// The file was made, or was there; it was synced, and then these bytes were read, all that it has.
     Opened(bool, &'a [u8]),
     /// These bytes were to be written at this place; whether all were.
     Wrote(usize, &'a [u8], bool),
     /// The file was to be cut to this length; whether it was.
     Cut(usize, bool),
-    /// All was to be brought to the disk; whether it was.
+    /// All was to be synced; whether it was.
     Synced(bool),
 }
 

@@ -1,5 +1,4 @@
-//! The calls of the system by which a file is opened, locked, read, written, cut and brought to the disk. Each method of an open file makes
-//! one, and then notes it with its answer.
+//! The calls of the system that open, lock, read, write, cut and sync a file. A `SystemFile` makes each, and notes it with its answer.
 ghost use Rattle.std.specs.Prelude.{◌≡◌, true, false, [], ◌∷◌, is_ok, IfOk, IfSome};
 ghost use Rattle.sled_host.specs.Event.{opened, wrote, cut, synced};
 ghost use Rattle.sled_host.specs.theory.Locks.{answer_of};
@@ -12,10 +11,9 @@ use std::io::{self, ErrorKind, Read};
 use std::os::fd::AsRawFd;
 use std::os::unix::fs::{FileExt, MetadataExt};
 
-/// What the system answered when a file was to be locked.
+/// What the system answered when a file was to be locked, if it was asked.
 #[derive(Clone, Copy)]
 pub enum Lock {
-    /// It was not asked.
     Unasked,
     /// The file is locked as long as it is open.
     Held,
@@ -61,7 +59,6 @@ impl OpenFile {
         })
     }
 
-    /// Locks it for as long as it is open.
     pub fn lock(&mut self) -> std::result::Result<(), TryLockError>
         ensures noted { self.new.lock ≡ answer_of result }
         ensures same { self.new.is_new ≡ self.old.is_new }
@@ -92,7 +89,7 @@ pub struct SystemFile {
 }
 
 impl SystemFile {
-    /// Brings an open file to the disk, and reads all that it has.
+    /// Syncs an open file, and reads all that it has.
     pub fn settle(alloc: Global, found: OpenFile) -> io::Result<(SystemFile, Vec<u8>)>
         ensures opened { IfOk result (λ it. it.0.record.events ≡ opened found.is_new it.1.items ∷ []) }
         ensures lock { IfOk result (λ it. it.0.lock ≡ found.lock) }
@@ -114,7 +111,6 @@ impl SystemFile {
         answer
     }
 
-    /// Cuts the file to a length.
     pub fn cut(&mut self, len: usize) -> io::Result<()>
         ensures { self.new.record.events ≡ cut len (is_ok result) ∷ self.old.record.events }
     {
@@ -123,7 +119,6 @@ impl SystemFile {
         answer
     }
 
-    /// Brings all to the disk.
     pub fn sync(&mut self) -> io::Result<()>
         ensures { self.new.record.events ≡ synced (is_ok result) ∷ self.old.record.events }
     {
@@ -148,7 +143,6 @@ fn off_streams(file: File) -> io::Result<File> {
     }
 }
 
-// All bytes of a file that was just opened.
 fn whole(alloc: Global, mut file: &File) -> io::Result<Vec<u8>> {
     let mut bytes = Vec::new(alloc);
     file.read_to_end(&mut bytes)?;

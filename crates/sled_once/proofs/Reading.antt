@@ -10,7 +10,7 @@ use Rattle.sled_log.proofs.ReadingLemmas.{digest_small}
 use Rattle.sled_log.proofs.Tearing.{log_reads, torn_gate}
 use Rattle.sled_host.specs.Event.{Event}
 use Rattle.sled_host.specs.Outcomes.{LeftAfterAll, MayLeave}
-use Rattle.sled_once.specs.Stages.{IsBlock, EndsIn, IsReadAsLeft, IsToldAt, IsTold, IsHeld, IsOpen, IsTornFrom, Agrees}
+use Rattle.sled_once.specs.Stages.{IsBlock, EndsIn, IsReadAsLeft, IsToldAt, IsTold, IsHeld, IsOpen, IsTornFrom, IsOver, LeavesReadAs, Agrees}
 use Rattle.sled_once.specs.declared.stage.Stage.{Stage}
 use Rattle.sled_once.specs.declared.stage.Stage.TheVariants.{Through, Held, Opened, Torn as TornOff, Stopped}
 use Rattle.sled_once.proofs.Ending.{block_for, with_block, behind_closed}
@@ -93,3 +93,11 @@ module _ {D : Type 0} (seen : D → List ℕ) (may_leave : D → List ℕ → Ty
   reads (Opened gate block) o c left told = read_open gate block.items o c left told
   reads (TornOff gate block) a c left told = a c left told
   reads Stopped a c left told = a c left
+
+-- what is left once a call was refused
+pub read_over : {D : Type 0} (seen : D → List ℕ) (may_leave : D → List ℕ → Type 0) (disk : D) (calls : List Event) (stage : Stage) → IsOver stage → Agrees seen may_leave stage disk calls → LeavesReadAs (MayLeave calls) (may_leave disk)
+read_over seen may_leave disk calls (Through end synced) o agrees = absurd o
+read_over seen may_leave disk calls (Held gate block) o agrees = absurd o
+read_over seen may_leave disk calls (Opened gate block) o agrees = absurd o
+read_over seen may_leave disk calls (TornOff gate block) o agrees = record { gate = gate; bytes = block.items; each = λ c left told. let r : IsReadAsLeft calls c = agrees c left told in (r.file, r.left, r.is_read) }
+read_over seen may_leave disk calls Stopped o agrees = record { gate = 0; bytes = []; each = λ c left told. let r : IsReadAsLeft calls c = agrees c left in (r.file, r.left, r.is_read) }

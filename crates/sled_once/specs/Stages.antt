@@ -52,7 +52,13 @@ pub record IsReadAsLeft (calls : List Event) (c : List ℕ) : Type 0 where
 abbrev pub IsToldAt : ℕ → List ℕ → List ℕ → Type 0
 IsToldAt gate bytes c = (read new : List ℕ) → next_of digest (drop gate c) ≡ Ok (Some read) → bytes ≡ behind_gate digest new → read ≡ new
 
--- the same of the block under way, if its gate may be open on the disk
+-- What a crash leaves is read as one of these files, if the digest tells what was left of some block
+pub record LeavesReadAs (files may_leave : List ℕ → Type 0) : Type 0 where
+  pub gate : ℕ
+  pub bytes : List ℕ
+  pub each : (c : List ℕ) → may_leave c → IsToldAt gate bytes c → (file : List ℕ) × files file × IsReadAs file c
+
+-- the digest tells what was left of the block under way, if its gate may be open on the disk
 abbrev pub IsTold : Stage → List ℕ → Type 0
 IsTold (Through end synced) c = Unit {0}
 IsTold (Held gate block) c = Unit {0}
@@ -70,6 +76,12 @@ abbrev pub IsOver : Stage → Type 0
 IsOver (TornOff gate block) = Unit {0}
 IsOver Stopped = Unit {0}
 IsOver _ = ⊥
+
+-- no block is under way, or no more calls are made: a call may be refused
+abbrev pub IsAtRest : Stage → Type 0
+IsAtRest (Held gate block) = ⊥
+IsAtRest (Opened gate block) = ⊥
+IsAtRest _ = Unit {0}
 
 -- no block is under way: the disk has what the calls made of it
 pub record IsThrough {D : Type 0} (seen : D → List ℕ) (may_leave : D → List ℕ → Type 0) (end : End) (synced : Bool) (disk : D) (calls : List Event) : Type 0 where

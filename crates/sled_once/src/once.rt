@@ -1,10 +1,11 @@
 //! A disk that brings a block and its gate to another one in one sync.
-ghost use Rattle.std.specs.Prelude.{◌≡◌, ◌≤◌, ◌+◌, ◌&&◌, ℕ, List, false, length, take, drop, IfOk, IfErr, OnOk, [], ◌∷◌};
+ghost use Rattle.std.specs.Prelude.{◌≡◌, ◌≤◌, ◌+◌, ◌&&◌, ℕ, List, false, length, take, drop, IfOk, IfErr, OnOk, OnErr, [], ◌∷◌};
 ghost use Rattle.std.proofs.Common.{inl, refl};
 ghost use Rattle.sled_disk.specs.Disk.{Only, NoMore, LeavesOnly, HasCause, is_caused};
 ghost use Rattle.sled_host.specs.Event.{opened};
+ghost use Rattle.sled_host.specs.Stops.{told_as};
 ghost use Rattle.sled_once.specs.Once.{Once, LeavesAsRead};
-ghost use Rattle.sled_once.specs.Stages.{Stands, EndsAs, is_through};
+ghost use Rattle.sled_once.specs.Stages.{Stands, EndsAs, IsOver, IsAtRest, LeavesReadAs, is_through};
 
 use crate::holding::end_found;
 use crate::stage::{End, Stage};
@@ -134,6 +135,43 @@ impl<D: Disk> OneSync<D> {
         disk
     }
 
+    /// The disk behind it, once a block that is held back was brought to it behind its closed gate, and an open one in the sync that it has
+    /// not had. A read of it returns what one of this returned. Refused by the disk, which is handed back, or as failed once it is over.
+    ///
+    /// ```
+    /// if let Ok(once) = OneSync::new(alloc, disk) {
+    ///     match once.into_settled() {
+    ///         Ok(disk) => drop(disk),       // It has what was written.
+    ///         Err((disk, _)) => drop(disk), // The disk refused a call.
+    ///     }
+    /// }
+    /// ```
+    pub fn into_settled(self) -> std::result::Result<D, (D, DiskError)>
+        ensures seen { IfOk result (λ d. D.seen d ≡ bytes_of self) }
+        ensures left { IfOk result (λ d. NoMore (outcomes_of self) (D.may_leave d)) }
+        ensures calm { IfOk result (λ d. D.faults d ≡ D.faults self.disk) }
+        // Refused, it leaves at a crash what is read as something that it might have left.
+        ensures told { IfErr result (λ x. LeavesReadAs (outcomes_of self) (D.may_leave x.0)) }
+        ensures over { IsOver self.stage → result ≡ Err (self.disk, told_as self.refused false) }
+        ensures cause { IfErr result (λ x. (IsOver self.stage → ⊥) → is_caused (D.faults self.disk) (D.faults x.0) x.1) }
+    {
+        let OneSync {
+            alloc: _,
+            mut disk,
+            noted,
+            stage,
+            mut refused,
+        } = self;
+        drop(noted);
+        match settle(&mut disk, stage, &mut refused) {
+            Ok(_) => Ok(disk),
+            Err((over, e)) => {
+                drop(over);
+                Err((disk, e))
+            }
+        }
+    }
+
     /// The disk behind it, to be looked at.
     ///
     /// ```
@@ -178,6 +216,7 @@ impl<D: Disk> Disk for OneSync<D> {
         ensures time { Elapses (moment_of self.old) (moment_of self.new) (outcomes_since self.old) (outcomes_since self.new) (outcomes_of self.new) }
         ensures cause { HasCause (faults_of D.faults self.old) (faults_of D.faults self.new) result }
         ensures stopped { StaysStopped self.old self.new result }
+        ensures rests { OnErr result (IsAtRest self.new.stage) }
     {
         let stage = std::mem::replace(&mut self.stage, Stage::Stopped);
         match settle(&mut self.disk, stage, &mut self.refused) {
@@ -200,6 +239,7 @@ impl<D: Disk> Disk for OneSync<D> {
         ensures time { Elapses (moment_of self.old) (moment_of self.new) (outcomes_since self.old) (outcomes_since self.new) (outcomes_of self.new) }
         ensures cause { HasCause (faults_of D.faults self.old) (faults_of D.faults self.new) result }
         ensures stopped { StaysStopped self.old self.new result }
+        ensures rests { OnErr result (IsAtRest self.new.stage) }
     {
         let stage = std::mem::replace(&mut self.stage, Stage::Stopped);
         match settle(&mut self.disk, stage, &mut self.refused) {
@@ -228,6 +268,7 @@ impl<D: Disk> Disk for OneSync<D> {
         ensures time { Elapses (moment_of self.old) (moment_of self.new) (outcomes_since self.old) (outcomes_since self.new) (outcomes_of self.new) }
         ensures cause { HasCause (faults_of D.faults self.old) (faults_of D.faults self.new) result }
         ensures stopped { StaysStopped self.old self.new result }
+        ensures rests { OnErr result (IsAtRest self.new.stage) }
     {
         let stage = std::mem::replace(&mut self.stage, Stage::Stopped);
         let (next, answer) = put(
@@ -250,6 +291,7 @@ impl<D: Disk> Disk for OneSync<D> {
         ensures time { Elapses (moment_of self.old) (moment_of self.new) (outcomes_since self.old) (outcomes_since self.new) (outcomes_of self.new) }
         ensures cause { HasCause (faults_of D.faults self.old) (faults_of D.faults self.new) result }
         ensures stopped { StaysStopped self.old self.new result }
+        ensures stops { OnErr result (IsOver self.new.stage) }
     {
         let stage = std::mem::replace(&mut self.stage, Stage::Stopped);
         let (next, answer) = shorten(&mut self.disk, stage, &mut self.refused, len);
@@ -265,6 +307,7 @@ impl<D: Disk> Disk for OneSync<D> {
         ensures time { Elapses (moment_of self.old) (moment_of self.new) (outcomes_since self.old) (outcomes_since self.new) (outcomes_of self.new) }
         ensures cause { HasCause (faults_of D.faults self.old) (faults_of D.faults self.new) result }
         ensures stopped { StaysStopped self.old self.new result }
+        ensures stops { OnErr result (IsOver self.new.stage) }
     {
         let stage = std::mem::replace(&mut self.stage, Stage::Stopped);
         let (next, answer) = bring(&mut self.disk, stage, &mut self.refused);

@@ -1,10 +1,10 @@
 //! The calls of a disk that holds blocks back, and what the disk behind it has after each.
-ghost use Rattle.std.specs.Prelude.{◌≡◌, ◌≤◌, ◌+◌, ◌<◌, ◌∷◌, [], ℕ, Bool, true, false, List, length, is_ok, IfOk, IfErr, IfSome, OnOk};
+ghost use Rattle.std.specs.Prelude.{◌≡◌, ◌≤◌, ◌+◌, ◌<◌, ◌∷◌, [], ℕ, Bool, true, false, List, length, is_ok, IfOk, IfErr, IfSome, OnOk, OnErr};
 ghost use Rattle.sled_disk.specs.Disk.{HasCause, is_caused};
 ghost use Rattle.sled_log.specs.Log.{opened};
 ghost use Rattle.sled_host.specs.Event.{wrote, cut, synced as was_synced};
 ghost use Rattle.sled_host.specs.Stops.{told_as};
-ghost use Rattle.sled_once.specs.Stages.{EndsIn, EndsAs, IsOver};
+ghost use Rattle.sled_once.specs.Stages.{EndsIn, EndsAs, IsOver, IsAtRest};
 ghost use Rattle.sled_once.specs.theory.Steps.{IsStanding, HasPlace, Stays, GoesOn};
 ghost use Rattle.sled_once.specs.declared.stage.End.TheVariants.{Closed};
 ghost use Rattle.sled_once.specs.declared.stage.Stage.TheVariants.{Through, Held, Opened};
@@ -99,6 +99,7 @@ pub fn settle<D: Disk>(
     ensures err { IfErr result (λ x. Stays D.seen D.may_leave stage disk.old x.0 disk.new) }
     ensures over { IfErr result (λ x. IsOver x.0) }
     ensures stays { IsOver stage → (result ≡ Err (stage, told_as refused.old false)) × (disk.new ≡ disk.old) }
+    ensures counted { (IsOver stage → ⊥) → refused.new ≡ refused.old }
     ensures cause { IfErr result (λ x. is_caused (D.faults disk.old + refused.old) (D.faults disk.new + refused.new) x.1) }
 {
     match stage {
@@ -126,6 +127,7 @@ fn write_on<D: Disk>(
 ) -> (Stage, Result<()>)
     requires { HasPlace D.seen D.may_leave at (Through end is_synced) disk.old }
     ensures goes_on { GoesOn D.seen D.may_leave (wrote at bytes.now (is_ok result.1)) (Through end is_synced) disk.old result.0 disk.new }
+    ensures stops { OnErr result.1 (IsOver result.0) }
     ensures cause { HasCause (D.faults disk.old) (D.faults disk.new) result.1 }
 {
     match disk.write_at(at, bytes) {
@@ -141,6 +143,7 @@ fn write_on<D: Disk>(
 fn open_gate<D: Disk>(disk: &mut D, gate: usize, block: Vec<u8>) -> (Stage, Result<()>)
     requires { IsStanding D.seen D.may_leave (Held gate block) disk.old }
     ensures goes_on { GoesOn D.seen D.may_leave (wrote gate (opened ∷ []) (is_ok result.1)) (Held gate block) disk.old result.0 disk.new }
+    ensures stops { OnErr result.1 (IsOver result.0) }
     ensures cause { HasCause (D.faults disk.old) (D.faults disk.new) result.1 }
 {
     if let Err(e) = disk.write_at(gate + 1, &block) {
@@ -193,6 +196,7 @@ fn write_through_or_hold<D: Disk>(
 ) -> (Stage, Result<()>)
     requires { HasPlace D.seen D.may_leave at (Through end is_synced) disk.old }
     ensures goes_on { GoesOn D.seen D.may_leave (wrote at bytes.now (is_ok result.1)) (Through end is_synced) disk.old result.0 disk.new }
+    ensures rests { OnErr result.1 (IsAtRest result.0) }
     ensures cause { HasCause (D.faults disk.old) (D.faults disk.new) result.1 }
 {
     match held_back(alloc, disk, end, is_synced, at, bytes) {
@@ -214,6 +218,7 @@ fn write_settled<D: Disk>(
     requires { HasPlace D.seen D.may_leave at stage disk.old }
     ensures over { IsOver stage → (result ≡ (stage, Err (told_as refused.old false))) × (disk.new ≡ disk.old) }
     ensures goes_on { GoesOn D.seen D.may_leave (wrote at bytes.now (is_ok result.1)) stage disk.old result.0 disk.new }
+    ensures rests { OnErr result.1 (IsAtRest result.0) }
     ensures cause { HasCause (D.faults disk.old + refused.old) (D.faults disk.new + refused.new) result.1 }
 {
     match settle(disk, stage, refused) {
@@ -234,6 +239,7 @@ pub fn put<D: Disk>(
     requires { HasPlace D.seen D.may_leave at stage disk.old }
     ensures over { IsOver stage → (result ≡ (stage, Err (told_as refused.old false))) × (disk.new ≡ disk.old) }
     ensures goes_on { GoesOn D.seen D.may_leave (wrote at bytes.now (is_ok result.1)) stage disk.old result.0 disk.new }
+    ensures rests { OnErr result.1 (IsAtRest result.0) }
     ensures cause { HasCause (D.faults disk.old + refused.old) (D.faults disk.new + refused.new) result.1 }
 {
     match stage {
@@ -252,6 +258,7 @@ pub fn shorten<D: Disk>(
     requires { HasPlace D.seen D.may_leave len stage disk.old }
     ensures over { IsOver stage → (result ≡ (stage, Err (told_as refused.old false))) × (disk.new ≡ disk.old) }
     ensures goes_on { GoesOn D.seen D.may_leave (cut len (is_ok result.1)) stage disk.old result.0 disk.new }
+    ensures stops { OnErr result.1 (IsOver result.0) }
     ensures cause { HasCause (D.faults disk.old + refused.old) (D.faults disk.new + refused.new) result.1 }
 {
     match settle(disk, stage, refused) {
@@ -267,6 +274,7 @@ pub fn shorten<D: Disk>(
 fn sync_on<D: Disk>(disk: &mut D, end: End, is_synced: bool) -> (Stage, Result<()>)
     requires { IsStanding D.seen D.may_leave (Through end is_synced) disk.old }
     ensures goes_on { GoesOn D.seen D.may_leave (was_synced (is_ok result.1)) (Through end is_synced) disk.old result.0 disk.new }
+    ensures stops { OnErr result.1 (IsOver result.0) }
     ensures cause { HasCause (D.faults disk.old) (D.faults disk.new) result.1 }
 {
     match disk.sync() {
@@ -280,6 +288,7 @@ pub fn bring<D: Disk>(disk: &mut D, stage: Stage, refused: &mut u64) -> (Stage, 
     requires { IsStanding D.seen D.may_leave stage disk.old }
     ensures over { IsOver stage → (result ≡ (stage, Err (told_as refused.old false))) × (disk.new ≡ disk.old) }
     ensures goes_on { GoesOn D.seen D.may_leave (was_synced (is_ok result.1)) stage disk.old result.0 disk.new }
+    ensures stops { OnErr result.1 (IsOver result.0) }
     ensures cause { HasCause (D.faults disk.old + refused.old) (D.faults disk.new + refused.new) result.1 }
 {
     match stage {

@@ -31,13 +31,14 @@ pub record AreMended (opening : Opening) (is_locked : Bool) (first second : Host
 abbrev pub again_of : Opening → Opening
 again_of opening = record { creates = false; needs_lock = opening.needs_lock }
 
--- Two files that are opened once they were mended: these, if none was torn, or else the same anew, as they were there then
+-- Two files that are opened once they were mended: these, if none was torn and they are read as they were found, or else the same anew, as
+-- they were there then
 pub record AreWhole (opening : Opening) (is_locked : Bool) (first second : HostFile) : Type 0 where
   pub was_locked : Bool
   pub first_left : HostFile
   pub second_left : HostFile
   pub mended : AreMended opening was_locked first_left second_left
-  pub again : ((first ≡ first_left) × (second ≡ second_left) × (is_locked ≡ was_locked)) ⊎ OpensPair (again_of opening) first second is_locked
+  pub again : ((first ≡ first_left) × (second ≡ second_left) × (is_locked ≡ was_locked) × (bytes_of first ≡ bytes_of mended.first_found) × (bytes_of second ≡ bytes_of mended.second_found)) ⊎ OpensPair (again_of opening) first second is_locked
 
 -- the store that they stand for, or a new one if both are blank
 abbrev pub StoreOnceIn : Opening → Bool → Files (Once HostFile) → Store → Type 0

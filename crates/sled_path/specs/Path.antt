@@ -71,10 +71,11 @@ GoesOnFrom old found = GoesOn (asked_of old.asked) old.limits (stored_as old) fo
 
 -- Why no database was opened:
 --
--- `NotAStore`, `OtherFormat`, `Decayed`: what was read of the two files is none of a store, and this is wrong with it.
--- `Locked`: the system answered that a file is locked. `Io`: it refused a call of the folder, or one that opens a file.
--- `Disk`: both files were opened, and a later call of one was refused, but not for want of memory.
--- `Database`: there was no memory, or the files have a store and its pages are none of a database.
+-- `NotAStore`, `OtherFormat`, `Decayed`: what was read of the two files is not a store, and this is wrong with it.
+-- `Locked`: nothing is claimed. The code returns it if the system answered that a file is open elsewhere.
+-- `Io`: want of memory and `Locked` have names of their own, and that there are no locks is a cause only if they are needed.
+-- `Disk`: no want of memory. The code returns it if both files were opened, and a later call of one was refused.
+-- `Database`: want of memory, or the files have a store and its pages are not those of a database.
 abbrev pub is_why_closed_over : {D : Type 0} → (D → List ℕ) → (D → List ℕ → Type 0) → (Bool → HostFile → HostFile → Type 0) → Opening → OpenError → Type 0
 is_why_closed_over seen may_leave known opening NotAStore = AreRefused known file.TheVariants.NotAStore
 is_why_closed_over seen may_leave known opening (OtherFormat other) = AreRefused known (file.TheVariants.OtherFormat other)

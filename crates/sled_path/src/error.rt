@@ -28,7 +28,7 @@ pub enum OpenError {
     Io(HostError),
     /// A file was opened, and a call of it was refused.
     Disk(DiskError),
-    /// The pages are none of a database, or there was no memory for it.
+    /// The pages are not those of a database, or there was no memory for it.
     Database(Error),
 }
 
@@ -71,11 +71,9 @@ pub(crate) fn of_disk(e: DiskError) -> OpenError
 impl Display for OpenError {
     fn fmt<W: Write>(&self, f: &mut Formatter<W>) -> fmt::Result {
         match self {
-            OpenError::NotAStore => f.write_str("a file is none of a store"),
+            OpenError::NotAStore => f.write_str("a file is not part of a store"),
             OpenError::OtherFormat(format) => write!(f, "a file is of a store in format {format}"),
-            OpenError::Decayed(place) => {
-                write!(f, "a file has decayed, as is found at its byte {place}")
-            }
+            OpenError::Decayed(place) => write!(f, "a file is damaged at byte {place}"),
             OpenError::Locked => f.write_str("the database is open elsewhere"),
             OpenError::Io(e) => write!(f, "{e}"),
             OpenError::Disk(DiskError::NoMemory) => f.write_str("no memory"),

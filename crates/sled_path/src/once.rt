@@ -52,9 +52,9 @@ fn open_whole(rt: &HostRuntime, path: &str, opening: Opening) -> Result<Pair, Op
 }
 
 /// Opens a database as `open_with` does, and brings each block of it to the disk in one sync, in place of two. A flush then waits for
-/// the disk once. It trusts the digest of a block: a crash while one is written may leave another one, if their digests are the same, and a block
-/// that has decayed ends the log unsaid, as a torn one does. What a crash tore is mended first; `open` takes that for decayed. So after a
-/// crash open it with this call. Once that is done, or if nothing was torn, `open` opens it too.
+/// the disk once. It trusts the digest of a block: a crash while one is written may leave another one, if their digests are the same, and
+/// a block that has decayed ends the log unsaid, as a torn one does. What a crash tore is mended first; `open` takes that for decayed. So
+/// after a crash open it with this call. Once that is done, or if nothing was torn, `open` opens it too.
 ///
 /// Refused as `open_with` is, of the files once they were mended.
 ///
@@ -99,8 +99,8 @@ pub fn open_once<M: MergeOperator>(
     }
 }
 
-/// Does nothing. It says what `open_once` finds after a crash or a drop: if the disks were honest, and the digest told what was left of the blocks under way,
-/// the store that is opened goes on from this one.
+/// Does nothing. It says what `open_once` finds after a crash or a drop: if the disks were honest, and the digest told what was left of
+/// the blocks under way, the store that is opened goes on from this one.
 ///
 /// ```
 /// let opening = Opening { creates: true, needs_lock: true };

@@ -12,9 +12,9 @@ use sled_model::MergeOperator;
 /// is none. The folder is made in one that is there. No other process can open it as long as the database lives; if the file system has no
 /// locks it is refused, and `open_with` opens it all the same. Its merge operators are of the type M, as after `Db::with_operators`.
 ///
-/// Refused with `Locked` or `Io` by the operating system; with `NotAStore`, `OtherFormat` or `Decayed` if the files are none of a store,
-/// or were changed since; with `Disk` if the disk has no room or failed; and with `Database` for want of memory, or if the pages are none
-/// of a database.
+/// Refused with `Locked` or `Io` by the operating system; with `NotAStore`, `OtherFormat` or `Decayed` if the files are not those of a
+/// store, or were changed since; with `Disk` if the disk has no room or failed; and with `Database` for want of memory, or if the pages
+/// are not those of a database.
 ///
 /// ```
 /// match open::<Adds>(rt, "people.db", b"people") {

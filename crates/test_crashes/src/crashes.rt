@@ -50,7 +50,7 @@ fn found(db: &mut Files, run: &Run) -> Result<Run> {
 // Opens what a crash left, makes some calls more and flushes them.
 fn go_on(mut db: Files, run: &Run, seed: u64) -> Result<(Disks, Run)> {
     let mut then = found(&mut db, run)?;
-    run_script(&mut db, &mut then, seed.wrapping_add(500), STEPS_THEN)?;
+    let mut db = run_script(db, &mut then, seed.wrapping_add(500), STEPS_THEN)?;
     flush_all(&mut db, &mut then)?;
     Ok((into_disks(db), then))
 }
@@ -71,8 +71,8 @@ pub fn crash_twice(disks: &Disks, run: &Run, seed: u64) -> Result<()> {
 }
 
 // The disks of a database that a script was run on, and what is known of the run.
-fn ended(mut db: Files, mut run: Run, script: u64, steps: u64) -> Result<(Disks, Run)> {
-    run_script(&mut db, &mut run, script, steps)?;
+fn ended(db: Files, mut run: Run, script: u64, steps: u64) -> Result<(Disks, Run)> {
+    let db = run_script(db, &mut run, script, steps)?;
     Ok((into_disks(db), run))
 }
 
@@ -91,8 +91,8 @@ fn run_store(store: Store, mut run: Run, script: u64) -> Result<(Disks, Run)> {
 }
 
 // The same, with a flush in the end that may be refused, and a look.
-fn ended_over(mut db: Files, mut run: Run, script: u64) -> Result<(Disks, Run)> {
-    run_script(&mut db, &mut run, script, STEPS)?;
+fn ended_over(db: Files, mut run: Run, script: u64) -> Result<(Disks, Run)> {
+    let mut db = run_script(db, &mut run, script, STEPS)?;
     flush(&mut db, &mut run)?;
     look(&mut db, &run)?;
     Ok((into_disks(db), run))

@@ -11,12 +11,14 @@
 mod begun;
 mod crashes;
 mod decay;
+mod flights;
 mod maps;
 mod numbers;
 mod runs;
 mod script;
 mod starts;
 mod store;
+mod transactions;
 
 use std::process::ExitCode;
 use std::{env, io};

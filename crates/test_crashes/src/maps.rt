@@ -120,6 +120,26 @@ fn move_value(map: &mut Map, step: &Step) {
     }
 }
 
+// Takes out the keys from one on and below another.
+fn lose_range(map: &mut Map, from: u8, end: u8) {
+    for key in from..end {
+        put(map, key, None);
+    }
+}
+
+// Takes out the greatest key.
+fn lose_last(map: &mut Map) {
+    let mut last = None;
+    for key in 0..KEYS as u8 {
+        if value_at(map, key).is_some() {
+            last = Some(key);
+        }
+    }
+    if let Some(key) = last {
+        put(map, key, None);
+    }
+}
+
 // Takes out the least key.
 fn lose_first(map: &mut Map) {
     for key in 0..KEYS as u8 {
@@ -158,21 +178,46 @@ impl Maps {
         }
     }
 
+    // Moves the value of a key to the second tree, if there is one, or opens that tree if there is none.
+    fn move_across(&mut self, key: u8) {
+        let value = value_at(&self.main, key);
+        match &mut self.side {
+            Some(side) => {
+                if value.is_some() {
+                    put(&mut self.main, key, None);
+                    put(side, key, value);
+                }
+            }
+            None => self.side = Some([None; KEYS]),
+        }
+    }
+
+    // What a step makes of the second tree, or of both.
+    fn take_side(&mut self, step: &Step) {
+        match step.kind {
+            Kind::InsertSide => self.put_side(step.key, Some(step.value(0))),
+            Kind::RemoveSide => self.put_side(step.key, None),
+            Kind::ClearSide => self.side = Some([None; KEYS]),
+            Kind::Group => self.put_group(step),
+            Kind::MoveAcross => self.move_across(step.key),
+            Kind::DropSide => self.side = None,
+            _ => {}
+        }
+    }
+
     /// What a step makes of them as a whole. What one does part by part is noted there (`lose_first`, `import`).
     pub fn take(&mut self, step: &Step) {
         match step.kind {
-            Kind::Insert => put(&mut self.main, step.key, Some(step.value(0))),
+            Kind::Insert | Kind::Flight => put(&mut self.main, step.key, Some(step.value(0))),
             Kind::Remove => put(&mut self.main, step.key, None),
-            Kind::Merge => merge(&mut self.main, step.key, step.number()),
+            Kind::Merge | Kind::Update => merge(&mut self.main, step.key, step.number()),
             Kind::Swap => swap(&mut self.main, step),
             Kind::Batch => put_batch(&mut self.main, step),
+            Kind::RemoveRange => lose_range(&mut self.main, step.key, step.end()),
+            Kind::PopMin => lose_first(&mut self.main),
+            Kind::PopMax => lose_last(&mut self.main),
             Kind::Move => move_value(&mut self.main, step),
-            Kind::InsertSide => self.put_side(step.key, Some(step.value(0))),
-            Kind::RemoveSide => self.put_side(step.key, None),
-            Kind::Group => self.put_group(step),
-            Kind::DropSide => self.side = None,
-            Kind::ClearSide => self.side = Some([None; KEYS]),
-            Kind::Import | Kind::Id | Kind::Flush => {}
+            _ => self.take_side(step),
         }
     }
 

@@ -1,12 +1,13 @@
 //! A script that is run, and its expected outcome.
+use crate::flights::fly;
 use crate::maps::{KEYS, Maps, SIDE, Value, key_of, value_at, value_of};
 use crate::script::{Kind, Step, step_of};
-use crate::store::{Files, Store, image, image_of};
-use sled::{
-    Batch, Collection, ConflictableTransactionResult, Error, Fault, IVec, TransactionError,
-    TransactionResult, TransactionalTree, Tree, abort,
-};
+use crate::store::{Files, image, image_of, into_disks};
+use crate::transactions::{move_across, move_value};
+use example_parts::add_to;
+use sled::{Batch, Collection, Error, Fault, IVec, Tree};
 use std::alloc::Global;
+use std::ops::Bound;
 use test_report::trouble::{Result, Trouble, expect};
 
 // How many parts an import has: that it opens the tree, and each pair.
@@ -155,7 +156,7 @@ fn note_refused_change(run: &mut Run, kind: Kind, had_side: bool, e: Error) -> R
         "a call was refused that needs no disk",
     )?;
     note_refusal(run, e)?;
-    let is_group = kind.is_group() && (kind != Kind::Group || had_side);
+    let is_group = kind.is_group() && (had_side || !kind.needs_side());
     run.is_closed = run.is_closed || is_group;
     Ok(())
 }
@@ -266,6 +267,20 @@ fn merge(db: &mut Files, step: &Step) -> Result<()> {
     Ok(())
 }
 
+// Adds a number to the value of a key, by a closure.
+fn update(alloc: Global, db: &mut Files, step: &Step) -> Result<()> {
+    let number = step.number();
+    let tree = db.default_tree()?;
+    let sum = db.update_and_fetch(
+        &tree,
+        &key_of(step.key),
+        move |stood| Ok(Some(add_to(alloc, stood, number)?)),
+    )?;
+    drop(tree);
+    drop(sum);
+    Ok(())
+}
+
 // The bytes of a value, if there is one.
 fn bytes_of(alloc: Global, value: Option<Value>) -> Result<Option<Vec<u8>>> {
     match value {
@@ -297,39 +312,28 @@ fn swap(db: &mut Files, run: &Run, step: &Step) -> Result<()> {
     )
 }
 
-// What the closure of a transaction does that moves a value to another key.
-fn move_inside(
-    inside: &mut TransactionalTree<'_, Store>,
-    from: &[u8],
-    to: &[u8],
-) -> ConflictableTransactionResult<(), ()> {
-    let Some(value) = inside.remove(from)? else {
-        return abort(());
-    };
-    let stood = inside.insert(to, value.as_ref())?;
-    drop(value);
-    drop(stood);
+// Takes out the keys of a range.
+fn remove_range(db: &mut Files, step: &Step) -> Result<()> {
+    let tree = db.default_tree()?;
+    let from = key_of(step.key);
+    let end = key_of(step.end());
+    let removed = db.remove_range(&tree, Bound::Included(&from), Bound::Excluded(&end));
+    drop(tree);
+    removed?;
     Ok(())
 }
 
-// Runs the transaction that moves a value, which is aborted if there is none.
-fn move_value(db: &mut Files, run: &Run, step: &Step) -> Result<()> {
-    let is_there = value_at(&run.maps.main, step.key).is_some();
-    let from = key_of(step.key);
-    let to = key_of(step.key(1));
+// Takes out the pair at an end.
+fn pop(db: &mut Files, is_least: bool) -> Result<()> {
     let tree = db.default_tree()?;
-    let ended: TransactionResult<(), ()> = db.transaction(
-        &tree,
-        |inside| move_inside(inside, &from, &to),
-    );
+    let found = if is_least {
+        db.pop_min(&tree)?
+    } else {
+        db.pop_max(&tree)?
+    };
     drop(tree);
-    match ended {
-        Ok(()) => expect(is_there, "a transaction was made that should be aborted"),
-        Err(TransactionError::Abort(())) => {
-            expect(!is_there, "a transaction was aborted that should be made")
-        }
-        Err(TransactionError::Storage(e)) => Err(Trouble::Refused(e)),
-    }
+    drop(found);
+    Ok(())
 }
 
 // Clears the second tree, or opens it if it is not there.
@@ -404,25 +408,32 @@ fn drop_side(db: &mut Files, is_there: bool) -> Result<()> {
     )
 }
 
-// Makes the call of a step.
+// Makes the call of a step, but for one in flight.
 fn make(db: &mut Files, run: &mut Run, step: &Step) -> Result<()> {
     let alloc = run.alloc;
     let has_side = run.maps.side.is_some();
+    let is_there = value_at(&run.maps.main, step.key).is_some();
     match step.kind {
         Kind::Insert => put_main(alloc, db, step.key, Some(step.value(0))),
         Kind::Remove => put_main(alloc, db, step.key, None),
         Kind::Merge => merge(db, step),
         Kind::Swap => swap(db, run, step),
+        Kind::Update => update(alloc, db, step),
         Kind::Batch => put_batch(alloc, db, step),
-        Kind::Move => move_value(db, run, step),
+        Kind::RemoveRange => remove_range(db, step),
+        Kind::PopMin => pop(db, true),
+        Kind::PopMax => pop(db, false),
+        Kind::Move => move_value(db, is_there, step),
         Kind::InsertSide => put_side(alloc, db, has_side, step.key, Some(step.value(0))),
         Kind::RemoveSide => put_side(alloc, db, has_side, step.key, None),
         Kind::ClearSide => clear_side(db, run, has_side),
         Kind::Group => put_group(alloc, db, has_side, step),
+        Kind::MoveAcross => move_across(db, has_side, is_there, step),
         Kind::Import => import(db, run, step),
         Kind::DropSide => drop_side(db, has_side),
         Kind::Id => take_id(db, run),
         Kind::Flush => flush(db, run),
+        Kind::Flight => Ok(()),
     }
 }
 
@@ -437,14 +448,46 @@ fn note_change(run: &mut Run, step: &Step) -> Result<()> {
     run.note()
 }
 
-// Makes the call of a step, and notes the maps after it.
-fn take(db: &mut Files, run: &mut Run, step: &Step) -> Result<()> {
+// Makes the call of a step, but for one in flight, and notes the maps after it.
+fn call(db: &mut Files, run: &mut Run, step: &Step) -> Result<()> {
     let had_side = run.maps.side.is_some();
     match make(db, run, step) {
         Ok(()) => note_change(run, step),
         Err(Trouble::Refused(e)) => note_refused_change(run, step.kind, had_side, e),
         Err(e) => Err(e),
     }
+}
+
+// Notes the maps after a call in flight, which changed none if it was left before it was decided.
+fn note_flight(run: &mut Run, step: &Step, decided: Result<bool>) -> Result<()> {
+    match decided {
+        Ok(true) => note_change(run, step),
+        Ok(false) => expect(step.is_left(), "a call in flight did not end"),
+        Err(Trouble::Refused(e)) => note_refused_change(run, step.kind, false, e),
+        Err(e) => Err(e),
+    }
+}
+
+// The database, if what was done with it is as expected.
+fn kept(db: Files, done: Result<()>) -> Result<Files> {
+    match done {
+        Ok(()) => Ok(db),
+        Err(e) => {
+            drop(into_disks(db));
+            Err(e)
+        }
+    }
+}
+
+// Makes the call of a step, in flight or not, and notes the maps after it.
+fn take(mut db: Files, run: &mut Run, step: &Step) -> Result<Files> {
+    if step.kind == Kind::Flight {
+        let (db, decided) = fly(run.alloc, db, step);
+        let noted = note_flight(run, step, decided);
+        return kept(db, noted);
+    }
+    let noted = call(&mut db, run, step);
+    kept(db, noted)
 }
 
 /// Whether the database has the maps of the run, if it can be read.
@@ -458,13 +501,14 @@ pub fn look(db: &mut Files, run: &Run) -> Result<()> {
     expect(is_same, "the maps are not those after the calls")
 }
 
-/// Runs so many steps of a script, and compares the maps then.
-pub fn run_script(db: &mut Files, run: &mut Run, script: u64, steps: u64) -> Result<()> {
+/// Runs so many steps of a script, and compares the maps then. The database comes back.
+pub fn run_script(mut db: Files, run: &mut Run, script: u64, steps: u64) -> Result<Files> {
     for place in 0..steps {
-        take(db, run, &step_of(script, place))?;
+        db = take(db, run, &step_of(script, place))?;
     }
     run.generation = db.pages().stats().generation;
-    look(db, run)
+    let looked = look(&mut db, run);
+    kept(db, looked)
 }
 
 /// A last flush, which is not refused.

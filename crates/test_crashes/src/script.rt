@@ -3,7 +3,10 @@ use crate::maps::{KEYS, Value};
 use test_report::seeds::number;
 
 /// How many steps a script has.
-pub const STEPS: u64 = 48;
+pub const STEPS: u64 = 60;
+
+// More steps than a call in flight takes.
+const TURNS: u64 = 1_000;
 
 /// A kind of call.
 #[derive(Clone, Copy, PartialEq, Eq)]
@@ -14,15 +17,25 @@ pub enum Kind {
     Merge,
     /// A swap, of which some expect another value than the one that is there.
     Swap,
+    /// An update by a closure, which adds a number.
+    Update,
     Batch,
+    /// All keys from one on and below another are taken out.
+    RemoveRange,
+    PopMin,
+    PopMax,
     /// A transaction that moves a value to another key, and is aborted if there is none.
     Move,
+    /// An insert that a machine makes step by step, of which some are left before they are decided.
+    Flight,
     // Of these each opens the second tree first, and does only that if there is none.
     InsertSide,
     RemoveSide,
     ClearSide,
     /// A group of a batch in each tree.
     Group,
+    /// A transaction of both trees that moves a value to the second one, and is aborted if there is none.
+    MoveAcross,
     /// An import of some pairs into the second tree, up to the first whose key is there.
     Import,
     DropSide,
@@ -33,7 +46,15 @@ pub enum Kind {
 impl Kind {
     /// Whether it is a group in the store, which closes the database if it is refused midway.
     pub fn is_group(self) -> bool {
-        matches!(self, Kind::Batch | Kind::Move | Kind::Group)
+        matches!(
+            self,
+            Kind::Batch | Kind::RemoveRange | Kind::Move | Kind::Group | Kind::MoveAcross
+        )
+    }
+
+    /// Whether it is a call on both trees, which only opens the second if there is none.
+    pub fn needs_side(self) -> bool {
+        matches!(self, Kind::Group | Kind::MoveAcross)
     }
 }
 
@@ -47,20 +68,26 @@ pub struct Step {
 
 // A kind by a number.
 fn kind_of(number: u64) -> Kind {
-    match number % 32 {
+    match number % 40 {
         0..=5 => Kind::Insert,
-        6 | 7 => Kind::Remove,
-        8 | 9 => Kind::Merge,
-        10 | 11 => Kind::Swap,
-        12 | 13 => Kind::Batch,
-        14 | 15 => Kind::Move,
-        16..=18 => Kind::InsertSide,
-        19 => Kind::RemoveSide,
-        20 => Kind::ClearSide,
-        21 | 22 => Kind::Group,
-        23 | 24 => Kind::Import,
-        25 => Kind::DropSide,
-        26 => Kind::Id,
+        6..=8 => Kind::Remove,
+        9 | 10 => Kind::Merge,
+        11 => Kind::Swap,
+        12 => Kind::Update,
+        13 | 14 => Kind::Batch,
+        15 => Kind::RemoveRange,
+        16 => Kind::PopMin,
+        17 => Kind::PopMax,
+        18 => Kind::Move,
+        19..=21 => Kind::Flight,
+        22 | 23 => Kind::InsertSide,
+        24 => Kind::RemoveSide,
+        25 => Kind::ClearSide,
+        26..=28 => Kind::Group,
+        29 => Kind::MoveAcross,
+        30 => Kind::Import,
+        31 => Kind::DropSide,
+        32 => Kind::Id,
         _ => Kind::Flush,
     }
 }
@@ -101,7 +128,26 @@ impl Step {
         }
     }
 
-    /// The number that it merges.
+    /// The key behind its range, which has so many keys or none.
+    pub fn end(&self) -> u8 {
+        self.key.saturating_add(self.value % 12)
+    }
+
+    /// Whether its call in flight may be left before it is decided.
+    pub fn is_left(&self) -> bool {
+        self.value % 2 == 1
+    }
+
+    /// How many steps its call in flight does, unless it ends before.
+    pub fn turns(&self) -> u64 {
+        if self.is_left() {
+            (self.value % 8) as u64
+        } else {
+            TURNS
+        }
+    }
+
+    /// The number that it adds.
     pub fn number(&self) -> u64 {
         self.value as u64
     }

@@ -95,8 +95,8 @@ impl Start {
 }
 
 // The disks of a database, after a script.
-fn ended(mut db: Files, run: &mut Run, script: u64, steps: u64) -> Result<Disks> {
-    run_script(&mut db, run, script, steps)?;
+fn ended(db: Files, run: &mut Run, script: u64, steps: u64) -> Result<Disks> {
+    let mut db = run_script(db, run, script, steps)?;
     flush_all(&mut db, run)?;
     Ok(into_disks(db))
 }

@@ -6,8 +6,8 @@ use sled_store::Pages;
 use std::alloc::Global;
 use test_report::Report;
 
-// A new store.
-fn new_store(alloc: Global) -> Option<FilePages<MemoryDisk>> {
+/// A new store.
+pub fn new_store(alloc: Global) -> Option<FilePages<MemoryDisk>> {
     let first = MemoryDisk::new(alloc, Vec::new(alloc)).ok()?;
     let second = MemoryDisk::new(alloc, Vec::new(alloc)).ok()?;
     FilePages::open(alloc, first, second).ok()

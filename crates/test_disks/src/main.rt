@@ -6,6 +6,7 @@ mod compactions;
 mod disks;
 mod files;
 mod logs;
+mod marks;
 mod openings;
 
 use std::process::ExitCode;
@@ -18,5 +19,6 @@ fn main(rt: HostRuntime) -> ExitCode {
     files::tell(&report);
     openings::tell(&report);
     compactions::tell(&report);
+    marks::tell(&report);
     report.status()
 }

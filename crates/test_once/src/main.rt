@@ -1,10 +1,12 @@
-//! What crashes and refused calls leave of a database in two files whose blocks are brought to the disk in one sync. Each call of each disk is
-//! refused in turn, and then the disks crash. What is found must be pairs that were inserted one after the other, from the first on, and all
-//! that were flushed. It prints how many cases there were and how many passed, and of each that failed the numbers that make it again.
+//! What crashes and refused calls leave of a database in two files whose blocks are synced once. Each call of each disk is refused in turn,
+//! and then the disks crash. What is found must be pairs that were inserted one after the other, from the first on, and all that were
+//! flushed. It prints how many cases there were and how many passed, and of each that failed the numbers that make it again. Then it prints
+//! how long the file of a disk is that is handed back while a block of it is held back.
 #![tactic(auto)]
 
 mod pairs;
 mod runs;
+mod settled;
 
 use runs::{Case, FILES, run_case};
 use std::fmt::{self, Display, Formatter, Write};
@@ -85,5 +87,6 @@ fn main(rt: HostRuntime) -> ExitCode {
         run_calls(&report, false, disk);
         run_calls(&report, true, disk);
     }
+    settled::tell(&report);
     report.status()
 }

@@ -1,7 +1,7 @@
-use Rattle.std.proofs.Common.{◌≡◌, ◌∙◌, ap, arith, length, take}
+use Rattle.std.proofs.Common.{◌≡◌, ◌∙◌, ap, sym, arith, length, take}
 use Rattle.std.specs.Int.{w32, from_le_bytes}
 use Rattle.std.proofs.lemmas.List.{take_rest, length-drop}
-use Rattle.std.proofs.lemmas.Bool.{eq-eqb}
+use Rattle.std.proofs.lemmas.Bool.{eq-eqb, eqb-true}
 use Rattle.sled_files.specs.Header.{format}
 use Rattle.sled_files.proofs.Headers.{header_begins, header_long, header_format}
 use Rattle.files_once.proofs.mending.is_headed.Goals as goal
@@ -19,3 +19,7 @@ returns-clause-whole c generation first is =
     let f : c.from_le_bytes-format.result ≡ format =
     c.from_le_bytes-format.ensures ∙ ap (from_le_bytes w32) (c.in-Some.ensures.cases.0 ∙ ap (take 4) (take_rest c.args.payload.now 8)) ∙ header_format c.args.payload.now first generation is in
     eq-eqb c.from_le_bytes-format.result 1 f
+
+pub returns-clause-same : goal.returns-clause-same
+returns-clause-same c is =
+    sym (c.from_le_bytes-format.ensures ∙ ap (from_le_bytes w32) (c.in-Some.ensures.cases.0 ∙ ap (take 4) (take_rest c.args.payload.now 8))) ∙ eqb-true c.from_le_bytes-format.result 1 is

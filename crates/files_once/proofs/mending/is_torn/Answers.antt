@@ -16,4 +16,4 @@ returns-clause-no c false_is =
 pub returns-clause-headed : goal.returns-clause-headed
 returns-clause-headed c = λ false_is.
     let first = begins_with (λ p. p.now) c.in-Ok.log.payloads.items c.in-Some.payload.now (c.in-Some.ensures.value ∙ ap (λ l. slice_get l 0) c.deref.ensures.value) in
-    inr (record { payload = c.in-Some.payload.now.now; others = drop 1 (map (λ p. p.now) c.in-Ok.log.payloads.items); read = c.in-Ok.ensures.read ∙ first; begins = c.is_headed.ensures.begins c.if-not-is_headed.false })
+    inr (record { payload = c.in-Some.payload.now.now; others = drop 1 (map (λ p. p.now) c.in-Ok.log.payloads.items); read = c.in-Ok.ensures.read ∙ first; begins = c.is_headed.ensures.begins c.if-not-is_headed.false; same = c.is_headed.ensures.same c.if-not-is_headed.false })

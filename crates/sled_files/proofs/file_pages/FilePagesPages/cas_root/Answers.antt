@@ -1,3 +1,4 @@
+use Rattle.std.proofs.Common.{refl}
 use Rattle.sled_files.proofs.Over.{if_ok, if_err, swaps_over, refused_over}
 use Rattle.sled_files.proofs.Sound.{sound_spelled}
 use Rattle.sled_files.proofs.file_pages.FilePagesPages.cas_root.Goals as goal
@@ -16,3 +17,6 @@ returns-clause-adds g c = rw (← c.self.view_is) c.cas_root.ensures.adds
 
 pub returns-clause-kept : goal.returns-clause-kept
 returns-clause-kept g c = rw (← c.self.view_is) c.cas_root.ensures.kept
+
+pub returns-clause-cause : goal.returns-clause-cause
+returns-clause-cause g c = rw (← c.self.view_is) (if_err c.cas_root.result (λ e h. record { is = h; calm = refl }) c.cas_root.ensures.err)

@@ -1,4 +1,4 @@
-use Rattle.std.proofs.Common.{ap}
+use Rattle.std.proofs.Common.{ap, refl}
 use Rattle.sled_files.specs.Stored.{over}
 use Rattle.sled_files.proofs.Over.{if_ok, if_err, refused_over}
 use Rattle.sled_files.proofs.Sound.{sound_spelled}
@@ -18,3 +18,6 @@ returns-clause-adds g c = rw (← c.self.view_is) c.seal_group.ensures.adds
 
 pub returns-clause-kept : goal.returns-clause-kept
 returns-clause-kept g c = rw (← c.self.view_is) c.seal_group.ensures.kept
+
+pub returns-clause-cause : goal.returns-clause-cause
+returns-clause-cause g c = rw (← c.self.view_is) (if_err c.seal_group.result (λ e h. record { is = h; calm = refl }) c.seal_group.ensures.err)

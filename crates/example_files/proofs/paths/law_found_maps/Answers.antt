@@ -1,0 +1,14 @@
+use Rattle.std.proofs.Common.{subst}
+use Rattle.sled_store.specs.Store.{now}
+use Rattle.tree_laws.specs.Contents.{trees_of}
+use Rattle.sled_host.specs.declared.host.HostFile.{HostFile}
+use Rattle.sled_files.specs.Stored.{Stored}
+use Rattle.sled_path.specs.Path.{GoesOnFrom}
+use Rattle.sled_path.specs.Path.{GoesOnIn}
+use Rattle.example_files.proofs.Found.{one_in}
+use Rattle.example_files.proofs.paths.law_found_maps.Goals as goal
+
+pub returns : goal.returns
+returns g c opening is_locked name new is honest kept are =
+    let goes : GoesOnFrom c.args.db.now.pages is.over.store = subst (λ (p : Stored HostFile). GoesOnIn p) c.pages.ensures c.law_goes_on.ensures opening is_locked is.over.files is.over.store is.over.is honest in
+    record { left = trees_of (now is.over.store); one = one_in goes kept are; is = is.over.opens.maps }
