@@ -1,0 +1,4 @@
+pub mod Together
+pub mod Finding
+pub mod Handles
+pub mod Stopping
