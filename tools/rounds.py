@@ -319,9 +319,6 @@ class Maps:
         """An entry of the history. What is new in its reply is compared with what was there."""
         made = self.make(call)
         require(len(made) == len(reply) and all(one in (None, other) for one, other in zip(made, reply)), "the entry", call, "replies", reply, "and not", [it or "?" for it in made])
-        if call[0] == "id":
-            require(int(reply[1]) > self.last_id, "the id", reply[1], "comes after", self.last_id)
-            self.last_id = int(reply[1])
         if call[0] == "open":
             self.open(*reply[1:])
 
@@ -387,6 +384,8 @@ class Opening:
 
     def __init__(self, image, last_id):
         self.maps, self.callers, self.lost, self.events, self.history, self.rounds = Maps(image, last_id), {}, set(), [], [], [set()]
+        # What scans did: the slot, how many entries the history had then, and the words that say it.
+        self.notes, self.all_noted = [], "yes"
 
     def add_caller(self, number, kept):
         require(kept in ("kept", "lost"), "a handle is", kept)
@@ -461,7 +460,8 @@ class Opening:
         if call[0] in ("transfer", "exchange"):
             wrote = transfer_of(call, answer) if call[0] == "transfer" else exchange_of(call, answer)
             return [wrote, is_flush] if call[-1] == "yes" else [wrote]
-        require(call[0] != "id_inside", "a transaction took an id:", event)
+        if call[0] == "id_inside":
+            return [functools.partial(is_transaction, ["transaction", "1", *call[1:3], "1", call[3], word_of(int(answer[1]))])]
         return [(call, ["done"] if call[0] == "next" else answer)]
 
     def match_all(self):
@@ -497,6 +497,14 @@ class Opening:
             require(sorted(callers) == [*range(before + 1, before + 1 + len(callers))], "callers are numbered", sorted(callers))
             before = max([before, *(event.by for event in self.event_of if event.round == number)])
 
+    def check_ids(self):
+        """Ids rise by the history, and so do those that transactions took."""
+        for event in self.event_of:
+            if event.call[0] in ("id", "id_inside"):
+                number = int(event.answer[1])
+                require(number > self.maps.last_id, "the id", number, "comes after", self.maps.last_id)
+                self.maps.last_id = number
+
     # Time.
 
     def in_time(self, events, what):
@@ -530,7 +538,7 @@ class Opening:
         call = self.slots[event.call[1]].call if event.call[0] == "step" else event.call[event.call[0] == "begin" :]
         require(call[0] not in ("flush", "id", "names", "export", "open", "drop", "next", "unsubscribe"), "a refusal:", event)
         if event.answer == ["refused", "E2"]:
-            require(call[0] in ("import", "id_inside") or call[0] == "merge" and call[1] != FIRST, "there is an operator:", event)
+            require(call[0] == "import" or call[0] == "merge" and call[1] != FIRST, "there is an operator:", event)
             return
         require(event.answer == ["refused", "E1"], "a refusal:", event)
         trees = list(trees_in(call))
@@ -570,6 +578,25 @@ class Opening:
         for key in {*passed} - {*given}:
             require("-" in self.values(tree, key, slot.begun.before, end.after), "a scan misses the key", key, "which was there throughout:", slot.begun)
 
+    # What scans did.
+
+    def note(self, slot, at, did):
+        """The event of a note. It is of a scan, and the history had so many entries as that was made."""
+        require(slot in self.slots and self.slots[slot].call[0] == "scan", "a note is of no scan:", slot, did)
+        scan = self.slots[slot]
+        made = [scan.begun] if did == scan.call else [event for event in scan.steps if event.answer == did]
+        require(len(made) == 1 and self.first_state(made[0].before) <= at <= self.last_state(made[0].after), "no such step was made then:", slot, str(at), did)
+        return made[0]
+
+    def check_notes(self):
+        """All that scans did is noted, once, in the order in which it was done."""
+        noted = [self.note(*note) for note in self.notes]
+        require(all(one[1] <= other[1] for one, other in zip(self.notes, self.notes[1:])), "notes are not in the order of the history")
+        self.in_time(noted, "notes")
+        scans = [slot for slot in self.slots.values() if slot.call[0] == "scan"]
+        done = [event for slot in scans for event in (slot.begun, *slot.steps) if event.answer[0] in ("slot", "pair", "end")]
+        require(self.all_noted == "yes" and len(noted) == len({*map(id, noted)}) == len(done), "not all that scans did is noted, once")
+
     def check(self, left):
         """Checks it all, with the maps in the end."""
         for by, call, reply in self.history:
@@ -578,10 +605,12 @@ class Opening:
         self.find_slots()
         self.match_all()
         self.check_numbers()
+        self.check_ids()
         self.in_time(self.event_of, "entries")
         self.find_times()
         self.check_slots()
         self.check_events()
+        self.check_notes()
         for slot in self.slots.values():
             if slot.call[0] == "scan":
                 self.check_scan(slot)
@@ -647,6 +676,10 @@ class Checker:
         elif kind == "entry":
             at = rest.index("=")
             self.opening.history.append((int(rest[0]), rest[1:at], rest[at + 1 :]))
+        elif kind == "note":
+            self.opening.notes.append((rest[0], int(rest[1]), rest[2:]))
+        elif kind == "notes":
+            self.opening.all_noted = rest[0]
         elif kind == "caller":
             self.by = int(rest[0])
             self.opening.add_caller(self.by, rest[1])

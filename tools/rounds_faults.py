@@ -27,12 +27,12 @@ caller 1 kept
 5 watch s 2 % = 6 subscriber 1
 7 exchange __sled__default 1 s 2 a no = 8 both 1 -
 9 import 1 s 2 b 2 c 3 = 10 done
-11 id_inside s 2 a = 12 refused E2
 caller 2 kept
 13 export = 14 all 2 __sled__default 0 s 3 a 1 b 2 c 3
 15 next 1 = 16 event insert a 1
 17 next 1 = 18 event insert b 2
-19 id = 20 number 2
+19 id_inside __sled__default 1 z = 20 number 2
+21 id = 22 number 3
 gathered
 entry 1 insert __sled__default 1 a 1 = value -
 entry 1 open s = tree s 2
@@ -42,11 +42,12 @@ entry 1 import 1 s 2 b 2 c 3 = done
 entry 2 export = all 2 __sled__default 0 s 3 a 1 b 2 c 3
 entry 2 next 1 = done
 entry 2 next 1 = done
-entry 2 id = number 2
-left 2 __sled__default 0 s 3 a 1 b 2 c 3
+entry 2 transaction 1 __sled__default 1 1 z %00%00%00%00%00%00%00%02 = stood -
+entry 2 id = number 3
+left 2 __sled__default 1 z %00%00%00%00%00%00%00%02 s 3 a 1 b 2 c 3
 crash 9
-id 3
-opened 2 __sled__default 0 s 3 a 1 b 2 c 3
+id 4
+opened 2 __sled__default 1 z %00%00%00%00%00%00%00%02 s 3 a 1 b 2 c 3
 """
 
 
@@ -290,18 +291,48 @@ def miscount(lines):
 
 
 def give_id_twice(lines):
-    lines.turn_both(r"\d+ id = .*", "number 2", "number 1")
+    lines.turn_both(r"\d+ id = .*", "number 3", "number 2")
 
 
-def take_id_inside(lines):
-    lines.replace("(.* id_inside .*) refused E2", r"\1 number 2")
+def repeat_id_inside(lines):
+    """A transaction took an id that was given before."""
+    lines.lines = [line.replace("id_inside __sled__default 1 z = 20 number 2", "id_inside __sled__default 1 z = 20 number 1").replace("%02", "%01") for line in lines.lines]
+
+
+def write_another_id(lines):
+    """A transaction wrote another id than it took."""
+    lines.lines = [line.replace("%02", "%07") for line in lines.lines]
+
+
+def drop_note(lines):
+    lines.drop(r"note \d+ \d+ pair .*")
+
+
+def change_note(lines):
+    lines.replace(r"(note \d+ \d+ pair \S+) \S+", rf"\1 {OTHER}")
+
+
+def double_note(lines):
+    at = lines.find(r"note \d+ \d+ scan .*")[0]
+    lines.lines.insert(at, lines.lines[at])
+
+
+def note_before(lines):
+    """The end of a scan is noted before all entries."""
+    at, found = lines.find(r"note (\d+) [1-9]\d* end")
+    del lines.lines[at]
+    lines.lines.insert(lines.find(r"note .*")[0], f"note {found[1]} 0 end")
+
+
+def note_no_more(lines):
+    lines.replace("notes yes", "notes no")
 
 
 # Faults in lines that were printed, and in those that were written by hand.
-PRINTED = [change_reply, change_entry, change_answer, move_entry, drop_entry, double_entry, drop_call, give_away, drop_pair, change_crashed, forget_flush, repeat_id, repeat_id_after_crash, skip_pair, change_pair, repeat_pair, swap_pairs, lose_slot, end_slot_twice, refuse_call, read_another, abandon]
+PRINTED = [change_reply, change_entry, change_answer, move_entry, drop_entry, double_entry, drop_call, give_away, drop_pair, change_crashed, forget_flush, repeat_id, repeat_id_after_crash, skip_pair, change_pair, repeat_pair, swap_pairs, lose_slot, end_slot_twice, refuse_call, read_another, abandon, drop_note, change_note, double_note, note_before, note_no_more]
 WRITTEN = {
     TWO_CALLERS: [read_before, turn_clock, lose_handle],
-    TWO_TREES: [see_half, commit_half, crash_amid, lose_imported, repeat_event, lose_event, swap_events, hear_nothing, give_id_twice, take_id_inside],
+    TWO_TREES: [see_half, commit_half, crash_amid, lose_imported, repeat_event, lose_event, swap_events, hear_nothing, give_id_twice, repeat_id_inside, write_another_id],
     MANY_EVENTS: [miscount],
 }
 

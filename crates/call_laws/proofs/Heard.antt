@@ -233,8 +233,8 @@ module _ (x : Store) where
 
   pub parts : {a b : State} {ps : List Part} {maps : List Maps} → (run : DoesParts a ps b maps) → Heard a b (turns_of_parts run) nothing_told all_kept all_stay
   parts (NoPart {s = s}) = stands s s refl
-  parts (OnePart {a = a} {m = m} {b = b} {part = p} {added = added} one more) =
-      when (λ n. refl) (λ n k. (tt, tt)) (λ name k. (tt, tt)) (both a m b (turns_of_part a p m added one.is) (turns_of_parts more) nothing_told nothing_told all_kept all_kept all_stay all_stay (part a p m added one.is) (parts more))
+  parts (OnePart {a = a} {m = m} {b = b} {part = p} added one more) =
+      when (λ n. refl) (λ n k. (tt, tt)) (λ name k. (tt, tt)) (both a m b (turns_of_part a p m added one) (turns_of_parts more) nothing_told nothing_told all_kept all_kept all_stay all_stay (part a p m added one) (parts more))
 
 -- ---- a group that is refused
 

@@ -6,7 +6,7 @@ ghost use Rattle.machine_shared.specs.Inside.{RunsOver};
 ghost use Rattle.machine_shared.specs.Transacted.{TransactsUnderLock};
 ghost use Rattle.machine_shared.specs.Transactions.{AddsTransaction, RunsAllOnce, RunsOnce, batches_of_tree, fails_tests};
 
-use machine_shared::{Handle, Lent};
+use machine_shared::Handle;
 use sled::{TransactionAnswer, TransactionalTree, TransactionalTrees};
 use sled_model::{MergeOperator, Tree};
 use sled_store::Pages;
@@ -15,7 +15,7 @@ use std::sync::ledger::Ledger;
 
 /// A transaction of a tree, by one of two callers. What it wrote is noted as this caller's.
 pub fn transaction_of_one<
-    P: Pages + Sync,
+    P: Pages,
     L: Ledger,
     M: MergeOperator,
     A: Drop,
@@ -30,7 +30,7 @@ pub fn transaction_of_one<
     f: F,
 ) -> R::Ended
 where
-    F: Fn(&mut TransactionalTree<'_, Lent<'_, P>>) -> R,
+    F: Fn(&mut TransactionalTree<'_, P>) -> R,
     requires { (shown : _) → F.pre f shown }
     ensures made { AddsTransaction (RunsOnce P.store M.meant F.Fn R.result_of f tree.now) (batches_of_tree tree.now) true (R.answer_of result) one.old.made one.new.made }
     ensures untouched { other.new.made ≡ other.old.made }
@@ -41,7 +41,7 @@ where
 
 /// A transaction of several trees. What it wrote is noted as one group.
 pub fn transaction_all<
-    P: Pages + Sync,
+    P: Pages,
     L: Ledger,
     M: MergeOperator,
     A: Drop,
@@ -50,7 +50,7 @@ pub fn transaction_all<
     F,
 >(rt: &impl Wait, handle: &mut Handle<P, L, M>, trees: &[&Tree], f: F) -> R::Ended
 where
-    F: Fn(&mut TransactionalTrees<'_, Lent<'_, P>>) -> R,
+    F: Fn(&mut TransactionalTrees<'_, P>) -> R,
     requires { (shown : _) → F.pre f shown }
     ensures made { AddsTransaction (RunsAllOnce P.store M.meant F.Fn R.result_of f (trees_of_list trees.now)) (zip (trees_of_list trees.now)) (has_trees (trees_of_list trees.now)) (R.answer_of result) handle.old.made handle.new.made }
 {
@@ -59,7 +59,7 @@ where
 
 /// A transaction of a tree, under the lock. It is refused for a cause.
 pub fn transaction<
-    P: Pages + Sync,
+    P: Pages,
     L: Ledger,
     M: MergeOperator,
     A: Drop,
@@ -68,7 +68,7 @@ pub fn transaction<
     F,
 >(rt: &impl Wait, handle: &mut Handle<P, L, M>, tree: &Tree, f: F) -> R::Ended
 where
-    F: Fn(&mut TransactionalTree<'_, Lent<'_, P>>) -> R,
+    F: Fn(&mut TransactionalTree<'_, P>) -> R,
     requires { (shown : _) → F.pre f shown }
     ensures under_lock { TransactsUnderLock P.store P.flush_number M.meant (fails_tests P.store M.meant tree.now) (RunsOver P.store M.meant F.Fn R.result_of f tree.now) (batches_of_tree tree.now) true (R.answer_of result) handle.old handle.new }
 {

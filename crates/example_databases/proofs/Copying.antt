@@ -14,7 +14,7 @@ use Rattle.sled_nodes.specs.declared.error.Error.{Error}
 use Rattle.sled_model.specs.Maps.{Map, Maps, Merge}
 use Rattle.sled_model.specs.Answer.{answer_of}
 use Rattle.sled_model.specs.Collections.{Content}
-use Rattle.sled_model.specs.Imports.{Part, OpensName, Puts, puts_of, parts_of, DoesPart, DoesParts, NoPart, OnePart}
+use Rattle.sled_model.specs.Imports.{Part, OpensName, Puts, puts_of, parts_of, does_part_as, DoesParts, NoPart, OnePart}
 use Rattle.sled_model.specs.State.{State, NamedTree, maps_of}
 use Rattle.sled_model.specs.Whole.{state_opened}
 use Rattle.sled_model.specs.declared.call.Call.TheVariants.{Insert}
@@ -64,18 +64,18 @@ abbrev with_pair : NamedTree → Key → Key → NamedTree
 with_pair t key value = record t { map = (answer_of t.merge (Insert key value) t.map).map }
 
 -- a part that is done takes its pair from those to come to those of the tree, where the keys of all rise
-part_held : (name : Key) (a m : State) (part : Part) (maps : List Maps) (parts : List Part) → DoesPart a part m maps → is_sorted key_cmp (held (a.trees name) ++ puts_at name (part ∷ parts)) ≡ true → held (m.trees name) ++ puts_at name parts ≡ held (a.trees name) ++ puts_at name (part ∷ parts)
-part_held name a m (OpensName n) maps parts d t = ap (λ x. x ++ puts_at name parts) (ap (λ (s : State). held (s.trees name)) d.is.0 ∙ opened_held (a.trees n) a n name refl)
+part_held : (name : Key) (a m : State) (part : Part) (maps : List Maps) (parts : List Part) → does_part_as a part m maps → is_sorted key_cmp (held (a.trees name) ++ puts_at name (part ∷ parts)) ≡ true → held (m.trees name) ++ puts_at name parts ≡ held (a.trees name) ++ puts_at name (part ∷ parts)
+part_held name a m (OpensName n) maps parts d t = ap (λ x. x ++ puts_at name parts) (ap (λ (s : State). held (s.trees name)) d.0 ∙ opened_held (a.trees n) a n name refl)
 part_held name a m (Puts n key value) maps parts d t = go (bytes_eq name n) refl t
   where
-    after : (c : Bool) → bytes_eq name n ≡ c → held (m.trees name) ≡ held (cond c (Some (with_pair d.is.named key value)) (a.trees name))
-    after c same = ap (λ (s : State). held (s.trees name)) d.is.is ∙ ap (λ c. held (cond c (Some (with_pair d.is.named key value)) (a.trees name))) same
+    after : (c : Bool) → bytes_eq name n ≡ c → held (m.trees name) ≡ held (cond c (Some (with_pair d.named key value)) (a.trees name))
+    after c same = ap (λ (s : State). held (s.trees name)) d.is ∙ ap (λ c. held (cond c (Some (with_pair d.named key value)) (a.trees name))) same
 
     go : (c : Bool) → bytes_eq name n ≡ c → is_sorted key_cmp (held (a.trees name) ++ cond c ((key, value) ∷ puts_at name parts) (puts_at name parts)) ≡ true → held (m.trees name) ++ puts_at name parts ≡ held (a.trees name) ++ cond (bytes_eq name n) ((key, value) ∷ puts_at name parts) (puts_at name parts)
     go true same t =
-        let was : held (a.trees name) ≡ d.is.named.map = ap held (ap a.trees (same_name name n same) ∙ d.is.there) in
-        let below : AllByRecursion (λ e. Below e.0 key) d.is.named.map = before d.is.named.map (key, value) (puts_at name parts) (subst (λ x. is_sorted key_cmp (x ++ (key, value) ∷ puts_at name parts) ≡ true) was t) in
-        let is_now : held (m.trees name) ≡ held (a.trees name) ++ (key, value) ∷ [] = after true same ∙ inserted d.is.named.merge key value d.is.named.map below ∙ ap (λ x. x ++ (key, value) ∷ []) (sym was) in
+        let was : held (a.trees name) ≡ d.named.map = ap held (ap a.trees (same_name name n same) ∙ d.there) in
+        let below : AllByRecursion (λ e. Below e.0 key) d.named.map = before d.named.map (key, value) (puts_at name parts) (subst (λ x. is_sorted key_cmp (x ++ (key, value) ∷ puts_at name parts) ≡ true) was t) in
+        let is_now : held (m.trees name) ≡ held (a.trees name) ++ (key, value) ∷ [] = after true same ∙ inserted d.named.merge key value d.named.map below ∙ ap (λ x. x ++ (key, value) ∷ []) (sym was) in
         ap (λ x. x ++ puts_at name parts) is_now
         ∙ append_assoc (held (a.trees name)) ((key, value) ∷ []) (puts_at name parts)
         ∙ ap (λ c. held (a.trees name) ++ cond c ((key, value) ∷ puts_at name parts) (puts_at name parts)) (sym same)
@@ -84,7 +84,7 @@ part_held name a m (Puts n key value) maps parts d t = go (bytes_eq name n) refl
 -- after the parts the tree has its pairs of before and behind them those that were put, where their keys rise
 done_at : (name : Key) {a b : State} {parts : List Part} {maps : List Maps} → DoesParts a parts b maps → is_sorted key_cmp (held (a.trees name) ++ puts_at name parts) ≡ true → held (b.trees name) ≡ held (a.trees name) ++ puts_at name parts
 done_at name {a = a} NoPart t = sym (append-nil (held (a.trees name)))
-done_at name {a = a} (OnePart {m = m} {part = part} {parts = parts} {added = added} one more) t =
+done_at name {a = a} (OnePart {m = m} {part = part} {parts = parts} added one more) t =
     let e = part_held name a m part added parts one t in
     done_at name more (subst (λ x. is_sorted key_cmp x ≡ true) (sym e) t) ∙ e
 
@@ -100,17 +100,17 @@ put_there f n x name t e = go (bytes_eq name n)
     go true = (x, refl)
     go false = (t, e)
 
-part_stays : (a m : State) (part : Part) (maps : List Maps) (name : Key) → DoesPart a part m maps → IsThere a name → IsThere m name
-part_stays a m (OpensName n) maps name d (t, e) = subst (λ (s : State). IsThere s name) (sym d.is.0) (go (a.trees n))
+part_stays : (a m : State) (part : Part) (maps : List Maps) (name : Key) → does_part_as a part m maps → IsThere a name → IsThere m name
+part_stays a m (OpensName n) maps name d (t, e) = subst (λ (s : State). IsThere s name) (sym d.0) (go (a.trees n))
   where
     go : (o : Option NamedTree) → IsThere (state_opened o a n) name
     go (Some u) = (t, e)
     go None = put_there a.trees n (new_tree a) name t e
-part_stays a m (Puts n key value) maps name d (t, e) = subst (λ (s : State). IsThere s name) (sym d.is.is) (put_there a.trees n (record (d.is.named) { map = (answer_of d.is.named.merge (Insert key value) d.is.named.map).map }) name t e)
+part_stays a m (Puts n key value) maps name d (t, e) = subst (λ (s : State). IsThere s name) (sym d.is) (put_there a.trees n (record (d.named) { map = (answer_of d.named.merge (Insert key value) d.named.map).map }) name t e)
 
 parts_stay : (name : Key) {a b : State} {parts : List Part} {maps : List Maps} → DoesParts a parts b maps → IsThere a name → IsThere b name
 parts_stay name NoPart t = t
-parts_stay name {a = a} (OnePart {m = m} {part = part} {added = added} one more) t = parts_stay name more (part_stays a m part added name one t)
+parts_stay name {a = a} (OnePart {m = m} {part = part} added one more) t = parts_stay name more (part_stays a m part added name one t)
 
 -- some part opens the name
 abbrev AreOpening : Key → List Part → Type 0
@@ -122,14 +122,14 @@ opened_there : (a : State) (name : Key) (o : Option NamedTree) → a.trees name 
 opened_there a name (Some t) e = (t, e)
 opened_there a name None e = (new_tree a, put_name_here a.trees name (Some (new_tree a)))
 
-part_opens : (name : Key) (a m : State) (part : Part) (maps : List Maps) (parts : List Part) → DoesPart a part m maps → AreOpening name (part ∷ parts) → IsThere m name ⊎ AreOpening name parts
-part_opens name a m (OpensName n) maps parts d (inl e) = inl (subst (λ (s : State). IsThere s name) (sym d.is.0) (subst (λ z. IsThere (state_opened (a.trees z) a z) name) (sym e) (opened_there a name (a.trees name) refl)))
+part_opens : (name : Key) (a m : State) (part : Part) (maps : List Maps) (parts : List Part) → does_part_as a part m maps → AreOpening name (part ∷ parts) → IsThere m name ⊎ AreOpening name parts
+part_opens name a m (OpensName n) maps parts d (inl e) = inl (subst (λ (s : State). IsThere s name) (sym d.0) (subst (λ z. IsThere (state_opened (a.trees z) a z) name) (sym e) (opened_there a name (a.trees name) refl)))
 part_opens name a m (OpensName n) maps parts d (inr o) = inr o
 part_opens name a m (Puts n key value) maps parts d o = inr o
 
 parts_open : (name : Key) {a b : State} {parts : List Part} {maps : List Maps} → DoesParts a parts b maps → AreOpening name parts → IsThere b name
 parts_open name NoPart o = absurd o
-parts_open name {a = a} (OnePart {m = m} {part = part} {parts = parts} {added = added} one more) o = elim (part_opens name a m part added parts one o) [
+parts_open name {a = a} (OnePart {m = m} {part = part} {parts = parts} added one more) o = elim (part_opens name a m part added parts one o) [
   | inl there ↦ parts_stay name more there
   | inr later ↦ parts_open name more later
 ]

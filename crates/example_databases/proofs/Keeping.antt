@@ -10,7 +10,7 @@ use Rattle.sled_nodes.specs.declared.error.Error.{Error}
 use Rattle.sled_model.specs.Maps.{Maps, Merge}
 use Rattle.sled_model.specs.Answer.{answer_of}
 use Rattle.sled_model.specs.Collections.{Content}
-use Rattle.sled_model.specs.Imports.{Part, OpensName, Puts, DoesPart, DoesParts, NoPart, OnePart}
+use Rattle.sled_model.specs.Imports.{Part, OpensName, Puts, does_part_as, DoesParts, NoPart, OnePart}
 use Rattle.sled_model.specs.State.{State, NamedTree}
 use Rattle.sled_model.specs.Whole.{state_opened}
 use Rattle.sled_model.specs.declared.call.Call.TheVariants.{Insert}
@@ -50,28 +50,28 @@ with_pair t key value = record t { map = (answer_of t.merge (Insert key value) t
 pair_keeps : (t : NamedTree) (k v : Key) → find key_cmp k t.map ≡ None → (key value : Key) → find key_cmp key t.map ≡ Some value → find key_cmp key (with_pair t k v).map ≡ Some value
 pair_keeps t k v absent key value is = insert_there t.merge key k v t.map (λ same. none_some (sym absent ∙ sym (ap (λ x. find key_cmp x t.map) same) ∙ is)) ∙ is
 
-part_keeps : (a m : State) (part : Part) (maps : List Maps) → DoesPart a part m maps → LosesNothing a m
-part_keeps a m (OpensName n) maps d = subst (λ (s : State). LosesNothing a s) (sym d.is.0) (opened_keeps a n (a.trees n) refl)
+part_keeps : (a m : State) (part : Part) (maps : List Maps) → does_part_as a part m maps → LosesNothing a m
+part_keeps a m (OpensName n) maps d = subst (λ (s : State). LosesNothing a s) (sym d.0) (opened_keeps a n (a.trees n) refl)
 part_keeps a m (Puts n k v) maps d = record { is = λ name tree there. go name tree there (bytes_eq name n) refl }
   where
-    now : (name : Key) (b : Bool) → bytes_eq name n ≡ b → m.trees name ≡ cond b (Some (with_pair d.is.named k v)) (a.trees name)
-    now name b same = ap (λ (s : State). s.trees name) d.is.is ∙ ap (λ c. cond c (Some (with_pair d.is.named k v)) (a.trees name)) same
+    now : (name : Key) (b : Bool) → bytes_eq name n ≡ b → m.trees name ≡ cond b (Some (with_pair d.named k v)) (a.trees name)
+    now name b same = ap (λ (s : State). s.trees name) d.is ∙ ap (λ c. cond c (Some (with_pair d.named k v)) (a.trees name)) same
 
     go : (name : Key) (tree : NamedTree) → a.trees name ≡ Some tree → (b : Bool) → bytes_eq name n ≡ b → KeepsTree m name tree
     go name tree there true same =
-        let is : d.is.named ≡ tree = some_is (sym d.is.there ∙ sym (ap a.trees (same_name name n same)) ∙ there) in
+        let is : d.named ≡ tree = some_is (sym d.there ∙ sym (ap a.trees (same_name name n same)) ∙ there) in
         record {
-          named = with_pair d.is.named k v;
+          named = with_pair d.named k v;
           there = now name true same;
           number = ap (λ (t : NamedTree). t.number) is;
           merge = ap (λ (t : NamedTree). t.merge) is;
-          pairs = subst (λ (t : NamedTree). (key value : Key) → find key_cmp key t.map ≡ Some value → find key_cmp key (with_pair d.is.named k v).map ≡ Some value) is (pair_keeps d.is.named k v d.is.absent);
+          pairs = subst (λ (t : NamedTree). (key value : Key) → find key_cmp key t.map ≡ Some value → find key_cmp key (with_pair d.named k v).map ≡ Some value) is (pair_keeps d.named k v d.absent);
         }
     go name tree there false same = record { named = tree; there = now name false same ∙ there; number = refl; merge = refl; pairs = λ key value is. is }
 
 parts_keep : {a b : State} {parts : List Part} {maps : List Maps} → DoesParts a parts b maps → LosesNothing a b
 parts_keep {a = a} NoPart = nothing_done a
-parts_keep {a = a} {b = b} (OnePart {m = m} {part = part} {added = added} one more) = then_more a m b (part_keeps a m part added one) (parts_keep more)
+parts_keep {a = a} {b = b} (OnePart {m = m} {part = part} added one more) = then_more a m b (part_keeps a m part added one) (parts_keep more)
 
 module _ {Q N : Type 0} (store : Q → Store) (meant : N → Merge) (old new : DbValue Q N) where
   decided_keeps : (all : List Content) → ImportDecided store meant old all new → LosesNothing (db_state store meant old) (db_state store meant new)

@@ -1,5 +1,5 @@
 -- What is left of a map once the keys within two bounds were removed.
-use Rattle.std.proofs.Common.{◌≡◌, ◌&&◌, ℕ, length, Bool, true, false, not, cond, T, List, [], ◌∷◌, ◌++◌, Option, Some, None, option_map, unwrap_or, is_eq, is_lt, Ordering, Equal, map, sym, refl, ap, ◌∙◌, subst, append-nil}
+use Rattle.std.proofs.Common.{◌≡◌, ◌&&◌, ℕ, length, Bool, true, false, not, cond, T, List, [], ◌∷◌, Option, Some, None, option_map, unwrap_or, is_eq, is_lt, map, sym, refl, ap, ◌∙◌, subst}
 use Rattle.std.proofs.Math.Path.{fun_ext}
 use Rattle.std.proofs.lemmas.List.{length-map}
 use Rattle.std.specs.FinMap.Entries.{find, is_sorted, below_all, same_entries, is_sorted-where_key, find-where_key}
@@ -10,12 +10,12 @@ use Rattle.sled_nodes.specs.Among.{is_from, is_up_to}
 use Rattle.sled_nodes.specs.Order.{Key, key_cmp}
 use Rattle.sled_store.specs.Store.{Store}
 use Rattle.sled_store.specs.theory.Facts.{same_name, name_itself}
-use Rattle.sled_model.specs.Maps.{Map, Maps, Merge}
+use Rattle.sled_model.specs.Maps.{Map, Merge}
 use Rattle.sled_model.specs.Groups.{writes_on, after_writes}
 use Rattle.sled_model.specs.State.{State, NamedTree, maps_of}
 use Rattle.sled_model.specs.declared.tree.Tree.{Tree}
 use Rattle.tree_reads.specs.Ranges.{pairs_within}
-use Rattle.sled.specs.Removals.{removals, removals_within, range_group, RangeRemoved}
+use Rattle.sled.specs.Removals.{removals, removals_within, RangeRemoved}
 use Rattle.sled.specs.Sound.{MapsAscend}
 use Rattle.sled.specs.Values.{DbValue, db_state}
 use Rattle.sled.proofs.Written.{after_both, writes_elsewhere}

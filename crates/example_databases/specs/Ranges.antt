@@ -1,5 +1,5 @@
 -- What the removal of the keys within two bounds leaves.
-use Rattle.std.specs.Prelude.{◌≡◌, ◌&&◌, ℕ, not, filter, length, option_map, Option, Some, None, if◌then◌else◌}
+use Rattle.std.specs.Prelude.{◌≡◌, ◌&&◌, ℕ, not, filter, length, option_map, Some, if◌then◌else◌}
 use Rattle.std.specs.Str.{bytes_eq}
 use Rattle.std.specs.declared.ops.Bound.{Bound}
 use Rattle.sled_nodes.specs.Among.{is_from, is_up_to}

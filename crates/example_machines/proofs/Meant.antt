@@ -19,7 +19,8 @@ use Rattle.sled.specs.Flights.{call_in_flight_of}
 use Rattle.sled.specs.Values.{db_state}
 use Rattle.machine_alone.specs.CrashMaps.{AreCrashMaps, crash_maps_after}
 use Rattle.machine_alone.specs.Run.{RunsWithCrashMaps, KeepsAll, KeepsMore, MachineSteps, NoCalls, OneCall}
-use Rattle.machine_alone.specs.Step.{MachineStep, MachineStepContract, effect_of_machine_step, follows_stage_as, advances_on_path_as, starts_as, leaks_no_page_at, gives_up_as, tested_as, pops_as, clears_as, groups_as, opens_as, drops_tree_as, way_as, imports_as}
+use Rattle.machine_alone.specs.Step.{MachineStep, MachineStepContract, effect_of_machine_step, follows_stage_as, advances_on_path_as, starts_as, leaks_no_page_at, gives_up_as, tested_as, way_as}
+use Rattle.machine_alone.specs.Ways.{pops_as, clears_as, groups_as, opens_as, drops_tree_as, imports_as}
 use Rattle.machine_alone.specs.Values.{MachineValue, configuration_of, slots_of}
 use Rattle.example_machines.proofs.Plain.{plain, same_configuration, same_db, same_tests, plain_sound, meant_sound, plain_gives_up, plain_opens_by, plain_opens_not, plain_drops, plain_drops_not, plain_pops, plain_stops, plain_clears, plain_clear_stops, plain_quiet, plain_loud, plain_imports, plain_imports_not}
 

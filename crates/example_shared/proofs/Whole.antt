@@ -5,13 +5,12 @@ use Rattle.std.proofs.lemmas.List.Sums.{sum_by-cons}
 use Rattle.sled_nodes.specs.Order.{Key}
 use Rattle.sled_store.specs.Store.{Store}
 use Rattle.sled_model.specs.declared.call.Call.TheVariants.{Get, CompareAndSwap}
-use Rattle.sled_model.specs.declared.reply.Reply.{Reply}
 use Rattle.sled_model.specs.declared.reply.Reply.TheVariants.{Swapped}
 use Rattle.sled_model.specs.declared.tree.Tree.{Tree}
 use Rattle.tree_laws.proofs.Pairs.{each_append}
 use Rattle.machine_shared.specs.Gathered.{EachOnce, IsMadeIn, IsOfGiven}
 use Rattle.machine_shared.specs.History.{maps_from}
-use Rattle.machine_shared.specs.Made.{MadeValue, PointMade, TransactionMade, EntryValue}
+use Rattle.machine_shared.specs.Made.{MadeValue, PointMade, TransactionMade}
 use Rattle.machine_shared.specs.Sound.{HasLegalHistory, IsOpen, maps_now}
 use Rattle.machine_shared.specs.Values.{CallerValue, StateValue}
 use Rattle.example_parts.specs.Counters.{number_in}

@@ -10,7 +10,7 @@ use Rattle.sled_model.specs.declared.tree.Tree.{Tree}
 use Rattle.machine_shared.specs.History.{makes_as}
 use Rattle.machine_shared.specs.Made.{MadeValue, PointMade, WholeMade, PartsMade, ReadMade, TransactionMade, EntryValue}
 pub use Rattle.machine_shared.specs.Stood.{found_in}
-use Rattle.machine_shared.specs.Wholes.{WholeValue, Flush, PopMin, PopMax, Clear, Group, OpenTree, DropTree, GenerateId, Import, Watch, Next, Unsubscribe}
+use Rattle.machine_shared.specs.Wholes.{WholeValue, PopMin, PopMax, Clear, Group, DropTree, Import}
 
 -- the value at a key of the tree of this name
 abbrev pub value_at : Maps → Key → Key → Option Key
@@ -35,18 +35,13 @@ point_passes tree key t call = (t.name ≢ tree) ⊎ (key_of call ≢ key)
 
 -- a whole call that changes no pair, or those of another tree alone
 abbrev pub whole_passes : Key → WholeValue → Type 0
-whole_passes tree Flush = Unit {0}
 whole_passes tree (PopMin t) = t.name ≢ tree
 whole_passes tree (PopMax t) = t.name ≢ tree
 whole_passes tree (Clear t) = t.name ≢ tree
 whole_passes tree (Group batches) = ⊥
-whole_passes tree (OpenTree name) = Unit {0}
 whole_passes tree (DropTree name) = name ≢ tree
-whole_passes tree GenerateId = Unit {0}
 whole_passes tree (Import all) = ⊥
-whole_passes tree (Watch t prefix) = Unit {0}
-whole_passes tree (Next subscriber) = Unit {0}
-whole_passes tree (Unsubscribe subscriber) = Unit {0}
+whole_passes tree whole = Unit {0}
 
 -- a call that passes the key by. Of groups, transactions and imports, and of calls that were refused after some parts, none is said to
 abbrev pub passes_by : Key → Key → MadeValue → Type 0

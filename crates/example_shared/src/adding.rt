@@ -4,8 +4,8 @@ ghost use Rattle.example_shared.specs.Adding.{RaisesInside};
 ghost use Rattle.example_shared.specs.Raising.{Raises};
 
 use example_parts::number_at;
-use sled::{ConflictableTransactionResult, TransactionResult, TransactionalTree, abort};
-use sled_machine::shared::{Handle, law_shows_inside};
+use sled::{ConflictableTransactionResult, TransactionResult, TransactionalTree, abort, law_shows};
+use sled_machine::shared::Handle;
 use sled_model::{MergeOperator, Tree};
 use sled_store::Pages;
 use std::sync::Wait;
@@ -39,7 +39,7 @@ fn raise_inside<P: Pages>(
 /// ```
 /// let raised = raise_at_once(rt, &mut handle, &tree, b"visits");
 /// ```
-pub fn raise_at_once<P: Pages + Sync, L: Ledger, M: MergeOperator>(
+pub fn raise_at_once<P: Pages, L: Ledger, M: MergeOperator>(
     rt: &impl Wait,
     handle: &mut Handle<P, L, M>,
     tree: &Tree,
@@ -49,6 +49,6 @@ pub fn raise_at_once<P: Pages + Sync, L: Ledger, M: MergeOperator>(
     ensures err { OnErr result (handle.new.made ≡ handle.old.made) }
     ensures number { handle.new.number ≡ handle.old.number }
 {
-    law_shows_inside::<P, M>();
+    law_shows::<P, M>();
     handle.transaction(rt, tree, |inside| raise_inside(inside, key))
 }

@@ -1,9 +1,9 @@
-//! Three threads count visits in a database in files, each by a handle of its own. What was flushed is found again.
+//! Three threads count visits in a database in files, each by transactions of a handle of its own. What was flushed is found again.
 #![tactic(auto)]
 
 ghost use Rattle.std.specs.Prelude.{◌≡◌, ◌+◌};
 
-use sled::{Db, Error, IVec, Outcome, Reply, Tree};
+use sled::{Db, Error, IVec, TransactionResult, Tree};
 use sled_files::FilePages;
 use sled_host::HostFile;
 use sled_machine::shared::{self, Blank, Handle};
@@ -30,19 +30,16 @@ fn number_in(value: &Option<IVec>) -> u64 {
     }
 }
 
-// Swaps the number for the next one, again if another thread came between.
-fn count_one<L: Ledger>(rt: &impl Wait, alloc: Global, tree: &Tree, handle: &mut Handle<Files, L>) {
-    for _ in 0..100 {
-        let Outcome::Decided(Reply::Value(value)) = handle.get(rt, alloc, tree, b"visits") else {
-            return;
-        };
-        let old = value.as_ref().map(|bytes| bytes.as_ref());
-        let new = number_in(&value).wrapping_add(1).to_be_bytes();
-        let swap = handle.compare_and_swap(rt, alloc, tree, b"visits", old, Some(&new));
-        if let Outcome::Decided(Reply::Swapped(Ok(()))) = swap {
-            return;
-        }
-    }
+// Writes the next number, as a transaction: no other thread comes between.
+fn count_one<L: Ledger>(rt: &impl Wait, tree: &Tree, handle: &mut Handle<Files, L>) {
+    let counted: TransactionResult<(), ()> = handle.transaction(rt, tree, |inside| {
+        let visits = inside.get(b"visits")?;
+        let next = number_in(&visits).wrapping_add(1);
+        drop(visits);
+        inside.insert(b"visits", &next.to_be_bytes())?;
+        Ok(())
+    });
+    drop(counted);
 }
 
 // Three handles go to threads, and are returned.
@@ -62,7 +59,7 @@ fn work<L: Ledger + Send + Sync, R: Threads + Wait + Sync>(
         handles,
         &|mut handle| {
             for _ in 0..10 {
-                count_one(rt, alloc, tree, &mut handle);
+                count_one(rt, tree, &mut handle);
             }
             handle
         },

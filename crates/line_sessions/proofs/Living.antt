@@ -6,7 +6,7 @@ use Rattle.sled_model.specs.Maps.{Merge}
 use Rattle.line_words.specs.Print.{Prints, bad_line}
 use Rattle.line_sessions.specs.Session.{Obeys}
 use Rattle.line_sessions.specs.Serve.{lines_of, crash_of, Lives, AtEnd, AtBadLine, AtCrash, Obeying, Place, told_of, RunsOn, RunsFrom}
-use Rattle.line_sessions.specs.theory.Serve.{BeginsSo, Took, LivesOn, LivesFrom}
+use Rattle.line_sessions.specs.theory.Serve.{BeginsSo, Took, LivesFrom}
 use Rattle.line_words.specs.declared.command.Command.{Command}
 use Rattle.line_words.specs.declared.command.Command.TheVariants as command
 use Rattle.line_sessions.specs.declared.lines.End.{End}

@@ -47,18 +47,8 @@ shown_of (Scan lo hi back) = shown.Value
 
 -- the number in the reply to a whole call is an id, or counts what a flush made durable
 abbrev pub shown_of_whole : Whole → Shown
-shown_of_whole whole.Flush = shown.Value
-shown_of_whole (whole.PopMin tree) = shown.Value
-shown_of_whole (whole.PopMax tree) = shown.Value
-shown_of_whole (whole.Clear tree) = shown.Value
-shown_of_whole (whole.Group batches) = shown.Value
-shown_of_whole (whole.OpenTree name) = shown.Value
-shown_of_whole (whole.DropTree name) = shown.Value
 shown_of_whole whole.GenerateId = shown.Number
-shown_of_whole (whole.Import collections) = shown.Value
-shown_of_whole (whole.Watch tree prefix) = shown.Value
-shown_of_whole (whole.Next subscriber) = shown.Value
-shown_of_whole (whole.Unsubscribe subscriber) = shown.Value
+shown_of_whole made = shown.Value
 
 abbrev pub name_of : Shown → List ℕ
 name_of shown.Old = codes "old "

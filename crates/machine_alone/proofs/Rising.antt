@@ -5,7 +5,7 @@ use Rattle.sled_store.specs.Store.{Store}
 use Rattle.sled_model.specs.Maps.{Maps, Merge}
 use Rattle.sled_model.specs.Answer.{answer_of}
 use Rattle.sled_model.specs.Groups.{Write, writes_of, after_write_on, after_writes}
-use Rattle.sled_model.specs.Imports.{Part, OpensName, Puts, DoesPart, DoesParts, NoPart, OnePart}
+use Rattle.sled_model.specs.Imports.{Part, OpensName, Puts, does_part_as, DoesParts, NoPart, OnePart}
 use Rattle.sled_model.specs.State.{State, NamedTree, after_decision_on}
 use Rattle.sled_model.specs.Transition.{Configuration, transition_as}
 use Rattle.sled_model.specs.Whole.{after_pop, RemovesLeast, RemovesNone, RemovesOne, state_opened, state_dropped}
@@ -53,13 +53,13 @@ dropped (Some t) s name = refl
 dropped None s name = refl
 
 -- no part of an import gives an id
-part_done : (a b : State) (part : Part) (maps : List Maps) → DoesPart a part b maps → b.greatest_id ≡ a.greatest_id
-part_done a b (OpensName name) maps d = ap (λ (s : State). s.greatest_id) d.is.0 ∙ opened (a.trees name) a name
-part_done a b (Puts name key value) maps d = ap (λ (s : State). s.greatest_id) d.is.is
+part_done : (a b : State) (part : Part) (maps : List Maps) → does_part_as a part b maps → b.greatest_id ≡ a.greatest_id
+part_done a b (OpensName name) maps d = ap (λ (s : State). s.greatest_id) d.0 ∙ opened (a.trees name) a name
+part_done a b (Puts name key value) maps d = ap (λ (s : State). s.greatest_id) d.is
 
 parts_done : {a b : State} {parts : List Part} {maps : List Maps} → DoesParts a parts b maps → b.greatest_id ≡ a.greatest_id
 parts_done NoPart = refl
-parts_done (OnePart {a = a} {m = m} {part = part} {added = added} one more) = parts_done more ∙ part_done a m part added one
+parts_done (OnePart {a = a} {m = m} {part = part} added one more) = parts_done more ∙ part_done a m part added one
 
 -- no write of a group gives an id
 written_on : (o : Option NamedTree) (w : Write) (s : State) → (after_write_on o w s).greatest_id ≡ s.greatest_id
@@ -96,7 +96,7 @@ whole_rises a b (Group batches) (outcome.Refused e) maps t = elim t.is [
   | inl same ↦ stays a.state b.state same
   | inr closed ↦ at_most _ _ (ap (λ (s : State). s.greatest_id) closed.1.is)
 ]
-whole_rises a b (Import collections) (outcome.Refused e) maps t = elim t.is [
+whole_rises a b (Import collections) (outcome.Refused e) maps t = elim t [
   | inl none ↦ stays a.state b.state none.1
   | inr parts ↦ at_most _ _ (parts_done parts.1.does)
 ]

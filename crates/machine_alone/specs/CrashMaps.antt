@@ -4,7 +4,7 @@ use Rattle.sled_store.specs.Store.{Store, now}
 use Rattle.sled_store.specs.Crash.{crash_states}
 use Rattle.sled_model.specs.Maps.{Maps}
 use Rattle.sled_model.specs.declared.call.Whole.{Whole}
-use Rattle.sled_model.specs.declared.call.Whole.TheVariants.{Flush, PopMin, PopMax, Clear, Group, OpenTree, DropTree, GenerateId, Import, Watch, Next, Unsubscribe}
+use Rattle.sled_model.specs.declared.call.Whole.TheVariants.{Flush}
 use Rattle.sled_model.specs.declared.outcome.Step.{Step}
 use Rattle.sled_model.specs.declared.outcome.Step.TheVariants as step
 use Rattle.sled_model.specs.declared.outcome.Outcome.{Outcome}
@@ -16,25 +16,10 @@ use Rattle.tree_laws.specs.Crashes.{StutterEquivalent, AddsCrashStates, Flushes}
 pub record AreCrashMaps (s : Store) (maps : List Maps) : Type 0 where
   pub is : StutterEquivalent (map trees_of (crash_states s)) maps
 
--- The list of maps after a whole call that was decided: it goes on by those that the call added, at its end. A flush makes all durable,
--- and leaves the maps now alone
-abbrev pub crash_maps_after_whole : Whole → List Maps → Maps → List Maps → List Maps
-crash_maps_after_whole Flush added after kept = after ∷ []
-crash_maps_after_whole (PopMin tree) added after kept = kept ++ added
-crash_maps_after_whole (PopMax tree) added after kept = kept ++ added
-crash_maps_after_whole (Clear tree) added after kept = kept ++ added
-crash_maps_after_whole (Group batches) added after kept = kept ++ added
-crash_maps_after_whole (OpenTree name) added after kept = kept ++ added
-crash_maps_after_whole (DropTree name) added after kept = kept ++ added
-crash_maps_after_whole GenerateId added after kept = kept ++ added
-crash_maps_after_whole (Import collections) added after kept = kept ++ added
-crash_maps_after_whole (Watch tree prefix) added after kept = kept ++ added
-crash_maps_after_whole (Next subscriber) added after kept = kept ++ added
-crash_maps_after_whole (Unsubscribe subscriber) added after kept = kept ++ added
-
--- .. and after a step: by those that the step added, if it is no such call
+-- The list of maps after a step: it goes on by those that the step added, at its end. A flush that is decided makes all durable, and leaves
+-- the maps now alone
 abbrev pub crash_maps_after : Step → Outcome → List Maps → Maps → List Maps → List Maps
-crash_maps_after (step.Whole whole) (Decided reply) added after kept = crash_maps_after_whole whole added after kept
+crash_maps_after (step.Whole Flush) (Decided reply) added after kept = after ∷ []
 crash_maps_after s o added after kept = kept ++ added
 
 -- What is no step of a machine, and adds states that a crash may leave, makes the list of maps go on by its own

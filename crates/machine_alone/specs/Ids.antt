@@ -1,7 +1,7 @@
 -- The ids that steps give.
 use Rattle.std.specs.Prelude.{ℕ, ◌<◌, ◌≤◌, List, [], ◌∷◌, ◌++◌}
 use Rattle.sled_model.specs.declared.call.Whole.{Whole}
-use Rattle.sled_model.specs.declared.call.Whole.TheVariants.{Flush, PopMin, PopMax, Clear, Group, OpenTree, DropTree, GenerateId, Import, Watch, Next, Unsubscribe}
+use Rattle.sled_model.specs.declared.call.Whole.TheVariants.{GenerateId}
 use Rattle.sled_model.specs.declared.outcome.Step.{Step}
 use Rattle.sled_model.specs.declared.outcome.Step.TheVariants as step
 use Rattle.sled_model.specs.declared.outcome.Outcome.{Outcome}
@@ -11,19 +11,8 @@ use Rattle.sled_model.specs.declared.reply.Reply.TheVariants.{Number}
 
 -- the id that a decided whole call gave, if it gave one
 abbrev pub id_of_whole : Whole → Reply → List ℕ
-id_of_whole Flush reply = []
-id_of_whole (PopMin tree) reply = []
-id_of_whole (PopMax tree) reply = []
-id_of_whole (Clear tree) reply = []
-id_of_whole (Group batches) reply = []
-id_of_whole (OpenTree name) reply = []
-id_of_whole (DropTree name) reply = []
 id_of_whole GenerateId (Number id) = id ∷ []
-id_of_whole GenerateId reply = []
-id_of_whole (Import collections) reply = []
-id_of_whole (Watch tree prefix) reply = []
-id_of_whole (Next subscriber) reply = []
-id_of_whole (Unsubscribe subscriber) reply = []
+id_of_whole whole reply = []
 
 -- the id that a step gave, if it gave one
 abbrev pub id_of : Step → Outcome → List ℕ

@@ -1,6 +1,7 @@
 pub mod Values
 pub mod CrashMaps
 pub mod StepsInSlot
+pub mod Ways
 pub mod Step
 pub mod Kept
 pub mod Run

@@ -1,20 +1,14 @@
 -- One step of the machine.
-use Rattle.std.specs.Prelude.{◌≡◌, ◌≢◌, ℕ, suc, ◌<◌, Bool, List, [], length, Option, Some, None}
+use Rattle.std.specs.Prelude.{◌≡◌, ◌≢◌, ℕ, suc, ◌<◌, List, [], length, Option, Some, None}
 use Rattle.sled_store.specs.Store.{Store, now}
 use Rattle.sled_nodes.specs.Order.{Key}
-use Rattle.sled_batch.specs.Batch.{Writes}
-use Rattle.sled_model.specs.Maps.{Map, Maps, Merge, IsLeast, IsGreatest}
+use Rattle.sled_model.specs.Maps.{Maps, Merge}
 use Rattle.sled_model.specs.Answer.{answer_of}
 use Rattle.sled_model.specs.Refusal.{ToCall, ToStep, must_refuse, turns_limit}
 use Rattle.sled_model.specs.State.{State, NamedTree, CallInFlight, maps_of, range_of}
-use Rattle.sled_model.specs.Collections.{Content, contents_of}
-use Rattle.sled_model.specs.Imports.{parts_of}
 use Rattle.sled_model.specs.Transition.{Transition, Kind, Flushing, kind_of}
 use Rattle.sled_nodes.specs.declared.error.Error.{Error}
 use Rattle.sled_model.specs.declared.call.Whole.{Whole}
-use Rattle.sled_model.specs.declared.call.Whole.TheVariants.{Flush, PopMin, PopMax, Clear, Group, OpenTree, DropTree, GenerateId, Import, Watch, Next, Unsubscribe}
-use Rattle.sled_model.specs.declared.reply.Reply.TheVariants.{Pair, Flag}
-use Rattle.sled_model.specs.declared.tree.Tree.{Tree}
 use Rattle.sled_model.specs.declared.outcome.Step.{Step}
 use Rattle.sled_model.specs.declared.outcome.Step.TheVariants as step
 use Rattle.sled_model.specs.declared.outcome.Outcome.{Outcome}
@@ -30,19 +24,14 @@ use Rattle.sled_tree.specs.declared.flight.Aim.TheVariants.{Own}
 use Rattle.sled_tree.specs.declared.flight.InFlight.{InFlight}
 use Rattle.tree_laws.specs.declared.flight.Stage.TheVariants.{Root}
 use Rattle.sled_tree.specs.declared.flight.Went.{Went}
-use Rattle.tree_reads.specs.Walk.{once, for_each}
 use Rattle.sled.specs.Sound.{IsDb}
 use Rattle.sled.specs.Values.{DbValue, db_state, snapshot_of_db}
 use Rattle.tree_steps.specs.Outcomes.{outcome_of}
 use Rattle.sled.specs.Flights.{IsStepRefused, KeepsTreePages, call_in_flight_of, follows_as, has_path}
 use Rattle.sled.specs.Direct.{KeepsOrFreesTreePages, effect_of_whole, lost_of}
-use Rattle.sled.specs.Groups.{IsQuietGroup, is_loud_group}
-use Rattle.sled.specs.Drops.{DropsTree, RefusesDrop}
-use Rattle.sled.specs.Opens.{OpensBySteps, OpenRefusedBySteps}
-use Rattle.sled.specs.Pops.{GivesUpPop, PopsBySteps, PopRefusedBySteps, ClearsBySteps, ClearRefusedBySteps}
-use Rattle.sled.specs.Imports.{ImportsBySteps, ImportRefused}
 use Rattle.machine_alone.specs.CrashMaps.{AreCrashMaps, crash_maps_after}
 use Rattle.machine_alone.specs.StepsInSlot.{flight_after}
+use Rattle.machine_alone.specs.Ways.{way_for}
 use Rattle.machine_alone.specs.Values.{MachineValue, kept_at, configuration_of}
 
 -- One step of the machine is a step of the model, which adds these maps to those after each decided call. Whatever maps a crash might leave
@@ -170,20 +159,9 @@ leaks_no_page_at store old s o new = Unit {0}
 pub record MachineLeaksNoPage {P M : Type 0} (store : P → Store) (old : MachineValue P M) (s : Step) (o : Outcome) (new : MachineValue P M) : Type 0 where
   pub is : leaks_no_page_at store old s o new
 
--- when a whole call may be refused for its turns: a pop only if the tree is large or its way to the key is long
+-- when a whole call may be refused for its turns
 abbrev pub whole_gives_up : {P M : Type 0} → (P → Store) → (M → Merge) → DbValue P M → Whole → Error → Type 0
-whole_gives_up store meant old Flush e = Unit {0}
-whole_gives_up store meant old (PopMin tree) e = GivesUpPop store meant old tree IsLeast once e
-whole_gives_up store meant old (PopMax tree) e = GivesUpPop store meant old tree IsGreatest for_each e
-whole_gives_up store meant old (Clear tree) e = Unit {0}
-whole_gives_up store meant old (Group batches) e = Unit {0}
-whole_gives_up store meant old (OpenTree name) e = Unit {0}
-whole_gives_up store meant old (DropTree name) e = Unit {0}
-whole_gives_up store meant old GenerateId e = Unit {0}
-whole_gives_up store meant old (Import collections) e = Unit {0}
-whole_gives_up store meant old (Watch tree prefix) e = Unit {0}
-whole_gives_up store meant old (Next subscriber) e = Unit {0}
-whole_gives_up store meant old (Unsubscribe subscriber) e = Unit {0}
+whole_gives_up store meant old whole e = (way_for store meant old whole).gives_up e
 
 abbrev pub gives_up_as : {P M : Type 0} → (P → Store) → (M → Merge) → DbValue P M → Step → Outcome → Type 0
 gives_up_as store meant old (step.Whole whole) (Refused e) = whole_gives_up store meant old whole e
@@ -204,54 +182,9 @@ tested_as store meant old s o new = Unit {0}
 pub record MachineTested {P M : Type 0} (store : P → Store) (meant : M → Merge) (old : MachineValue P M) (s : Step) (o : Outcome) (new : MachineValue P M) : Type 0 where
   pub is : tested_as store meant old s o new
 
--- The way in which a pop and a clear get their answers: the steps of each removal, one after the other, and no others
-abbrev pub pops_as : {P M : Type 0} → (P → Store) → (M → Merge) → DbValue P M → Tree → (Map → Option (Key × Key) → Type 0) → (ℕ → ℕ) → Outcome → DbValue P M → Type 0
-pops_as store meant old tree is_end of (Decided reply) new = (found : Option (Key × Key)) × (reply ≡ Pair found) × PopsBySteps store meant old tree is_end found new
-pops_as store meant old tree is_end of (Refused e) new = PopRefusedBySteps store meant old tree is_end of e new
-pops_as store meant old tree is_end of o new = Unit {0}
-
-abbrev pub clears_as : {P M : Type 0} → (P → Store) → (M → Merge) → DbValue P M → Tree → Outcome → DbValue P M → Type 0
-clears_as store meant old tree (Decided reply) new = ClearsBySteps store meant tree old new
-clears_as store meant old tree (Refused e) new = ClearRefusedBySteps store meant old tree e new
-clears_as store meant old tree o new = Unit {0}
-
--- a known name is opened without an action, and a new one by two
-abbrev pub opens_as : {P M : Type 0} → (P → Store) → DbValue P M → Key → Outcome → DbValue P M → Type 0
-opens_as store old name (Decided reply) new = OpensBySteps store name old new
-opens_as store old name (Refused e) new = OpenRefusedBySteps store name old e new
-opens_as store old name o new = Unit {0}
-
--- a tree is dropped: its root goes and then its pages, and what is refused leaves all as it was
-abbrev pub drops_tree_as : {P M : Type 0} → (P → Store) → (M → Merge) → DbValue P M → Key → Outcome → DbValue P M → Type 0
-drops_tree_as store meant old name (Decided reply) new = (dropped : Bool) × (reply ≡ Flag dropped) × DropsTree store meant old name dropped new
-drops_tree_as store meant old name (Refused e) new = RefusesDrop store meant old name e new
-drops_tree_as store meant old name o new = Unit {0}
-
--- a group that brings no event does nothing, and if it is decided one that brings an event was begun and sealed
-abbrev pub groups_as : {P M : Type 0} → (P → Store) → (M → Merge) → DbValue P M → List (Tree × Writes) → Outcome → DbValue P M → Type 0
-groups_as store meant old batches (Decided reply) new = IsQuietGroup store meant old batches new × is_loud_group store meant old batches new
-groups_as store meant old batches (Refused e) new = IsQuietGroup store meant old batches new
-groups_as store meant old batches o new = Unit {0}
-
--- an import does each of its parts by the steps of an opening or of an insert, and what is refused stops at one of them
-abbrev pub imports_as : {P M : Type 0} → (P → Store) → (M → Merge) → DbValue P M → List Content → Outcome → DbValue P M → Type 0
-imports_as store meant old all (Decided reply) new = ImportsBySteps store meant old (parts_of all) new
-imports_as store meant old all (Refused e) new = ImportRefused store meant old all e new
-imports_as store meant old all o new = Unit {0}
-
+-- the way in which a whole call gets its answer
 abbrev pub way_of_whole : {P M : Type 0} → (P → Store) → (M → Merge) → DbValue P M → Whole → Outcome → DbValue P M → Type 0
-way_of_whole store meant old Flush o new = Unit {0}
-way_of_whole store meant old (PopMin tree) o new = pops_as store meant old tree IsLeast once o new
-way_of_whole store meant old (PopMax tree) o new = pops_as store meant old tree IsGreatest for_each o new
-way_of_whole store meant old (Clear tree) o new = clears_as store meant old tree o new
-way_of_whole store meant old (Group batches) o new = groups_as store meant old batches.items o new
-way_of_whole store meant old (OpenTree name) o new = opens_as store old name o new
-way_of_whole store meant old (DropTree name) o new = drops_tree_as store meant old name o new
-way_of_whole store meant old GenerateId o new = Unit {0}
-way_of_whole store meant old (Import collections) o new = imports_as store meant old (contents_of collections.items) o new
-way_of_whole store meant old (Watch tree prefix) o new = Unit {0}
-way_of_whole store meant old (Next subscriber) o new = Unit {0}
-way_of_whole store meant old (Unsubscribe subscriber) o new = Unit {0}
+way_of_whole store meant old whole o new = (way_for store meant old whole).way o new
 
 abbrev pub way_as : {P M : Type 0} → (P → Store) → (M → Merge) → DbValue P M → Step → Outcome → DbValue P M → Type 0
 way_as store meant old (step.Whole whole) o new = way_of_whole store meant old whole o new

@@ -14,7 +14,11 @@ ghost use Rattle.tree_steps.specs.Outcomes.{kept_of};
 use crate::flights::{
     add, finish_in, job_in, outcome_at_once, outcome_of, remove, step_in, turns_in,
 };
-use sled::{Db, TransactionAnswer, TransactionalTree, TransactionalTrees};
+use sled::{
+    Commit, Db, Overlays, TransactionAnswer, TransactionResult, TransactionalTree,
+    TransactionalTrees,
+};
+use sled_batch::Batch;
 use sled_model::{Call, MergeOperator, Outcome, Reply, Slot, Step, Tree};
 use sled_nodes::texts::NUMBERS_USED_UP;
 use sled_nodes::{Error, IVec, Result};
@@ -69,7 +73,7 @@ impl<P: Pages, M: MergeOperator> Machine<P, M> {
     ghost use Rattle.sled.specs.Fetch.{Stands, FetchDecided, FetchRefused};
     ghost use Rattle.sled.specs.Promises.{ChangesMap, leaves_as};
     ghost use Rattle.sled.specs.Written.{Updates, WritesOnTree, RefusesOnTree, WritesOnList, RefusesOnList, LeavesOrFlushes};
-    ghost use Rattle.sled.specs.Transactions.{CanTransact, TransactionMade, TransactionNotMade, CanTransactAll, ListMade, ListNotMade, trees_of_list};
+    ghost use Rattle.sled.specs.Transactions.{CanTransact, TransactionRuns, TransactionMade, TransactionNotMade, CanTransactAll, ListRuns, ListMade, ListNotMade, trees_of_list};
     ghost use Rattle.machine_alone.specs.Step.{MachineStep, MachineSound, MachineActs, MachineFollows, MachinePasses, MachineSlots, MachineKeepsTreePages, MachineLeaksNoPage, MachineStepContract};
     ghost use Rattle.machine_alone.specs.Run.{MachineRun, MachineSteps};
     ghost use Rattle.machine_alone.specs.Finish.{RunsToEnd, Completes};
@@ -219,6 +223,52 @@ impl<P: Pages, M: MergeOperator> Machine<P, M> {
         ensures same { self.new ≡ record (self.old) { db = self.new.db } }
     {
         self.db.transaction(tree, f)
+    }
+
+    /// Runs a closure as `transaction` does, and hands back what it wrote, as `run_transaction` of the database does. The calls in flight
+    /// stay as they are.
+    ///
+    /// ```
+    /// let ended: TransactionResult<Commit<(), Batch>, ()> = machine.run_transaction(&tree, |weather| {
+    ///     weather.insert(b"ulm", b"21")?;
+    ///     Ok(())
+    /// });
+    /// ```
+    pub fn run_transaction<A, E, R: TransactionAnswer<A, E>, F>(
+        &mut self,
+        tree: &Tree,
+        f: F,
+    ) -> TransactionResult<Commit<A, Batch>, E>
+    where
+        F: Fn(&mut TransactionalTree<'_, P>) -> R,
+        requires { CanTransact P.store M.meant (F.pre f) self.old.db tree.now }
+        ensures runs { TransactionRuns P.store P.flush_number M.meant F.Fn R.result_of f self.old.db tree.now result self.new.db }
+        ensures same { self.new ≡ record (self.old) { db = self.new.db } }
+    {
+        self.db.run_transaction(tree, f)
+    }
+
+    /// The same of several trees, as `run_transaction_all` of the database does.
+    ///
+    /// ```
+    /// let ended: TransactionResult<Commit<(), Overlays>, ()> =
+    ///     machine.run_transaction_all(&[&ready, &done], |both| {
+    ///         both.insert(1, b"ulm", b"21")?;
+    ///         Ok(())
+    ///     });
+    /// ```
+    pub fn run_transaction_all<A, E, R: TransactionAnswer<A, E>, F>(
+        &mut self,
+        trees: &[&Tree],
+        f: F,
+    ) -> TransactionResult<Commit<A, Overlays>, E>
+    where
+        F: Fn(&mut TransactionalTrees<'_, P>) -> R,
+        requires { CanTransactAll P.store M.meant (F.pre f) self.old.db (trees_of_list trees.now) }
+        ensures runs { ListRuns P.store P.flush_number M.meant F.Fn R.result_of f self.old.db (trees_of_list trees.now) result self.new.db }
+        ensures same { self.new ≡ record (self.old) { db = self.new.db } }
+    {
+        self.db.run_transaction_all(trees, f)
     }
 
     /// Runs a closure as a transaction of several trees, as `transaction_all` of the database does. The calls in flight stay as they are.

@@ -22,7 +22,6 @@ use Rattle.tree_laws.specs.declared.flight.Stage.{Stage}
 use Rattle.tree_laws.specs.declared.flight.Stage.TheVariants.{Root, Give}
 use Rattle.sled_tree.specs.Course.{Course, IsAimed, aim_of, course_of, first_aim}
 use Rattle.sled_tree.specs.Follows.{Follows, FollowsOn}
-use Rattle.sled_tree.specs.Stages.{IsOnItsWay}
 use Rattle.sled_tree.specs.declared.flight.Aim.{Aim}
 use Rattle.sled_tree.specs.declared.flight.Aim.TheVariants.{Own, At}
 use Rattle.sled_tree.specs.declared.flight.InFlight.{InFlight}

@@ -23,7 +23,7 @@ use Rattle.machine_alone.specs.Values.{MachineValue}
 use Rattle.machine_shared.specs.Made.{EntryValue, MadeValue}
 use Rattle.machine_shared.specs.Notes.{entries_of}
 use Rattle.machine_shared.specs.Scans.{ScansValue}
-use Rattle.machine_shared.specs.Transacted.{DoesNothing, CannotNote, LacksMemory, CannotRead, MakesGroup, CommitsGroup, RefusesCommit, ByNoting, ByGroup, ByFlush, ByTest, ByClosure, ByCommit, flushes_as, transacts_as}
+use Rattle.machine_shared.specs.Transacted.{DoesNothing, CannotNote, LacksMemory, CannotRead, MakesGroup, CommitsGroup, RefusesCommit, ByNoting, ByGroup, ByFlush, ByTest, ByClosure, ByCommit, OnlyRuns, flushes_as, transacts_as, with_db}
 use Rattle.machine_shared.specs.Transactions.{transaction_made}
 use Rattle.machine_shared.specs.UnderLock.{MakesWhole}
 use Rattle.machine_shared.specs.Values.{CallerValue, StateValue}
@@ -147,20 +147,21 @@ module _ {P M : Type 0} (store : P → Store) (flush_number : P → ℕ) (meant 
 
   -- ---- a transaction
 
-  module _ {A E W : Type 0} (tests : DbValue P M → Error → Type 0) (runs : DbValue P M → Result (Commit A W) (TransactionError E) → Type 0) (batches_of : W → List (Tree × Writes)) (has : Bool) (me more : CallerValue) (old new : StateValue P M) where
-    pub transacted : (commit : Commit A W) → runs old.machine.db (Ok commit) → CommitsGroup store flush_number meant (batches_of commit.writes) (has && commit.flushes) me more old new
+  module _ {A E W : Type 0} (tests : DbValue P M → Error → Type 0) (runs : DbValue P M → Result (Commit A W) (TransactionError E) → DbValue P M → Type 0) (batches_of : W → List (Tree × Writes)) (has : Bool) (me more : CallerValue) (old run new : StateValue P M) (same : run ≡ with_db old run.machine.db) where
+    pub transacted : (commit : Commit A W) → runs old.machine.db (Ok commit) run.machine.db → CommitsGroup store flush_number meant (batches_of commit.writes) (has && commit.flushes) me more run new
         → transacts_as store flush_number meant tests runs batches_of has (Ok commit.answer) me more old new
-    transacted commit ran commits = record { commit = commit; answers = refl; ran = ran; commits = commits }
+    transacted commit ran commits = record { commit = commit; answers = refl; after = run.machine.db; ran = ran; commits = subst (λ (z : StateValue P M). CommitsGroup store flush_number meant (batches_of commit.writes) (has && commit.flushes) me more z new) same commits }
 
-    pub uncommitted : (commit : Commit A W) (e : Error) → runs old.machine.db (Ok commit) → RefusesCommit store flush_number meant (batches_of commit.writes) (has && commit.flushes) e me more old new
+    pub uncommitted : (commit : Commit A W) (e : Error) → runs old.machine.db (Ok commit) run.machine.db → RefusesCommit store flush_number meant (batches_of commit.writes) (has && commit.flushes) e me more run new
         → transacts_as store flush_number meant tests runs batches_of has (Err (Storage e)) me more old new
-    uncommitted commit e ran why = ByCommit commit ran why
+    uncommitted commit e ran why = ByCommit commit run.machine.db ran (subst (λ (z : StateValue P M). RefusesCommit store flush_number meant (batches_of commit.writes) (has && commit.flushes) e me more z new) same why)
 
   -- a closure that did not end by something to write, or was not run
-  pub not_made : {A E W : Type 0} (tests : DbValue P M → Error → Type 0) (runs : DbValue P M → Result (Commit A W) (TransactionError E) → Type 0) (batches_of : W → List (Tree × Writes)) (has : Bool) (me : CallerValue) (s : StateValue P M) (e : TransactionError E)
-      → ran_as (tests s.machine.db) (runs s.machine.db) (Err e) → transacts_as {A = A} store flush_number meant tests runs batches_of has (Err e) me me s s
-  not_made tests runs batches_of has me s (Abort e) ran = (ran, nothing me s)
-  not_made tests runs batches_of has me s (Storage e) ran = elim ran [
-    | inl t ↦ ByTest t (nothing me s)
-    | inr r ↦ ByClosure r (nothing me s)
-  ]
+  module _ {A E W : Type 0} (tests : DbValue P M → Error → Type 0) (runs : DbValue P M → Result (Commit A W) (TransactionError E) → DbValue P M → Type 0) (batches_of : W → List (Tree × Writes)) (has : Bool) (me : CallerValue) (old run : StateValue P M) (same : run ≡ with_db old run.machine.db) where
+    only_ran : (e : TransactionError E) → runs old.machine.db (Err e) run.machine.db → OnlyRuns {A = A} store flush_number meant tests runs batches_of has (Err e) me me old run
+    only_ran e ran = record { after = run.machine.db; ran = ran; nothing = record { caller = refl; state = same } }
+
+    pub not_made : (e : TransactionError E) → ran_as (tests old.machine.db) (runs old.machine.db) old.machine.db (Err e) run.machine.db → transacts_as {A = A} store flush_number meant tests runs batches_of has (Err e) me me old run
+    not_made (Abort e) ran = only_ran (Abort e) ran
+    not_made (Storage e) (inl t) = ByTest t.0 (record { caller = refl; state = same ∙ ap (λ (d : DbValue P M). with_db old d) t.1 })
+    not_made (Storage e) (inr r) = ByClosure (only_ran (Storage e) r)

@@ -8,7 +8,7 @@ use Rattle.sled_model.specs.Collections.{Content}
 use Rattle.sled_model.specs.Maps.{Merge}
 use Rattle.sled_model.specs.Refusal.{trees_of_batches}
 use Rattle.sled_model.specs.State.{State, maps_of}
-use Rattle.sled_model.specs.Transition.{WholeDecides}
+use Rattle.sled_model.specs.Transition.{does_of}
 use Rattle.sled_model.specs.declared.call.Whole.TheVariants.{Group}
 use Rattle.sled_model.specs.declared.outcome.Outcome.{Outcome}
 use Rattle.sled_model.specs.declared.outcome.Outcome.TheVariants as outcome
@@ -69,7 +69,7 @@ module _ {P M : Type 0} (store : P → Store) (number : P → ℕ) (meant : M �
       v : MadeValue
       v = transaction_made (maps_of A) group.items
 
-      decides : WholeDecides (configuration_of store number meant a) (Group group) g.reply B g.step.step.maps
+      decides : (does_of (Group group)).decides (configuration_of store number meant a) g.reply B g.step.step.maps
       decides = g.step.step.step.is
 
       made : makes_as h.crashes.last v (maps_of B)

@@ -24,7 +24,7 @@ use Rattle.sled_model.specs.Imports.{Part, OpensName, Puts, DoesParts, NoPart, O
 use Rattle.sled_model.specs.Maps.{Map, Maps, Merge}
 use Rattle.sled_model.specs.Refusal.{Asked, ToStep, ToCall, must_refuse, must_refuse_of, trees_asked, trees_of_batches, cause_of_import, may_refuse_as}
 use Rattle.sled_model.specs.State.{State, NamedTree, maps_of, range_of}
-use Rattle.sled_model.specs.Transition.{transition_as, Decide, WholeDecides, WholeRefuses}
+use Rattle.sled_model.specs.Transition.{transition_as, Decide, does_of}
 use Rattle.sled_model.specs.Whole.{RemovesLeast, RemovesNone, RemovesOne, StopsClearing, state_opened, maps_if, state_dropped}
 use Rattle.sled_model.specs.declared.call.Call.{Call}
 use Rattle.sled_model.specs.declared.call.Call.TheVariants.{Remove}
@@ -44,18 +44,18 @@ use Rattle.sled.specs.Sound.{IsDb}
 use Rattle.sled.specs.Values.{DbValue, db_state, state_of}
 use Rattle.sled.proofs.Grouped.{tested_open}
 use Rattle.sled.proofs.Trees.{maps_are}
-use Rattle.machine_alone.specs.CrashMaps.{AreCrashMaps, crash_maps_after, crash_maps_after_whole}
+use Rattle.machine_alone.specs.CrashMaps.{AreCrashMaps, crash_maps_after}
 use Rattle.machine_alone.specs.Kept.{counts_as}
 use Rattle.machine_alone.specs.Step.{MachineStep, MachineStepContract}
 use Rattle.machine_alone.specs.Values.{MachineValue, configuration_of, slots_of}
 use Rattle.machine_alone.proofs.Runs.{extended}
-use Rattle.machine_shared.specs.Crashes.{TakesThrough, TakesNoMore, TakesOneMore, MakesThrough, MakesNoMore, MakesOneMore, whole_through, through_as, left_by_whole, left_by, LeadsThrough, LeadsNoMore, LeadsOneMore}
+use Rattle.machine_shared.specs.Crashes.{whole_through, through_as, left_by_whole, left_by, LeadsThrough, LeadsNoMore, LeadsOneMore}
 use Rattle.machine_shared.specs.History.{MakesPoint, makes_as, IsLegal, NoEntries, OneEntry, maps_from}
 use Rattle.machine_shared.specs.Moments.{AreMoments, LastMoment}
 use Rattle.machine_shared.specs.Made.{EntryValue, MadeValue, PointMade, WholeMade, PartsMade, ReadMade, TransactionMade, whole_value}
 use Rattle.machine_shared.specs.Notes.{entries_of, noted_as, noted_in}
 use Rattle.machine_shared.specs.Sound.{IsOpen, maps_now, Leads, CrashLeaves, IsState}
-use Rattle.machine_shared.specs.WholeMade.{map_with, TakesLeast, TakesNone, TakesOne, MakesParts, makes_whole_as}
+use Rattle.machine_shared.specs.WholeMade.{map_with, TakesLeast, TakesNone, TakesOne, MakesParts, TakesThrough, TakesNoMore, TakesOneMore, MakesThrough, MakesNoMore, MakesOneMore, makes_whole_as}
 use Rattle.machine_shared.specs.WholeNotes.{noted_with, noted_whole, ComesToWhole, NotesWhole}
 use Rattle.machine_shared.specs.Wholes.{WholeValue}
 use Rattle.machine_shared.specs.Wholes as value
@@ -127,7 +127,7 @@ goes_on a m b (OpensName name) ps added maps d g = (
 
 pub goes : {a b : State} {ps : List Part} {maps : List Maps} → DoesParts a ps b maps → GoesThrough (maps_of a) ps maps (maps_of b)
 goes NoPart = ([], MakesNoMore, λ left e. matches_same (left ++ []))
-goes {b = b} (OnePart {a = a} {m = m} {part = p} {parts = ps} {added = added} {maps = maps} one more) = goes_on a m b p ps added maps one.is (goes more)
+goes {b = b} (OnePart {a = a} {m = m} {part = p} {parts = ps} {maps = maps} added one more) = goes_on a m b p ps added maps one (goes more)
 
 -- ---- entries
 
@@ -216,7 +216,7 @@ removes_none (RemovesOne named pair rest there first more) e = suc_zero e
 
 parts_none : {a b : State} {ps : List Part} {maps : List Maps} → DoesParts a ps b maps → length ps ≡ 0 → (b ≡ a) × (maps ≡ [])
 parts_none NoPart e = (refl, refl)
-parts_none (OnePart one more) e = suc_zero e
+parts_none (OnePart added one more) e = suc_zero e
 
 -- ---- steps
 
@@ -376,8 +376,8 @@ module _ {P M : Type 0} (store : P → Store) (number : P → ℕ) (meant : M �
         → Are (left_by_whole v (l.last ∷ []) l.left) → Leaves longer
     quiet v reply e made goes opens same k = adds longer n (WholeMade v reply) l.last (l.last ∷ []) e made goes (still opens same) k
 
-    pub decided_whole : (w : Whole) (reply : Reply) (maps : List Maps) (k : ℕ) → WholeDecides (configuration_of store number meant a) w reply B maps → longer ≡ history ++ entries_of n (noted_whole w (outcome.Decided reply) k)
-        → Are (crash_maps_after_whole w maps (maps_of B) l.left) → Leaves longer
+    pub decided_whole : (w : Whole) (reply : Reply) (maps : List Maps) (k : ℕ) → (does_of w).decides (configuration_of store number meant a) reply B maps → longer ≡ history ++ entries_of n (noted_whole w (outcome.Decided reply) k)
+        → Are (crash_maps_after (step.Whole w) (outcome.Decided reply) maps (maps_of B) l.left) → Leaves longer
     decided_whole Flush reply maps k t e r = entry value.Flush reply (maps_of B ∷ []) e (tested A (ToCall Flush) t.0) (makes (configuration_of store number meant a) Flush reply B maps t) refl r
     decided_whole (PopMin tree) reply maps k t e r = entry (value.PopMin tree) reply (maps_of B ∷ []) e (tested A (ToCall (PopMin tree)) t.free) (makes (configuration_of store number meant a) (PopMin tree) reply B maps t) refl (alone maps t.added r)
     decided_whole (PopMax tree) reply maps k t e r = entry (value.PopMax tree) reply (maps_of B ∷ []) e (tested A (ToCall (PopMax tree)) t.free) (makes (configuration_of store number meant a) (PopMax tree) reply B maps t) refl (alone maps t.added r)
@@ -494,7 +494,7 @@ module _ {P M : Type 0} (store : P → Store) (number : P → ℕ) (meant : M �
           (still (opens_between (ap (λ (s : State). s.is_open) (same_between none.1))) (between ∙ ap maps_of (same_between none.1))) (none_added maps none.2 r)
       import_refused k maps (inr s) told e r = import_stops maps k s told e r
 
-    pub refused_whole : (w : Whole) (x : Error) (maps : List Maps) (k : ℕ) → WholeRefuses A (store a.db.pages) (store b.db.pages) w x B maps → counts_as store meant a.db w (outcome.Refused x) k b.db
+    pub refused_whole : (w : Whole) (x : Error) (maps : List Maps) (k : ℕ) → (does_of w).refuses A (store a.db.pages) (store b.db.pages) x B maps → counts_as store meant a.db w (outcome.Refused x) k b.db
         → longer ≡ history ++ entries_of n (noted_whole w (outcome.Refused x) k) → Are (l.left ++ maps) → Leaves longer
     refused_whole (Clear tree) x maps k t c e r = clear_stops tree x maps k t c e r
     refused_whole (Group batches) x maps k t c e r = rests longer (e ∙ ap (λ i. history ++ entries_of n (noted_with (value.Group batches.items) None i)) c) (group_stops _ t.is) (none_added maps t.added r)
@@ -503,10 +503,15 @@ module _ {P M : Type 0} (store : P → Store) (number : P → ℕ) (meant : M �
     refused_whole (Unsubscribe subscriber) x maps k t c e r = absurd t
     refused_whole other x maps k t c e r = unnoted (whole_value other) k c e t.1 maps t.2 r
 
+    -- a call that is refused makes nothing durable
+    undecided : (w : Whole) (x : Error) (maps : List Maps) → Are (crash_maps_after (step.Whole w) (outcome.Refused x) maps (maps_of B) l.left) → Are (l.left ++ maps)
+    undecided Flush x maps r = r
+    undecided other x maps r = r
+
     came : (w : Whole) (r : Outcome) (maps : List Maps) (k : ℕ) → transition_as (configuration_of store number meant a) (step.Whole w) r (configuration_of store number meant b) maps → counts_as store meant a.db w r k b.db
         → longer ≡ history ++ entries_of n (noted_whole w r k) → Are (crash_maps_after (step.Whole w) r maps (maps_of B) l.left) → Leaves longer
     came w (outcome.Decided reply) maps k t c e r = decided_whole w reply maps k t e r
-    came w (outcome.Refused x) maps k t c e r = refused_whole w x maps k t c e r
+    came w (outcome.Refused x) maps k t c e r = refused_whole w x maps k t c e (undecided w x maps r)
     came w other maps k t c e r = absurd t
 
     comes : (w : Whole) (r : Outcome) (more : List MadeValue) → ComesToWhole store number meant a w r b more → longer ≡ history ++ entries_of n more → Leaves longer

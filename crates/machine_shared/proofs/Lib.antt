@@ -14,8 +14,7 @@ pub mod Fetching
 pub mod Stands
 pub mod GroupStates
 pub mod Transacting
-pub mod Listing
-pub mod ListTests
+pub mod Running
 pub mod SameContents
 pub mod Paging
 pub mod PageReads

@@ -1,5 +1,5 @@
 -- Reads of a state: what they tell is so, and they keep what holds of it.
-use Rattle.std.proofs.Common.{◌≡◌, ◌∙◌, ℕ, true, false, cond, List, [], ◌∷◌, ◌++◌, length, map, codes, not, Option, Some, None, option_map, is_some, Result, Ok, Err, IfOk, OnErr, OnOk, sym, refl, ap, subst, inl, inr}
+use Rattle.std.proofs.Common.{◌≡◌, ◌∙◌, ℕ, true, false, List, [], ◌∷◌, ◌++◌, length, map, codes, not, Option, Some, None, option_map, is_some, Result, Ok, Err, IfOk, OnErr, OnOk, sym, refl, ap, subst, inl, inr}
 use Rattle.sled_nodes.proofs.Basics.{and_true, false_true}
 use Rattle.sled_nodes.specs.Order.{Key, key_cmp}
 use Rattle.std.specs.FinMap.Entries.{is_sorted}

@@ -3,7 +3,7 @@ use Rattle.std.proofs.Common.{ℕ, List, sym, subst, inl, inr}
 use Rattle.sled_store.specs.Store.{Store}
 use Rattle.sled_model.specs.Maps.{Maps, Merge}
 use Rattle.sled_model.specs.State.{State}
-use Rattle.sled_model.specs.Transition.{Configuration, WholeDecides, transition_as}
+use Rattle.sled_model.specs.Transition.{Configuration, does_of, transition_as}
 use Rattle.sled_model.specs.declared.call.Whole.{Whole}
 use Rattle.sled_model.specs.declared.call.Whole.TheVariants.{Flush, PopMin, PopMax, Clear, Group, OpenTree, DropTree, GenerateId, Import, Watch, Next, Unsubscribe}
 use Rattle.sled_model.specs.declared.outcome.Outcome.{Outcome}
@@ -16,7 +16,7 @@ use Rattle.machine_shared.specs.Replies.{IsReplyTo, RepliesTo}
 use Rattle.machine_shared.specs.WholeNotes.{ComesToWhole, NotesWhole}
 
 -- a whole call that is decided has a reply of its kind
-reply_as : (a : Configuration) (w : Whole) (reply : Reply) (b : State) (maps : List Maps) → WholeDecides a w reply b maps → IsReplyTo w reply
+reply_as : (a : Configuration) (w : Whole) (reply : Reply) (b : State) (maps : List Maps) → (does_of w).decides a reply b maps → IsReplyTo w reply
 reply_as a Flush reply b maps t = (_, t.1)
 reply_as a (PopMin tree) reply b maps t = (_, t.replies)
 reply_as a (PopMax tree) reply b maps t = (_, t.replies)

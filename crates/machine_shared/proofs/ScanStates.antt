@@ -1,5 +1,5 @@
 -- What is known of scans in a state, after each of its calls.
-use Rattle.std.proofs.Common.{◌≡◌, ◌≤◌, ◌∙◌, inl, inr, ℕ, List, [], ◌++◌, length, Option, Some, None, option_map, Result, Ok, Err, IfOk, IfErr, OnOk, OnErr, sym, refl, ap, subst, le_of_eq, arith}
+use Rattle.std.proofs.Common.{◌≡◌, ◌≤◌, ◌∙◌, ◌⊎◌, inl, inr, ℕ, List, [], ◌++◌, length, Option, Some, None, option_map, Result, Ok, Err, IfOk, IfErr, OnOk, OnErr, sym, refl, ap, subst, le_of_eq, arith}
 use Rattle.std.proofs.lemmas.List.{length-append}
 use Rattle.std.specs.Global.{Vec}
 use Rattle.sled_nodes.proofs.Basics.{none_some, some_is}
@@ -11,7 +11,7 @@ use Rattle.sled_batch.specs.Batch.{Writes}
 use Rattle.sled_model.specs.Collections.{Content}
 use Rattle.sled_model.specs.Maps.{Maps, Merge}
 use Rattle.sled_model.specs.Refusal.{ToPoint}
-use Rattle.sled_model.specs.State.{State, CallInFlight, IsOnKey, range_of}
+use Rattle.sled_model.specs.State.{State, CallInFlight, IsOnKey, maps_of, range_of}
 use Rattle.sled_model.specs.Transition.{Configuration}
 use Rattle.sled_model.specs.declared.call.Call.{Call}
 use Rattle.sled_model.specs.declared.call.Call.TheVariants.{CompareAndSwap}
@@ -24,7 +24,8 @@ use Rattle.sled_model.specs.declared.outcome.Outcome.TheVariants as outcome
 use Rattle.scan_laws.specs.Scanned.{Ascend}
 use Rattle.sled_tree.specs.declared.flight.InFlight.{InFlight}
 use Rattle.sled.specs.Flights.{call_in_flight_of}
-use Rattle.sled.specs.Values.{db_state}
+use Rattle.sled.specs.Transactions.{TakesIds}
+use Rattle.sled.specs.Values.{DbValue, db_state}
 use Rattle.machine_alone.specs.Sound.{AreSlotsGiven}
 use Rattle.machine_alone.specs.Step.{MachineStep, MachineStepContract}
 use Rattle.machine_alone.specs.Values.{MachineValue, configuration_of, job_of_call, kept_at, slots_of}
@@ -86,6 +87,12 @@ module _ {P M : Type 0} (store : P → Store) (number : P → ℕ) (meant : M �
     -- where nothing was done
     pub after_none : b ≡ a → MachineScans store b c.moments (length longer) scans
     after_none same = scans_beside (at_of a) (at_of b) l.moments c.moments (length history) (length longer) goes more (last_moment a opening history l) (last_moment b opening longer c) scans h ascend (ap (λ (m : MachineValue P M). slots_of m.flights) same) (ap (λ (m : MachineValue P M). m.slots_given) same) (subst (λ m. Ascend (at_of m).state) (sym same) ascend) (λ o. subst (λ m. IsOpen store m) same o)
+
+    -- where ids were taken, or nothing was done
+    pub after_run : b ≡ record a { db = b.db } → TakesIds store meant a.db b.db ⊎ (b.db ≡ a.db) → MachineScans store b c.moments (length longer) scans
+    after_run same (inl t) = scans_beside (at_of a) (at_of b) l.moments c.moments (length history) (length longer) goes more (last_moment a opening history l) (last_moment b opening longer c) scans h ascend (ap (λ (m : MachineValue P M). slots_of m.flights) same) (ap (λ (m : MachineValue P M). m.slots_given) same)
+        (λ name map there. ascend name map (sym (ap (λ (s : State). maps_of s name) (t.state (slots_of b.flights) b.slots_given)) ∙ there)) (λ o. ap (λ (s : State). s.is_open) (sym (t.state (slots_of b.flights) b.slots_given)) ∙ o)
+    after_run same (inr none) = after_none (same ∙ ap (λ (d : DbValue P M). record a { db = d }) none)
 
     pub after_whole : (n : ℕ) (made more_made : List MadeValue) (w : Whole) (o : Outcome) → NotesWhole store number meant a history n made w o b longer more_made → MachineScans store b c.moments (length longer) scans
     after_whole n made more_made w o notes = elim notes.comes [

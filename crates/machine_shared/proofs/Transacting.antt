@@ -1,8 +1,8 @@
 -- What is noted of a transaction, and what reads show inside one.
-use Rattle.std.proofs.Common.{◌≡◌, ◌∙◌, ℕ, Bool, true, false, ◌&&◌, List, [], ◌∷◌, ◌++◌, append_assoc, append-nil, None, Result, Ok, Err, OnOk, OnErr, sym, refl, ap, subst, inl, inr}
+use Rattle.std.proofs.Common.{◌≡◌, ◌∙◌, ◌⊎◌, ℕ, Bool, true, false, ◌&&◌, List, [], ◌∷◌, ◌++◌, append_assoc, append-nil, None, Result, Ok, Err, OnOk, OnErr, sym, refl, ap, subst, inl, inr}
 use Rattle.sled_nodes.specs.declared.error.Error.{Error}
 use Rattle.sled_batch.specs.Batch.{Writes}
-use Rattle.sled_store.specs.Store.{Store, now}
+use Rattle.sled_store.specs.Store.{Store}
 use Rattle.sled_model.specs.Maps.{Merge}
 use Rattle.sled_model.specs.State.{maps_of}
 use Rattle.sled_model.specs.declared.call.Whole.TheVariants.{Flush}
@@ -11,19 +11,15 @@ use Rattle.sled_model.specs.declared.outcome.Outcome.TheVariants as outcome
 use Rattle.sled_model.specs.declared.reply.Reply.{Reply}
 use Rattle.sled_model.specs.declared.reply.Reply.TheVariants.{Number}
 use Rattle.sled_model.specs.declared.tree.Tree.{Tree}
-use Rattle.tree_transactions.specs.Overlays.{ReadsThrough}
 use Rattle.tree_transactions.specs.declared.attempts.Commit.{Commit}
 use Rattle.tree_transactions.specs.declared.errors.TransactionError.{TransactionError}
 use Rattle.tree_transactions.specs.declared.errors.TransactionError.TheVariants.{Abort, Storage}
-use Rattle.tree_transactions.specs.declared.tree.TransactionalTree.{TransactionalTree}
-use Rattle.tree_transactions.specs.declared.trees.TransactionalTrees.{TransactionalTrees}
-use Rattle.lent_pages.specs.declared.lent.Lent.{Lent}
+use Rattle.sled.specs.Sound.{IsDb}
+use Rattle.sled.specs.Transactions.{TakesIds, runs_as}
 use Rattle.sled.specs.Values.{DbValue, db_state}
-use Rattle.tree_transactions.proofs.Attempting.{only_same}
-use Rattle.sled.proofs.Transacting.{shows, shows_at}
 use Rattle.machine_alone.specs.Values.{MachineValue, configuration_of}
 use Rattle.machine_shared.specs.Made.{EntryValue, MadeValue, WholeMade}
-use Rattle.machine_shared.specs.Transactions.{AddsTransaction, IsOnce, ShowsInsideLaw, ShowsInsideAtLaw, flush_noted, transaction_made}
+use Rattle.machine_shared.specs.Transactions.{AddsTransaction, IsOnce, RunsWell, flush_noted, transaction_made}
 use Rattle.machine_shared.specs.WholeNotes.{noted_with, ComesToWhole, NotesWhole}
 use Rattle.machine_shared.specs.Wholes as value
 use Rattle.machine_shared.specs.theory.Transacting.{is_decided, is_undecided, ran_as, AddsCommit, AddsFlush, StopsCommit}
@@ -94,53 +90,50 @@ module _ (v : MadeValue) (flushes : Bool) (made mid more : List MadeValue) where
 
 -- ---- transactions
 
--- a closure was run to this end
-pub ran : {E W : Type 0} (tests : Error → Type 0) (reaches : Result W (TransactionError E) → Type 0) (ended : Result W (TransactionError E)) → reaches ended → ran_as tests reaches ended
-ran tests reaches (Ok commit) r = r
-ran tests reaches (Err (Abort e)) r = r
-ran tests reaches (Err (Storage e)) r = inr r
+-- a closure was run to this end, in a database whose pages are well formed
+pub ran : {P M A E W : Type 0} (store : P → Store) (meant : M → Merge) (tests : Error → Type 0) (reaches : Result (Commit A W) (TransactionError E) → Store → ℕ → Type 0) (d : DbValue P M) → IsDb store d → (ended : Result (Commit A W) (TransactionError E)) (after : DbValue P M)
+    → runs_as store meant tests reaches d ended after → ran_as tests (RunsWell store meant reaches d) d ended after
+ran store meant tests reaches d sound (Ok commit) after r = record { sound = sound; runs = r }
+ran store meant tests reaches d sound (Err (Abort e)) after r = record { sound = sound; runs = r }
+ran store meant tests reaches d sound (Err (Storage e)) after (inl t) = inl t
+ran store meant tests reaches d sound (Err (Storage e)) after (inr r) = inr (record { sound = sound; runs = r })
 
-module _ {P M A E W : Type 0} (store : P → Store) (meant : M → Merge) (so : DbValue P M → Result (Commit A W) (TransactionError E) → Type 0) (batches_of : W → List (Tree × Writes)) (has : Bool) (d : DbValue P M) (made more : List MadeValue) where
-  pub ended_made : (commit : Commit A W) → so d (Ok commit) → AddsCommit (transaction_made (maps_of (db_state store meant d)) (batches_of commit.writes)) (has && commit.flushes) made more
+-- ids were taken, or nothing changed
+pub taken : {P M A E W : Type 0} (store : P → Store) (meant : M → Merge) (tests : Error → Type 0) (reaches : Result (Commit A W) (TransactionError E) → Store → ℕ → Type 0) (d : DbValue P M) (ended : Result (Commit A W) (TransactionError E)) (after : DbValue P M)
+    → runs_as store meant tests reaches d ended after → TakesIds store meant d after ⊎ (after ≡ d)
+taken store meant tests reaches d (Ok commit) after r = inl r.takes
+taken store meant tests reaches d (Err (Abort e)) after r = inl r.takes
+taken store meant tests reaches d (Err (Storage e)) after (inl t) = inr t.1
+taken store meant tests reaches d (Err (Storage e)) after (inr r) = inl r.takes
+
+-- the maps are not asked for ids
+pub taken_maps : {P M : Type 0} (store : P → Store) (meant : M → Merge) (d after : DbValue P M) → TakesIds store meant d after → maps_of (db_state store meant after) ≡ maps_of (db_state store meant d)
+taken_maps store meant d after t = ap maps_of (t.state (λ n. None) 0)
+
+module _ {P M A E W : Type 0} (store : P → Store) (meant : M → Merge) (so : DbValue P M → Result (Commit A W) (TransactionError E) → DbValue P M → Type 0) (batches_of : W → List (Tree × Writes)) (has : Bool) (d after : DbValue P M) (made more : List MadeValue) where
+  pub ended_made : (commit : Commit A W) → so d (Ok commit) after → maps_of (db_state store meant after) ≡ maps_of (db_state store meant d) → AddsCommit (transaction_made (maps_of (db_state store meant after)) (batches_of commit.writes)) (has && commit.flushes) made more
       → AddsTransaction (IsOnce store meant so) batches_of has (Ok commit.answer) made more
-  ended_made commit r c = record {
-    noted = transaction_made (maps_of (db_state store meant d)) (batches_of commit.writes) ∷ c.flush;
-    notes = record { commit = commit; maps = maps_of (db_state store meant d); reached = (d, refl, r); answers = refl; flush = c.flush; flushed = c.flushed; is = refl };
+  ended_made commit r same c = record {
+    noted = transaction_made (maps_of (db_state store meant after)) (batches_of commit.writes) ∷ c.flush;
+    notes = record { commit = commit; maps = maps_of (db_state store meant after); reached = (d, after, same, r); answers = refl; flush = c.flush; flushed = c.flushed; is = refl };
     adds = c.adds;
   }
 
-  pub ended_stopped : (commit : Commit A W) (e : Error) → so d (Ok commit) → StopsCommit (transaction_made (maps_of (db_state store meant d)) (batches_of commit.writes)) (has && commit.flushes) made more
+  pub ended_stopped : (commit : Commit A W) (e : Error) → so d (Ok commit) after → maps_of (db_state store meant after) ≡ maps_of (db_state store meant d) → StopsCommit (transaction_made (maps_of (db_state store meant after)) (batches_of commit.writes)) (has && commit.flushes) made more
       → AddsTransaction (IsOnce store meant so) batches_of has (Err (Storage e)) made more
-  ended_stopped commit e r s = elim s.is [
+  ended_stopped commit e r same s = elim s.is [
     | inl n ↦ record { noted = []; notes = inl refl; adds = n ∙ sym (append-nil made) }
     | inr n ↦ record {
-      noted = transaction_made (maps_of (db_state store meant d)) (batches_of commit.writes) ∷ [];
-      notes = inr (record { commit = commit; maps = maps_of (db_state store meant d); reached = (d, refl, r); asked = n.0; is = refl });
+      noted = transaction_made (maps_of (db_state store meant after)) (batches_of commit.writes) ∷ [];
+      notes = inr (record { commit = commit; maps = maps_of (db_state store meant after); reached = (d, after, same, r); asked = n.0; is = refl });
       adds = n.1;
     }
   ]
 
-  pub ended_failed : (tests : Error → Type 0) (e : TransactionError E) → ran_as tests (so d) (Err e) → AddsTransaction (IsOnce store meant so) batches_of has (Err e) made made
-  ended_failed tests (Abort e) r = record { noted = []; notes = ((maps_of (db_state store meant d), (d, refl, r)), refl); adds = sym (append-nil made) }
+  pub ended_failed : (tests : Error → Type 0) (e : TransactionError E) → ran_as tests (so d) d (Err e) after → AddsTransaction (IsOnce store meant so) batches_of has (Err e) made made
+  ended_failed tests (Abort e) r = record { noted = []; notes = ((maps_of (db_state store meant d), (d, after, refl, r)), refl); adds = sym (append-nil made) }
   ended_failed tests (Storage e) r = record { noted = []; notes = inl refl; adds = sym (append-nil made) }
 
-pub adds_closed : {P M A E W : Type 0} (store : P → Store) (meant : M → Merge) (so : DbValue P M → Result (Commit A W) (TransactionError E) → Type 0) (batches_of : W → List (Tree × Writes)) (has : Bool) (e : Error) (made : List MadeValue)
+pub adds_closed : {P M A E W : Type 0} (store : P → Store) (meant : M → Merge) (so : DbValue P M → Result (Commit A W) (TransactionError E) → DbValue P M → Type 0) (batches_of : W → List (Tree × Writes)) (has : Bool) (e : Error) (made : List MadeValue)
     → AddsTransaction (IsOnce store meant so) batches_of has (Err (Storage e)) made made
 adds_closed store meant so batches_of has e made = record { noted = []; notes = inl refl; adds = sym (append-nil made) }
-
--- ---- reads inside
-
--- what is shown over pages that are lent is shown over the pages
-abbrev tree_over : {P M : Type 0} → DbValue P M → TransactionalTree (Lent P) → TransactionalTree P
-tree_over d t = record { alloc = t.alloc; pages = record { ref_ptr = t.pages.ref_ptr; now = d.pages }; root = t.root; overlay = t.overlay; greatest_id = t.greatest_id; mark = t.mark; flushes = t.flushes }
-
-abbrev trees_over : {P M : Type 0} → DbValue P M → TransactionalTrees (Lent P) → TransactionalTrees P
-trees_over d t = record { alloc = t.alloc; pages = record { ref_ptr = t.pages.ref_ptr; now = d.pages }; roots = t.roots; overlays = t.overlays; greatest_id = t.greatest_id; mark = t.mark; flushes = t.flushes }
-
-pub shows_inside : {P M : Type 0} (store : P → Store) (meant : M → Merge) → ShowsInsideLaw store meant
-shows_inside store meant d tree given key value db tested root same s = shows store meant d tree (tree_over d given) key value db tested root (only_same (store d.pages))
-    (record { is = subst (λ (z : Store). ReadsThrough (now z) given.root given.overlay key value) same s.is })
-
-pub shows_inside_at : {P M : Type 0} (store : P → Store) (meant : M → Merge) → ShowsInsideAtLaw store meant
-shows_inside_at store meant d trees given position tree key value db tested roots same there s = shows_at store meant d trees (trees_over d given) position tree key value db tested roots (only_same (store d.pages)) there
-    (record { root = s.root; overlay = s.overlay; at = record { root_is = s.at.root_is; overlay_is = s.at.overlay_is }; is = subst (λ (z : Store). ReadsThrough (now z) s.root s.overlay key value) same s.is })

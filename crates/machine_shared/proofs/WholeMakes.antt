@@ -11,7 +11,7 @@ use Rattle.sled_model.specs.Answer.{Answer, answer_of, decision_of, map_after}
 use Rattle.sled_model.specs.Groups.{Write, writes_of, call_with, after_write_on, after_writes}
 use Rattle.sled_model.specs.Imports.{Part, OpensName, Puts, does_part_as, DoesParts, NoPart, OnePart}
 use Rattle.sled_model.specs.State.{State, NamedTree, maps_of, after_decision_on}
-use Rattle.sled_model.specs.Transition.{Configuration, WholeDecides}
+use Rattle.sled_model.specs.Transition.{Configuration, does_of}
 use Rattle.sled_batch.specs.Batch.{Writes}
 use Rattle.sled_model.specs.Refusal.{is_number}
 use Rattle.sled_model.specs.Whole.{number_opened, Pops, Clears, RemovesLeast, RemovesNone, RemovesOne, after_pop, state_opened, state_dropped}
@@ -144,11 +144,11 @@ part_open a (Puts name key value) b maps d = ap (λ (s : State). s.is_open) d.is
 
 pub parts : {a b : State} {ps : List Part} {maps : List Maps} → DoesParts a ps b maps → MakesParts (maps_of a) ps (maps_of b)
 parts NoPart = MakesNone
-parts (OnePart {a = a} {m = m} {part = p} {added = added} one more) = MakesOne (part a p m added one.is) (parts more)
+parts (OnePart {a = a} {m = m} {part = p} added one more) = MakesOne (part a p m added one) (parts more)
 
 pub parts_open : {a b : State} {ps : List Part} {maps : List Maps} → DoesParts a ps b maps → b.is_open ≡ a.is_open
 parts_open NoPart = refl
-parts_open (OnePart {a = a} {m = m} {part = p} {added = added} one more) = parts_open more ∙ part_open a p m added one.is
+parts_open (OnePart {a = a} {m = m} {part = p} added one more) = parts_open more ∙ part_open a p m added one
 
 writes_open : (ws : List Write) (s : State) → (after_writes ws s).is_open ≡ s.is_open
 writes_open [] s = refl
@@ -170,7 +170,7 @@ open_of : (a b : State) → b ≡ a → b.is_open ≡ a.is_open
 open_of a b e = ap (λ (s : State). s.is_open) e
 
 -- A whole call that is decided leaves a database open that was
-pub stays_open : (a : Configuration) (w : Whole) (reply : Reply) (b : State) (maps : List Maps) → WholeDecides a w reply b maps → b.is_open ≡ a.state.is_open
+pub stays_open : (a : Configuration) (w : Whole) (reply : Reply) (b : State) (maps : List Maps) → (does_of w).decides a reply b maps → b.is_open ≡ a.state.is_open
 stays_open a Flush reply b maps t = open_of _ b t.2
 stays_open a (PopMin tree) reply b maps t = open_of _ b t.is ∙ popped_open a.state tree.name t.named t.found
 stays_open a (PopMax tree) reply b maps t = open_of _ b t.is ∙ popped_open a.state tree.name t.named t.found
@@ -190,7 +190,7 @@ noted_reply (Next subscriber) reply = Done
 noted_reply w reply = reply
 
 -- .. and makes of the maps what its entry tells
-pub makes : (a : Configuration) (w : Whole) (reply : Reply) (b : State) (maps : List Maps) → WholeDecides a w reply b maps → makes_whole_as (maps_of a.state) (whole_value w) (noted_reply w reply) (maps_of b)
+pub makes : (a : Configuration) (w : Whole) (reply : Reply) (b : State) (maps : List Maps) → (does_of w).decides a reply b maps → makes_whole_as (maps_of a.state) (whole_value w) (noted_reply w reply) (maps_of b)
 makes a Flush reply b maps t = ((a.flush_number, t.1), ap maps_of t.2)
 makes a (PopMin tree) reply b maps t = pop IsLeast a.state (PopMin tree) tree reply b maps t
 makes a (PopMax tree) reply b maps t = pop IsGreatest a.state (PopMax tree) tree reply b maps t

@@ -4,14 +4,14 @@ use Rattle.std.specs.FinMap.Entries.{find}
 use Rattle.sled_nodes.specs.Order.{Key, key_cmp}
 use Rattle.sled_store.specs.Update.{put_name}
 use Rattle.sled_model.specs.Maps.{Map, Maps}
-use Rattle.sled_model.specs.Answer.{key_of, decision_of, decision_of_write, map_after}
+use Rattle.sled_model.specs.Answer.{key_of, decision_of, effect_of_write, map_after}
 use Rattle.sled_model.specs.declared.call.Call.{Call}
 use Rattle.sled_model.specs.declared.call.Call.TheVariants.{Merge}
 use Rattle.sled_model.specs.declared.decision.Decision.{Decision}
 use Rattle.sled_model.specs.declared.reply.Reply.{Reply}
-use Rattle.sled_model.specs.declared.reply.Reply.TheVariants.{Number, Done}
+use Rattle.sled_model.specs.declared.reply.Reply.TheVariants.{Number, Done, Value}
 use Rattle.sled_model.specs.declared.tree.Tree.{Tree}
-use Rattle.machine_shared.specs.Wholes.{WholeValue, Flush, PopMin, PopMax, Clear, Group, OpenTree, DropTree, GenerateId, Import, Watch, Next, Unsubscribe}
+use Rattle.machine_shared.specs.Wholes.{WholeValue, Group, GenerateId}
 use Rattle.machine_shared.specs.Made.{MadeValue, PointMade, WholeMade, PartsMade, ReadMade, TransactionMade, EntryValue}
 pub use Rattle.machine_shared.specs.Openings.{maps_from}
 use Rattle.machine_shared.specs.Reads.{reads_as}
@@ -21,7 +21,7 @@ use Rattle.machine_shared.specs.WholeMade.{makes_whole_as, makes_parts_as}
 -- How a call may be decided if this value is there: a merge writes what its reply says, and all others are decided as they are by any
 -- operator
 abbrev pub comes_to : Call → Option Key → Decision → Type 0
-comes_to (Merge k bytes) value d = (new : Option Key) × (d ≡ decision_of_write new)
+comes_to (Merge k bytes) value d = (new : Option Key) × (d ≡ record { effect = effect_of_write new; reply = Value new })
 comes_to call value d = d ≡ decision_of None call value
 
 -- a call on a key, made at these maps, replies so and leaves those
@@ -48,19 +48,8 @@ pub data IsLegal : Maps → List EntryValue → Maps → Type 0 where
 
 -- the id that a whole call gave, if it gave one
 abbrev pub id_given : WholeValue → Reply → List ℕ
-id_given Flush reply = []
-id_given (PopMin tree) reply = []
-id_given (PopMax tree) reply = []
-id_given (Clear tree) reply = []
-id_given (Group batches) reply = []
-id_given (OpenTree name) reply = []
-id_given (DropTree name) reply = []
 id_given GenerateId (Number id) = id ∷ []
-id_given GenerateId reply = []
-id_given (Import all) reply = []
-id_given (Watch tree prefix) reply = []
-id_given (Next subscriber) reply = []
-id_given (Unsubscribe subscriber) reply = []
+id_given whole reply = []
 
 -- the id that was given, if one was
 abbrev pub id_made : MadeValue → List ℕ

@@ -37,7 +37,6 @@ pub use Rattle.sled_tree.specs as sled_tree
 pub use Rattle.tree_reads.specs as tree_reads
 pub use Rattle.tree_pages.specs as tree_pages
 pub use Rattle.tree_transactions.specs as tree_transactions
-pub use Rattle.lent_pages.specs as lent_pages
 pub use Rattle.tree_steps.specs as tree_steps
 pub use Rattle.sled.specs as sled
 pub use Rattle.machine_alone.specs as machine_alone

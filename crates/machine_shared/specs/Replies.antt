@@ -1,45 +1,22 @@
 -- What whole calls reply, and the errors of calls.
-use Rattle.std.specs.Prelude.{◌≡◌, ℕ, Bool, List, ◌++◌, Option, None, Ok, Err, Result}
-use Rattle.sled_nodes.specs.Order.{Key}
+use Rattle.std.specs.Prelude.{◌≡◌, ℕ, List, ◌++◌, None, Ok, Err, Result}
 use Rattle.sled_nodes.specs.declared.error.Error.{Error}
 use Rattle.sled_model.specs.declared.call.Whole.{Whole}
-use Rattle.sled_model.specs.declared.call.Whole.TheVariants.{Flush, PopMin, PopMax, Clear, Group, OpenTree, DropTree, GenerateId, Import, Watch, Next, Unsubscribe}
-use Rattle.sled_model.specs.declared.event.Next as event
 use Rattle.sled_model.specs.declared.outcome.Outcome.{Outcome}
 use Rattle.sled_model.specs.declared.outcome.Outcome.TheVariants as outcome
 use Rattle.sled_model.specs.declared.reply.Reply.{Reply}
 use Rattle.sled_model.specs.declared.reply.Reply.TheVariants as told
-use Rattle.machine_shared.specs.Made.{MadeValue}
-use Rattle.machine_shared.specs.WholeMade.{TellsNumber, TellsTree, TellsSubscriber}
+use Rattle.machine_shared.specs.Made.{MadeValue, whole_value}
+pub use Rattle.machine_shared.specs.WholeMade.{TellsPair, TellsFlag, TellsNext}
+use Rattle.machine_shared.specs.WholeMade.{makes_of}
 use Rattle.machine_shared.specs.WholeNotes.{noted_with}
 use Rattle.machine_shared.specs.Wholes.{WholeValue}
 use Rattle.machine_shared.specs.declared.call_error.CallError.{CallError}
 use Rattle.machine_shared.specs.declared.call_error.CallError.TheVariants.{Refused, NoSuchSlot}
 
--- a reply is a pair, yes or no, or what a subscriber gets
-abbrev pub TellsPair : Reply → Type 0
-TellsPair reply = (pair : Option (Key × Key)) × (reply ≡ told.Pair pair)
-
-abbrev pub TellsFlag : Reply → Type 0
-TellsFlag reply = (flag : Bool) × (reply ≡ told.Flag flag)
-
-abbrev pub TellsNext : Reply → Type 0
-TellsNext reply = (next : Option event.Next) × (reply ≡ told.Next next)
-
 -- the kind of reply that a whole call has
 abbrev pub IsReplyTo : Whole → Reply → Type 0
-IsReplyTo Flush reply = TellsNumber reply
-IsReplyTo (PopMin tree) reply = TellsPair reply
-IsReplyTo (PopMax tree) reply = TellsPair reply
-IsReplyTo (Clear tree) reply = reply ≡ told.Done
-IsReplyTo (Group batches) reply = reply ≡ told.Done
-IsReplyTo (OpenTree name) reply = TellsTree name reply
-IsReplyTo (DropTree name) reply = TellsFlag reply
-IsReplyTo GenerateId reply = TellsNumber reply
-IsReplyTo (Import collections) reply = reply ≡ told.Done
-IsReplyTo (Watch tree prefix) reply = TellsSubscriber reply
-IsReplyTo (Next subscriber) reply = TellsNext reply
-IsReplyTo (Unsubscribe subscriber) reply = reply ≡ told.Done
+IsReplyTo whole reply = (makes_of (whole_value whole)).replies reply
 
 -- a whole call that is decided has such a reply
 abbrev pub RepliesTo : Whole → Outcome → Type 0

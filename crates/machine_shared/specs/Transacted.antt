@@ -33,6 +33,10 @@ pub data CannotNote {P M : Type 0} (store : P → Store) (meant : M → Merge) (
   LacksMemory : e ≡ NoMemory → CannotNote store meant d batches e
   CannotRead : (position : ℕ) (batch : Tree × Writes) → slice_get batches position ≡ Some batch → RefusesReading store meant d batch.0 once e → CannotNote store meant d batches e
 
+-- the state with this database
+abbrev pub with_db : {P M : Type 0} → StateValue P M → DbValue P M → StateValue P M
+with_db s d = record s { machine = record (s.machine) { db = d } }
+
 module _ {P M : Type 0} (store : P → Store) (flush_number : P → ℕ) (meant : M → Merge) where
   -- these batches are made as one group, which is noted as this caller's, with what the maps had at each of its keys before
   pub record MakesGroup (batches : List (Tree × Writes)) (me more : CallerValue) (old new : StateValue P M) : Type 0 where
@@ -71,24 +75,31 @@ module _ {P M : Type 0} (store : P → Store) (flush_number : P → ℕ) (meant 
 
 -- What a transaction comes to follows from the tests before it, from the end to which its closure was run over a database, from the batches
 -- of what it wrote, and from whether there are any trees. Without trees a flush that is asked for is left out
-module _ {P M A E W : Type 0} (store : P → Store) (flush_number : P → ℕ) (meant : M → Merge) (tests : DbValue P M → Error → Type 0) (runs : DbValue P M → Result (Commit A W) (TransactionError E) → Type 0) (batches_of : W → List (Tree × Writes)) (has_trees : Bool) where
-  -- the closure was run over the database as it was, it returned this, and what it wrote was made
+module _ {P M A E W : Type 0} (store : P → Store) (flush_number : P → ℕ) (meant : M → Merge) (tests : DbValue P M → Error → Type 0) (runs : DbValue P M → Result (Commit A W) (TransactionError E) → DbValue P M → Type 0) (batches_of : W → List (Tree × Writes)) (has_trees : Bool) where
+  -- the closure was run over the database as it was, it returned this, and what it wrote was made in the database as it was after that
   pub record CommitsTransaction (answer : A) (me more : CallerValue) (old new : StateValue P M) : Type 0 where
     pub commit : Commit A W
     pub answers : commit.answer ≡ answer
-    pub ran : runs old.machine.db (Ok commit)
-    pub commits : CommitsGroup store flush_number meant (batches_of commit.writes) (has_trees && commit.flushes) me more old new
+    pub after : DbValue P M
+    pub ran : runs old.machine.db (Ok commit) after
+    pub commits : CommitsGroup store flush_number meant (batches_of commit.writes) (has_trees && commit.flushes) me more (with_db old after) new
+
+  -- the closure was run to this end, and nothing else was done
+  pub record OnlyRuns (ended : Result (Commit A W) (TransactionError E)) (me more : CallerValue) (old new : StateValue P M) : Type 0 where
+    pub after : DbValue P M
+    pub ran : runs old.machine.db ended after
+    pub nothing : DoesNothing me more (with_db old after) new
 
   -- why a transaction is refused: by a test, as its closure was, or as what it wrote was
   pub data RefusesTransaction (e : Error) (me more : CallerValue) (old new : StateValue P M) : Type 0 where
     ByTest : tests old.machine.db e → DoesNothing me more old new → RefusesTransaction e me more old new
-    ByClosure : runs old.machine.db (Err (Storage e)) → DoesNothing me more old new → RefusesTransaction e me more old new
-    ByCommit : (commit : Commit A W) → runs old.machine.db (Ok commit) → RefusesCommit store flush_number meant (batches_of commit.writes) (has_trees && commit.flushes) e me more old new → RefusesTransaction e me more old new
+    ByClosure : OnlyRuns (Err (Storage e)) me more old new → RefusesTransaction e me more old new
+    ByCommit : (commit : Commit A W) (after : DbValue P M) → runs old.machine.db (Ok commit) after → RefusesCommit store flush_number meant (batches_of commit.writes) (has_trees && commit.flushes) e me more (with_db old after) new → RefusesTransaction e me more old new
 
-  -- a transaction that its closure aborted did nothing
+  -- of a transaction that its closure aborted the ids stay taken, and nothing else is done
   abbrev pub transacts_as : Result A (TransactionError E) → CallerValue → CallerValue → StateValue P M → StateValue P M → Type 0
   transacts_as (Ok answer) me more old new = CommitsTransaction answer me more old new
-  transacts_as (Err (Abort e)) me more old new = runs old.machine.db (Err (Abort e)) × DoesNothing me more old new
+  transacts_as (Err (Abort e)) me more old new = OnlyRuns (Err (Abort e)) me more old new
   transacts_as (Err (Storage e)) me more old new = RefusesTransaction e me more old new
 
   -- it was made so under the lock

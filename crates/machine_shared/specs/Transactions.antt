@@ -1,52 +1,40 @@
 -- A closure that is run as a transaction by a caller: what it wrote is noted as a group, with what was at the keys of its writes.
-use Rattle.std.specs.Prelude.{◌≡◌, ◌⊎◌, ℕ, Bool, true, false, ◌&&◌, List, [], ◌∷◌, ◌++◌, map, Option, Some, None, Result, Ok, Err, slice_get}
-use Rattle.std.specs.Option.{unwrap_or}
-use Rattle.std.specs.FinMap.Entries.{find}
-use Rattle.sled_nodes.specs.Order.{Key, key_cmp}
+use Rattle.std.specs.Prelude.{◌≡◌, ◌⊎◌, ℕ, Bool, true, false, ◌&&◌, List, [], ◌∷◌, ◌++◌, Result, Ok, Err}
 use Rattle.sled_nodes.specs.declared.error.Error.{Error}
 use Rattle.sled_batch.specs.Batch.{Writes}
-use Rattle.sled_store.specs.Store.{Store, now}
+use Rattle.sled_store.specs.Store.{Store}
 use Rattle.sled_model.specs.Maps.{Maps, Merge}
 use Rattle.sled_model.specs.Refusal.{must_refuse_of}
 use Rattle.sled_model.specs.State.{maps_of}
 use Rattle.sled_model.specs.declared.reply.Reply.TheVariants.{Number}
 use Rattle.sled_model.specs.declared.tree.Tree.{Tree}
 use Rattle.tree_transactions.specs.Attempts.{Answer, Closure}
-use Rattle.tree_transactions.specs.Positions.{ShowsAt}
-use Rattle.tree_transactions.specs.Transactions.{Transacts, TransactsAll}
-use Rattle.tree_transactions.specs.Trees.{Shows}
 use Rattle.tree_transactions.specs.declared.attempts.Commit.{Commit}
 use Rattle.tree_transactions.specs.declared.errors.TransactionError.{TransactionError}
 use Rattle.tree_transactions.specs.declared.errors.TransactionError.TheVariants.{Abort, Storage}
 use Rattle.tree_transactions.specs.declared.tree.TransactionalTree.{TransactionalTree}
 use Rattle.tree_transactions.specs.declared.trees.TransactionalTrees.{TransactionalTrees}
-use Rattle.lent_pages.specs.Lent.{RunsLent, lent_of, store_lent}
-use Rattle.lent_pages.specs.declared.lent.Lent.{Lent}
 use Rattle.sled.specs.Calls.{MustBeRefused}
-use Rattle.sled.specs.Reads.{ReadsMap}
 use Rattle.sled.specs.Sound.{IsDb}
-use Rattle.sled.specs.Transactions.{RefusesList}
+use Rattle.sled.specs.Transactions.{RefusesList, RunsOnList, RunsOnTree, RunsTo}
 use Rattle.sled.specs.Values.{DbValue, db_state}
 use Rattle.machine_shared.specs.Made.{MadeValue, WholeMade, TransactionMade}
 use Rattle.machine_shared.specs.Stood.{stood_in}
 use Rattle.machine_shared.specs.Wholes as value
 
--- How the closure of a transaction ends: in this database no test refuses the tree, and the closure is run at the tree's root, over the
--- pages as they are, up to this end. No id is set aside for it, and none is given
-pub record RunsIn {P M F R A E : Type 0} (store : P → Store) (meant : M → Merge) (says : Closure F (TransactionalTree (Lent P)) R) (result_of : R → Answer A E) (f : F) (tree : Tree) (d : DbValue P M) (ended : Result (Commit A Writes) (TransactionError E)) : Type 0 where
+-- In a database whose pages are well formed the closure of a transaction is run to this end, as a transaction of the database runs it: with
+-- its ids, some of which it may have taken after it, and nothing is written
+pub record RunsWell {P M A E W : Type 0} (store : P → Store) (meant : M → Merge) (reaches : Result (Commit A W) (TransactionError E) → Store → ℕ → Type 0) (d : DbValue P M) (ended : Result (Commit A W) (TransactionError E)) (after : DbValue P M) : Type 0 where
   pub sound : IsDb store d
-  pub tested : must_refuse_of (db_state store meant d) (tree ∷ []) ≡ None
-  pub root : ℕ
-  pub root_is : (now (store d.pages)).roots tree.name ≡ Some root
-  pub runs : RunsLent (Transacts (store_lent store) says result_of f root) (store d.pages) ended
+  pub runs : RunsTo store meant reaches d ended after
 
--- .. none refuses these trees, and it is run at the roots of all
-pub record RunsAllIn {P M F R A E : Type 0} (store : P → Store) (meant : M → Merge) (says : Closure F (TransactionalTrees (Lent P)) R) (result_of : R → Answer A E) (f : F) (trees : List Tree) (d : DbValue P M) (ended : Result (Commit A (List Writes)) (TransactionError E)) : Type 0 where
-  pub sound : IsDb store d
-  pub tested : must_refuse_of (db_state store meant d) trees ≡ None
-  pub roots : List ℕ
-  pub roots_are : map (λ (t : Tree). (now (store d.pages)).roots t.name) trees ≡ map Some roots
-  pub runs : RunsLent (TransactsAll (store_lent store) says result_of f roots) (store d.pages) ended
+-- .. at the root of a tree that no test refuses
+abbrev pub RunsIn : {P M F R A E : Type 0} → (P → Store) → (M → Merge) → Closure F (TransactionalTree P) R → (R → Answer A E) → F → Tree → DbValue P M → Result (Commit A Writes) (TransactionError E) → DbValue P M → Type 0
+RunsIn store meant says result_of f tree d ended after = RunsWell store meant (RunsOnTree store meant says result_of f d tree) d ended after
+
+-- .. at the roots of these trees
+abbrev pub RunsAllIn : {P M F R A E : Type 0} → (P → Store) → (M → Merge) → Closure F (TransactionalTrees P) R → (R → Answer A E) → F → List Tree → DbValue P M → Result (Commit A (List Writes)) (TransactionError E) → DbValue P M → Type 0
+RunsAllIn store meant says result_of f trees d ended after = RunsWell store meant (RunsOnList store meant says result_of f d trees) d ended after
 
 -- a test of the tree fails, and so says the error
 abbrev pub fails_tests : {P M : Type 0} → (P → Store) → (M → Merge) → Tree → DbValue P M → Error → Type 0
@@ -56,14 +44,14 @@ fails_tests store meant tree d e = MustBeRefused (must_refuse_of (db_state store
 abbrev pub fails_tests_of_list : {P M : Type 0} → (P → Store) → (M → Merge) → List Tree → DbValue P M → Error → Type 0
 fails_tests_of_list store meant trees d e = RefusesList (must_refuse_of (db_state store meant d) trees) e
 
--- it is so of the database as it was at some moment, which had these maps
-abbrev pub IsOnce : {P M X : Type 0} → (P → Store) → (M → Merge) → (DbValue P M → X → Type 0) → Maps → X → Type 0
-IsOnce {P} {M} store meant so maps x = (d : DbValue P M) × (maps ≡ maps_of (db_state store meant d)) × so d x
+-- it is so of the database as it was at some moment, which had these maps, and as it was after it
+abbrev pub IsOnce : {P M X : Type 0} → (P → Store) → (M → Merge) → (DbValue P M → X → DbValue P M → Type 0) → Maps → X → Type 0
+IsOnce {P} {M} store meant so maps x = (d : DbValue P M) × (after : DbValue P M) × (maps ≡ maps_of (db_state store meant d)) × so d x after
 
-abbrev pub RunsOnce : {P M F R A E : Type 0} → (P → Store) → (M → Merge) → Closure F (TransactionalTree (Lent P)) R → (R → Answer A E) → F → Tree → Maps → Result (Commit A Writes) (TransactionError E) → Type 0
+abbrev pub RunsOnce : {P M F R A E : Type 0} → (P → Store) → (M → Merge) → Closure F (TransactionalTree P) R → (R → Answer A E) → F → Tree → Maps → Result (Commit A Writes) (TransactionError E) → Type 0
 RunsOnce store meant says result_of f tree = IsOnce store meant (RunsIn store meant says result_of f tree)
 
-abbrev pub RunsAllOnce : {P M F R A E : Type 0} → (P → Store) → (M → Merge) → Closure F (TransactionalTrees (Lent P)) R → (R → Answer A E) → F → List Tree → Maps → Result (Commit A (List Writes)) (TransactionError E) → Type 0
+abbrev pub RunsAllOnce : {P M F R A E : Type 0} → (P → Store) → (M → Merge) → Closure F (TransactionalTrees P) R → (R → Answer A E) → F → List Tree → Maps → Result (Commit A (List Writes)) (TransactionError E) → Type 0
 RunsAllOnce store meant says result_of f trees = IsOnce store meant (RunsAllIn store meant says result_of f trees)
 
 -- what was written of a tree, as the batches of a group
@@ -115,17 +103,3 @@ module _ {A E W : Type 0} (reaches : Maps → Result (Commit A W) (TransactionEr
     pub noted : List MadeValue
     pub notes : notes_ended ended noted
     pub adds : more ≡ made ++ noted
-
--- What a read of a key shows inside a closure that is run at a tree over pages that are lent: its own write of the key, and if there is
--- none the value in the map of the tree
-abbrev pub ShowsInsideLaw : {P M : Type 0} → (P → Store) → (M → Merge) → Type 0
-ShowsInsideLaw {P} {M} store meant = (d : DbValue P M) (tree : Tree) (given : TransactionalTree (Lent P)) (key : Key) (value : Option Key) → IsDb store d
-    → must_refuse_of (db_state store meant d) (tree ∷ []) ≡ None → (now (store d.pages)).roots tree.name ≡ Some given.root → store_lent store given.pages.now ≡ lent_of (store d.pages)
-    → Shows (store_lent store) given key value → ReadsMap store meant d tree (λ pairs. value ≡ unwrap_or (find key_cmp key given.overlay) (find key_cmp key pairs))
-
--- .. and at a list of trees, at the position of the tree
-abbrev pub ShowsInsideAtLaw : {P M : Type 0} → (P → Store) → (M → Merge) → Type 0
-ShowsInsideAtLaw {P} {M} store meant = (d : DbValue P M) (trees : List Tree) (given : TransactionalTrees (Lent P)) (position : ℕ) (tree : Tree) (key : Key) (value : Option Key) → IsDb store d
-    → must_refuse_of (db_state store meant d) trees ≡ None → map (λ (t : Tree). (now (store d.pages)).roots t.name) trees ≡ map Some given.roots.now → store_lent store given.pages.now ≡ lent_of (store d.pages)
-    → slice_get trees position ≡ Some tree → ShowsAt (store_lent store) given position key value
-    → (overlay : Writes) × (slice_get given.overlays position ≡ Some overlay) × ReadsMap store meant d tree (λ pairs. value ≡ unwrap_or (find key_cmp key overlay) (find key_cmp key pairs))

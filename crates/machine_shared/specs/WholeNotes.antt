@@ -7,7 +7,7 @@ use Rattle.sled_model.specs.State.{State}
 use Rattle.sled_model.specs.Refusal.{MustRefuse, ToCall, must_refuse}
 use Rattle.sled_model.specs.Transition.{kind_of, InParts}
 use Rattle.sled_model.specs.declared.call.Whole.{Whole}
-use Rattle.sled_model.specs.declared.call.Whole.TheVariants.{Flush, PopMin, PopMax, Clear, Group, OpenTree, DropTree, GenerateId, Import, Watch, Next, Unsubscribe}
+use Rattle.sled_model.specs.declared.call.Whole.TheVariants.{Next, Unsubscribe}
 use Rattle.sled_model.specs.declared.outcome.Outcome.{Outcome}
 use Rattle.sled_model.specs.declared.outcome.Outcome.TheVariants.{Decided, Refused}
 use Rattle.sled_model.specs.declared.outcome.Step.TheVariants as step
@@ -32,18 +32,9 @@ noted_whole whole o number = noted_with (whole_value whole) (kept_of_whole whole
 
 -- the test that refuses a whole call, if one does. No test is made of a subscriber's
 abbrev pub whole_test : State → Whole → Option MustRefuse
-whole_test s Flush = must_refuse s (ToCall Flush)
-whole_test s (PopMin tree) = must_refuse s (ToCall (PopMin tree))
-whole_test s (PopMax tree) = must_refuse s (ToCall (PopMax tree))
-whole_test s (Clear tree) = must_refuse s (ToCall (Clear tree))
-whole_test s (Group batches) = must_refuse s (ToCall (Group batches))
-whole_test s (OpenTree name) = must_refuse s (ToCall (OpenTree name))
-whole_test s (DropTree name) = must_refuse s (ToCall (DropTree name))
-whole_test s GenerateId = must_refuse s (ToCall GenerateId)
-whole_test s (Import collections) = must_refuse s (ToCall (Import collections))
-whole_test s (Watch tree prefix) = must_refuse s (ToCall (Watch tree prefix))
 whole_test s (Next subscriber) = None
 whole_test s (Unsubscribe subscriber) = None
+whole_test s whole = must_refuse s (ToCall whole)
 
 module _ {P M : Type 0} (store : P → Store) (flush_number : P → ℕ) (meant : M → Merge) where
   -- a whole call is a step of the machine, and this is noted of it

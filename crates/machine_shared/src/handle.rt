@@ -102,8 +102,9 @@ impl<P: Pages, L: Ledger, M: MergeOperator> Handle<P, L, M> {
         begun
     }
 
-    /// One step of the call in the slot, whichever caller began it. A call on a key that it decides becomes this caller's. The contract
-    /// says this of some states of which all holds that holds under the lock; that it is this lock is tested.
+    /// One step of the call in the slot, whichever caller began it, as `step` of the machine. A call on a key that it decides is added to this
+    /// handle's list. If there is no memory to note that, the call is refused with `NoMemory`, and its slot is free; and with `Closed` if the
+    /// database was taken out of its lock.
     ///
     /// ```
     /// let outcome = handle.step(rt, slot);
@@ -119,10 +120,11 @@ impl<P: Pages, L: Ledger, M: MergeOperator> Handle<P, L, M> {
         outcome
     }
 
-    /// Abandons the call in the slot, whichever caller began it. If the slot has no call it returns `NoSuchSlot`.
+    /// Abandons the call in the slot, whichever caller began it. If the slot has no call it returns `NoSuchSlot`, and `Refused(Closed)` if the
+    /// database was taken out of its lock.
     ///
     /// ```
-    /// let outcome = handle.abandon(rt, slot); // `Abandoned`, or `NoSuchSlot`.
+    /// let outcome = handle.abandon(rt, slot); // `Abandoned`, if nobody ended it before.
     /// ```
     pub fn abandon(&mut self, rt: &impl Wait, slot: Slot) -> Outcome
         ensures given_up { IsGivenUp result }

@@ -60,12 +60,10 @@ pub use caller::Caller;
 pub use db::Db;
 pub use entry::{Entry, Made};
 pub use handle::{Gate, Handle, NoGate};
-pub use lent_pages::Lent;
 pub use range_pages::RangePages;
 pub use read::{Answer, Question, Read};
 pub use scans::{ScanNote, Scanned};
 pub use state::State;
 pub use told::{Collections, Names, Pairs};
-pub use transactions::law_shows_inside;
 // an unopened ledger, which `Db::new` takes
 pub use std::sync::ledger::Blank;

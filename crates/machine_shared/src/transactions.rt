@@ -1,15 +1,13 @@
 //! Transactions by a caller: a closure is run over the pages as they are, and what it wrote is made as a group, which is noted.
-ghost use Rattle.std.specs.Prelude.{◌≡◌, ◌∷◌, [], true, IfErr, IfOk, OnOk, OnErr};
+ghost use Rattle.std.specs.Prelude.{◌≡◌, true, IfErr, IfOk, OnOk, OnErr};
 ghost use Rattle.sled_nodes.specs.declared.error.Error.TheVariants.{NoMemory};
-ghost use Rattle.sled_store.specs.Store.{now};
-ghost use Rattle.sled_model.specs.Refusal.{must_refuse_of};
 ghost use Rattle.sled_model.specs.State.{maps_of};
 ghost use Rattle.sled_model.specs.declared.call.Whole.TheVariants.{Flush};
 ghost use Rattle.sled_model.specs.declared.outcome.Outcome.TheVariants.{Refused};
 ghost use Rattle.sled.specs.Values.{db_state};
 ghost use Rattle.machine_shared.specs.Inside.{RunsOver};
 ghost use Rattle.machine_shared.specs.Transacted.{CommitsGroup, RefusesCommit, TransactsUnderLock, flushes_as, transacts_as};
-ghost use Rattle.machine_shared.specs.Transactions.{AddsTransaction, RunsIn, RunsOnce, ShowsInsideAtLaw, ShowsInsideLaw, batches_of_tree, fails_tests, transaction_made};
+ghost use Rattle.machine_shared.specs.Transactions.{AddsTransaction, RunsIn, RunsOnce, batches_of_tree, fails_tests, transaction_made};
 ghost use Rattle.machine_shared.specs.UnderLock.{MakesWhole};
 ghost use Rattle.machine_shared.specs.theory.Transacting.{AddsCommit, AddsFlush, StopsCommit, ran_as};
 
@@ -17,55 +15,33 @@ use crate::caller::Caller;
 use crate::grouping::decided;
 use crate::handle::Handle;
 use crate::state::State;
-use lent_pages::{Lent, run_on};
-use machine_alone::Machine;
-use sled::{TransactionAnswer, TransactionError, TransactionResult, TransactionalTree};
+use sled::{Commit, TransactionAnswer, TransactionError, TransactionResult, TransactionalTree};
 use sled_batch::Batch;
 use sled_model::{MergeOperator, Tree, Whole};
-use sled_nodes::{Error, Pid, Result};
+use sled_nodes::{Error, Result};
 use sled_store::Pages;
 use std::alloc::Global;
 use std::sync::Wait;
 use std::sync::ledger::Ledger;
-use tree_transactions::Commit;
 
-// The root of a tree that passes the tests.
-#[tactic(auto, using(sled::proofs::Reading::no_root))]
-pub(crate) fn root_of<P: Pages, M: MergeOperator>(
-    machine: &Machine<P, M>,
-    tree: &Tree,
-) -> Result<Pid>
-    ensures tested { OnOk result (must_refuse_of (db_state P.store M.meant machine.now.db) (tree.now ∷ []) ≡ None) }
-    ensures is { IfOk result (λ root. (now (P.store machine.now.db.pages)).roots tree.now.name ≡ Some root) }
-    ensures err { IfErr result (fails_tests P.store M.meant tree.now machine.now.db) }
-{
-    if let Err(e) = machine.db().check(tree) {
-        return Err(e);
-    }
-    match machine.db().pages().root(tree.name.as_ref()) {
-        Some(root) => Ok(root),
-        None => unreachable!(),
-    }
-}
+impl<P: Pages, L: Ledger, M: MergeOperator> State<P, L, M> {
+    ghost use Rattle.machine_shared.specs.Transacted.{with_db};
 
-// Runs a closure at a tree, over the pages as they are. No id is set aside for it, and nothing is written.
-fn run<P: Pages + Sync, M: MergeOperator, A, E, R: TransactionAnswer<A, E>, F>(
-    machine: &Machine<P, M>,
-    tree: &Tree,
-    f: F,
-) -> TransactionResult<Commit<A, Batch>, E>
-where
-    F: Fn(&mut TransactionalTree<'_, Lent<'_, P>>) -> R,
-    requires { (shown : _) → F.pre f shown }
-    ensures { ran_as (fails_tests P.store M.meant tree.now machine.now.db) (RunsIn P.store M.meant F.Fn R.result_of f tree.now machine.now.db) result }
-{
-    machine.audit();
-    let root = match root_of(machine, tree) {
-        Ok(root) => root,
-        Err(e) => return Err(TransactionError::Storage(e)),
-    };
-    let pages = machine.db().pages();
-    run_on(machine.db().allocator(), pages, root, f)
+    // Runs a closure at a tree, with the ids of the database, and hands back what it wrote.
+    fn run<A, E, R: TransactionAnswer<A, E>, F>(
+        &mut self,
+        tree: &Tree,
+        f: F,
+    ) -> TransactionResult<Commit<A, Batch>, E>
+    where
+        F: Fn(&mut TransactionalTree<'_, P>) -> R,
+        requires { (shown : _) → F.pre f shown }
+        ensures ran { ran_as (fails_tests P.store M.meant tree.now self.old.machine.db) (RunsIn P.store M.meant F.Fn R.result_of f tree.now self.old.machine.db) self.old.machine.db result self.new.machine.db }
+        ensures same { self.new ≡ with_db self.old self.new.machine.db }
+    {
+        self.machine.audit();
+        self.machine.run_transaction(tree, f)
+    }
 }
 
 // What was written of a tree, as a group.
@@ -150,24 +126,20 @@ fn commit_tree<P: Pages, L: Ledger, M: MergeOperator>(
 }
 
 // A transaction of a tree: its closure is run, and what that wrote is made and noted.
-fn transact<
-    P: Pages + Sync,
-    L: Ledger,
-    M: MergeOperator,
-    A: Drop,
-    E,
-    R: TransactionAnswer<A, E>,
-    F,
->(state: &mut State<P, L, M>, me: &mut Caller<L>, tree: &Tree, f: F) -> TransactionResult<A, E>
+fn transact<P: Pages, L: Ledger, M: MergeOperator, A: Drop, E, R: TransactionAnswer<A, E>, F>(
+    state: &mut State<P, L, M>,
+    me: &mut Caller<L>,
+    tree: &Tree,
+    f: F,
+) -> TransactionResult<A, E>
 where
-    F: Fn(&mut TransactionalTree<'_, Lent<'_, P>>) -> R,
+    F: Fn(&mut TransactionalTree<'_, P>) -> R,
     requires { (shown : _) → F.pre f shown }
     ensures made { AddsTransaction (RunsOnce P.store M.meant F.Fn R.result_of f tree.now) (batches_of_tree tree.now) true result me.old.made me.new.made }
     ensures number { me.new.number ≡ me.old.number }
     ensures does { transacts_as P.store P.flush_number M.meant (fails_tests P.store M.meant tree.now) (RunsOver P.store M.meant F.Fn R.result_of f tree.now) (batches_of_tree tree.now) true result me.old me.new state.old state.new }
 {
-    let ended = run(state.machine(), tree, f);
-    match ended {
+    match state.run(tree, f) {
         Ok(
             Commit {
                 answer,
@@ -186,22 +158,14 @@ where
 }
 
 // The same of what a lock holds. What was taken from under it is closed.
-fn transact_in<
-    P: Pages + Sync,
-    L: Ledger,
-    M: MergeOperator,
-    A: Drop,
-    E,
-    R: TransactionAnswer<A, E>,
-    F,
->(
+fn transact_in<P: Pages, L: Ledger, M: MergeOperator, A: Drop, E, R: TransactionAnswer<A, E>, F>(
     held: &mut Option<State<P, L, M>>,
     me: &mut Caller<L>,
     tree: &Tree,
     f: F,
 ) -> TransactionResult<A, E>
 where
-    F: Fn(&mut TransactionalTree<'_, Lent<'_, P>>) -> R,
+    F: Fn(&mut TransactionalTree<'_, P>) -> R,
     requires { (shown : _) → F.pre f shown }
     ensures made { AddsTransaction (RunsOnce P.store M.meant F.Fn R.result_of f tree.now) (batches_of_tree tree.now) true result me.old.made me.new.made }
     ensures number { me.new.number ≡ me.old.number }
@@ -218,7 +182,7 @@ where
     }
 }
 
-impl<P: Pages + Sync, L: Ledger, M: MergeOperator> Handle<P, L, M> {
+impl<P: Pages, L: Ledger, M: MergeOperator> Handle<P, L, M> {
     /// Runs a closure as a transaction of a tree: all that it writes is made, or nothing. It is one step under the lock. What it wrote is
     /// added to this caller's list, also if that is nothing, with what was before at each key that it wrote: the closure was run over maps
     /// that had this there. Of keys that it read and did not write the list says nothing. The clause `under_lock` does: whatever it read was
@@ -228,8 +192,9 @@ impl<P: Pages + Sync, L: Ledger, M: MergeOperator> Handle<P, L, M> {
     /// but if only the flush is refused what it wrote is made, and is in the list.
     ///
     /// The closure ends as one of `transaction` of the database does, and is run again while it ends by `Conflict`. It is called while the
-    /// lock is held: it must make no call on this database. No ids are set aside for it, so `generate_id` inside is refused: take ids
-    /// before. Refused as `transaction` of the database is, and with `Closed` if the database was taken out of its lock.
+    /// lock is held: it must make no call on this database. It may take ids, as inside `transaction` of the database, and those that it took
+    /// stay taken, however it ends; no entry has them. Refused as `transaction` of the database is; if there is no memory to note
+    /// it, or what stands at a key that it wrote cannot be read; and with `Closed` if the database was taken out of its lock.
     ///
     /// ```
     /// // Moves the value of one key to another.
@@ -248,7 +213,7 @@ impl<P: Pages + Sync, L: Ledger, M: MergeOperator> Handle<P, L, M> {
         f: F,
     ) -> R::Ended
     where
-        F: Fn(&mut TransactionalTree<'_, Lent<'_, P>>) -> R,
+        F: Fn(&mut TransactionalTree<'_, P>) -> R,
         requires { (shown : _) → F.pre f shown }
         ensures made { AddsTransaction (RunsOnce P.store M.meant F.Fn R.result_of f tree.now) (batches_of_tree tree.now) true (R.answer_of result) self.old.made self.new.made }
         ensures number { self.new.number ≡ self.old.number }
@@ -260,14 +225,3 @@ impl<P: Pages + Sync, L: Ledger, M: MergeOperator> Handle<P, L, M> {
         R::ended(ended)
     }
 }
-
-/// What a read shows inside a transaction by a handle, in terms of the maps: the transaction's own write of the key, and if there is none
-/// the value in the map of the tree. It does nothing.
-///
-/// ```
-/// law_shows_inside::<MemPages, Box<dyn MergeOperator + Send>>(); // From here on a proof knows what reads inside show.
-/// ```
-pub fn law_shows_inside<P: Pages, M: MergeOperator>()
-    ensures tree { ShowsInsideLaw P.store M.meant }
-    ensures list { ShowsInsideAtLaw P.store M.meant }
-{}

@@ -111,7 +111,7 @@ part a (Puts name key value) b maps d = like (decided a name d.named (Insert key
 
 parts : {a b : State} {ps : List Part} {maps : List Maps} → DoesParts a ps b maps → Stays a b
 parts (NoPart {s = s}) = stays s
-parts (OnePart {a = a} {m = m} {part = p} {added = added} one more) = then (part a p m added one.is) (parts more)
+parts (OnePart {a = a} {m = m} {part = p} added one more) = then (part a p m added one) (parts more)
 
 -- the writes of a group
 written : (o : Option NamedTree) (w : Write) (s : State) → s.trees w.tree.name ≡ o → Stays s (after_write_on o w s)
@@ -166,7 +166,7 @@ whole_stays a (Group batches) (outcome.Refused e) b maps t = group_stopped t.is
 whole_stays a (OpenTree name) (outcome.Refused e) b maps t = same t.1
 whole_stays a (DropTree name) (outcome.Refused e) b maps t = same t.1
 whole_stays a GenerateId (outcome.Refused e) b maps t = same t.1
-whole_stays a (Import collections) (outcome.Refused e) b maps t = stopped t.is
+whole_stays a (Import collections) (outcome.Refused e) b maps t = stopped t
 whole_stays a (Watch tree prefix) (outcome.Refused e) b maps t = same t.1
 whole_stays a (Next subscriber) (outcome.Refused e) b maps t = absurd t
 whole_stays a (Unsubscribe subscriber) (outcome.Refused e) b maps t = absurd t

@@ -1,14 +1,12 @@
 -- What a transaction makes of the maps, however it ends.
-use Rattle.std.proofs.Common.{◌≡◌, ℕ, ◌<◌, ◌≤◌, Bool, true, false, ◌&&◌, not, cond, List, [], ◌∷◌, ◌++◌, length, map, replicate, append-nil, Option, Some, None, Result, Ok, Err, IfOk, IfErr, sym, refl, ap, ◌∙◌, subst, inl, inr, arith}
+use Rattle.std.proofs.Common.{◌≡◌, ℕ, ◌<◌, ◌≤◌, Bool, true, false, ◌&&◌, not, cond, List, [], ◌∷◌, length, map, replicate, append-nil, Some, None, Result, Ok, Err, sym, refl, ap, ◌∙◌, subst, inl, inr, arith}
 use Rattle.std.specs.List.{zip}
 use Rattle.std.proofs.lemmas.List.{length-map}
-use Rattle.sled_nodes.specs.Order.{Key}
 use Rattle.sled_nodes.specs.declared.error.Error.{Error}
 use Rattle.sled_nodes.specs.declared.error.Error.TheVariants as error
 use Rattle.sled_batch.specs.Batch.{Writes}
-use Rattle.sled_store.specs.In.{In}
 use Rattle.sled_store.specs.State.{State, GroupEnds}
-use Rattle.sled_store.specs.Store.{Store, now, HasUnreadable}
+use Rattle.sled_store.specs.Store.{Store, now}
 use Rattle.sled_store.specs.theory.Facts.{now_acted}
 use Rattle.sled_model.specs.Maps.{Map, Maps, Merge}
 use Rattle.sled_model.specs.State as model
@@ -30,11 +28,11 @@ use Rattle.sled.specs.Sound.{IsDb}
 use Rattle.sled.specs.Calls.{MustBeRefused}
 use Rattle.sled.specs.Direct.{LeavesAll}
 use Rattle.sled.specs.Flush.{RefusesFlush}
-use Rattle.sled.specs.Groups.{GroupDecided, GroupRefused}
+use Rattle.sled.specs.Groups.{GroupRefused}
 use Rattle.sled.specs.Promises.{ChangesMap}
 use Rattle.sled.specs.Transactions.{TakesIds, flushes_as, RunsTo, MakesWrites, Commits, Stops, ByTest, ByClosure, ByGroup, ByFlush, Fails, fails_as, RunsOnTree, RunsOnList, TransactionMade, TransactionNotMade, ListMade, ListNotMade, RefusesList, list_is_refused_as, has_trees}
 use Rattle.sled.specs.Wholes.{KeepsMaps, LeavesAfter}
-use Rattle.sled.specs.Written.{with_writes, map_after_batches, WritesMaps, KeepsOrCloses, LeavesOrFlushes, stops_early, not_made_as, AttemptsOnTree, WritesOnTree, RefusesOnTree, AttemptsOnList, WritesOnList, RefusesOnList}
+use Rattle.sled.specs.Written.{with_writes, map_after_batches, WritesMaps, LeavesOrFlushes, stops_early, not_made_as, AttemptsOnTree, WritesOnTree, RefusesOnTree, AttemptsOnList, WritesOnList, RefusesOnList}
 use Rattle.sled.proofs.Conducting.{leaves_then, leaves_none}
 use Rattle.sled.proofs.Grouped.{tested_open}
 use Rattle.sled.proofs.Keeping.{flush_keeps, flush_leaves, flush_rests, group_leaves}
@@ -143,7 +141,7 @@ module _ {P M : Type 0} (store : P → Store) (meant : M → Merge) where
           abbrev NotMade : TransactionError E → DbValue P M → Type 0
           NotMade e new = not_made_as store meant tests attempts makes old e new
 
-          group_cause : (commit : Commit A W) (run new : DbValue P M) (e : Error) → RunsTo store flush_number meant tests reaches batches_of has old (Ok commit) run → GroupRefused store meant run (batches_of commit.writes) e new → cause_of_walk (store old.pages) (store new.pages) e
+          group_cause : (commit : Commit A W) (run new : DbValue P M) (e : Error) → RunsTo store meant reaches old (Ok commit) run → GroupRefused store meant run (batches_of commit.writes) e new → cause_of_walk (store old.pages) (store new.pages) e
           group_cause commit run new e r g = cause_before (store old.pages) (store run.pages) (store new.pages) e r.takes.only (
               subst (λ o. may_refuse_as o (cause_of_walk (store run.pages) (store new.pages)) e) (ap (λ s. must_refuse_of s (trees_of_batches (batches_of commit.writes))) (r.takes.state (λ n. None) 0) ∙ tested commit (store run.pages) run.greatest_id r.runs) (g.refuses (λ n. None) 0).why
               )

@@ -13,7 +13,7 @@ use Rattle.sled_nodes.specs.declared.texts.TheConstants.{OVERWRITES_DATA, UNKNOW
 use Rattle.sled_model.specs.Maps.{Maps, Merge}
 use Rattle.sled_model.specs.Answer.{Answer, answer_of}
 use Rattle.sled_model.specs.Collections.{Content, contents_of, are_trees}
-use Rattle.sled_model.specs.Imports.{Part, OpensName, Puts, puts_of, parts_of, tree_at, DoesParts, NoPart, OnePart, HasAt, unread_as, refuses_part, StopsAtPart, StopsImporting}
+use Rattle.sled_model.specs.Imports.{Part, OpensName, Puts, puts_of, parts_of, tree_at, DoesParts, NoPart, OnePart, HasAt, unread_as, refuses_part, Stop, StopsAtPart}
 use Rattle.sled_model.specs.State.{State, NamedTree, CallInFlight, maps_of, after_decision_on}
 use Rattle.sled_model.specs.Refusal.{MustRefuse, IsClosed, first_of, must_refuse, must_refuse_of, MayRefuse, ToPoint, ToCall, cause_of, may_refuse_as, cause_of_import}
 use Rattle.sled_model.specs.Whole.{OpensTree, number_opened, state_opened}
@@ -52,8 +52,8 @@ parts_first c cs = ap (λ l. OpensName c.1 ∷ l) (puts_then c.1 c.2 (parts_of c
 
 parts_then : {a m b : State} {ps qs : List Part} {k l : List Maps} → DoesParts a ps m k → DoesParts m qs b l → DoesParts a (ps ++ qs) b (k ++ l)
 parts_then NoPart rest = rest
-parts_then {a = a} {b = b} {qs = qs} {l = l} (OnePart {part = part} {parts = parts} {added = added} {maps = maps} one more) rest =
-    subst (λ z. DoesParts a (part ∷ (parts ++ qs)) b z) (sym (append_assoc added maps l)) (OnePart one (parts_then more rest))
+parts_then {a = a} {b = b} {qs = qs} {l = l} (OnePart {part = part} {parts = parts} {maps = maps} added one more) rest =
+    subst (λ z. DoesParts a (part ∷ (parts ++ qs)) b z) (sym (append_assoc added maps l)) (OnePart added one (parts_then more rest))
 
 -- ---- refusals
 
@@ -240,7 +240,7 @@ module _ {P M : Type 0} (store : P → Store) (meant : M → Merge) where
       pub opened_done : OpensBySteps store name old new → PartsDone store meant old (OpensName name ∷ []) new
       opened_done s = record {
         maps = w.maps;
-        does = λ slots given. let d = w.decides slots given 0 in subst (λ m. DoesParts (State_of old slots given) (OpensName name ∷ []) (State_of new slots given) m) (append-nil w.maps) (OnePart (record { is = (d.is, d.added) }) NoPart);
+        does = λ slots given. let d = w.decides slots given 0 in subst (λ m. DoesParts (State_of old slots given) (OpensName name ∷ []) (State_of new slots given) m) (append-nil w.maps) (OnePart w.maps (d.is, d.added) NoPart);
         acts = w.acts;
         leaves = w.leaves;
         same = grows_opened old new w.same;
@@ -274,14 +274,13 @@ module _ {P M : Type 0} (store : P → Store) (meant : M → Merge) where
         put_done there off r = record {
           maps = maps_of (db_state store meant new) ∷ [];
           does = λ slots given. OnePart
+              (maps_of (db_state store meant new) ∷ [])
               (record {
-                is = record {
-                  named = p.decides.named;
-                  there = p.decides.there;
-                  absent = subst (λ (n : NamedTree). find key_cmp key n.map ≡ None) (some_is (sym r.there ∙ p.decides.there)) (absent (find key_cmp key r.named.map) (sym r.is ∙ off));
-                  is = state_now slots given;
-                  added = refl;
-                };
+                named = p.decides.named;
+                there = p.decides.there;
+                absent = subst (λ (n : NamedTree). find key_cmp key n.map ≡ None) (some_is (sym r.there ∙ p.decides.there)) (absent (find key_cmp key r.named.map) (sym r.is ∙ off));
+                is = state_now slots given;
+                added = refl;
               })
               NoPart;
           acts = p.conducts.acts;
@@ -485,11 +484,11 @@ module _ {P M : Type 0} (store : P → Store) (meant : M → Merge) where
     import_whole k = record { maps = k.maps; decides = λ slots given number. (refl, k.decides slots given); acts = k.acts; leaves = k.leaves; same = k.same }
 
     refused_whole : (all : List Content) (e : Error) (maps : List Maps) → (may_refuse_as (must_refuse_of (db_state store meant old) []) (cause_of_import all) e × (new ≡ old) × (maps ≡ [])) ⊎ ImportStops store meant old all e new maps
-        → (slots : ℕ → Option CallInFlight) (given : ℕ) → StopsImporting (State_of old slots given) (store old.pages) (store new.pages) all e (State_of new slots given) maps
-    refused_whole all e maps (inl (cause, same, none)) slots given = record { is = inl (cause, ap (λ (d : DbValue P M). State_of d slots given) same, none) }
-    refused_whole all e maps (inr s) slots given = record {
-      is = inr (s.stop, subst (λ (z : State). StopsAtPart (State_of old slots given) (store old.pages) (store new.pages) all s.stop e z maps) (sym (s.stays slots given)) (s.state slots given));
-    }
+        → (slots : ℕ → Option CallInFlight) (given : ℕ) → (may_refuse_as (must_refuse_of (State_of old slots given) []) (cause_of_import all) e × (State_of new slots given ≡ State_of old slots given) × (maps ≡ []))
+        ⊎ ((stop : Stop) × StopsAtPart (State_of old slots given) (store old.pages) (store new.pages) all stop e (State_of new slots given) maps)
+    refused_whole all e maps (inl (cause, same, none)) slots given = inl (cause, ap (λ (d : DbValue P M). State_of d slots given) same, none)
+    refused_whole all e maps (inr s) slots given =
+        inr (s.stop, subst (λ (z : State). StopsAtPart (State_of old slots given) (store old.pages) (store new.pages) all s.stop e z maps) (sym (s.stays slots given)) (s.state slots given))
 
     pub import_whole_refused : (e : Error) → ImportRefused store meant old (contents_of collections.items) e new → WholeRefused store meant old (Import collections) e new
     import_whole_refused e k = record {

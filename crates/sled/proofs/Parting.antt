@@ -11,7 +11,7 @@ use Rattle.sled_nodes.specs.declared.error.Error.{Error}
 use Rattle.sled_model.specs.Maps.{Map, Maps, Merge}
 use Rattle.sled_model.specs.Answer.{answer_of, map_after, decision_of}
 use Rattle.sled_model.specs.Collections.{Content}
-use Rattle.sled_model.specs.Imports.{Part, OpensName, Puts, parts_of, DoesPart, DoesParts, NoPart, OnePart, refuses_part}
+use Rattle.sled_model.specs.Imports.{Part, OpensName, Puts, parts_of, does_part_as, DoesParts, NoPart, OnePart, refuses_part}
 use Rattle.sled_model.specs.Refusal.{must_refuse_of, cause_of_import, may_refuse_as}
 use Rattle.sled_model.specs.State.{State, NamedTree, maps_of}
 use Rattle.sled_model.specs.Whole.{state_opened, maps_if}
@@ -53,19 +53,19 @@ put_map s into key value name t there absent = go (bytes_eq name into) refl
     go false e = refl
     go true e = ap (λ (m : Map). Some m) (put_absent t.merge key value t.map absent) ∙ ap (option_map (put key_cmp key value)) (sym (ap (maps_of s) (same_name name into e) ∙ ap map_in there))
 
-part_map : (a b : State) (part : Part) (maps : List Maps) → DoesPart a part b maps → (name : Key) → maps_of b name ≡ map_after_part part name (maps_of a name)
-part_map a b (OpensName opened) maps d name = ap (λ s. maps_of s name) d.is.0 ∙ opened_map a opened name (a.trees opened) refl
-part_map a b (Puts into key value) maps d name = let p = d.is in ap (λ s. maps_of s name) p.is ∙ put_map a into key value name p.named p.there p.absent
+part_map : (a b : State) (part : Part) (maps : List Maps) → does_part_as a part b maps → (name : Key) → maps_of b name ≡ map_after_part part name (maps_of a name)
+part_map a b (OpensName opened) maps d name = ap (λ s. maps_of s name) d.0 ∙ opened_map a opened name (a.trees opened) refl
+part_map a b (Puts into key value) maps d name = let p = d in ap (λ s. maps_of s name) p.is ∙ put_map a into key value name p.named p.there p.absent
 
 -- and the maps that it added are those after it
-part_added : (a b : State) (part : Part) (maps : List Maps) → DoesPart a part b maps → (m : Maps) → In m maps → m ≡ maps_of b
-part_added a b (OpensName opened) maps d m i = go (a.trees opened) (subst (In m) d.is.1 i)
+part_added : (a b : State) (part : Part) (maps : List Maps) → does_part_as a part b maps → (m : Maps) → In m maps → m ≡ maps_of b
+part_added a b (OpensName opened) maps d m i = go (a.trees opened) (subst (In m) d.1 i)
   where
     go : (o : Option NamedTree) → In m (maps_if (is_none o) b) → m ≡ maps_of b
     go None (inl e) = e
     go None (inr later) = absurd later
     go (Some t) later = absurd later
-part_added a b (Puts into key value) maps d m i = go (subst (In m) d.is.added i)
+part_added a b (Puts into key value) maps d m i = go (subst (In m) d.added i)
   where
     go : In m (maps_of b ∷ []) → m ≡ maps_of b
     go (inl e) = e
@@ -75,7 +75,7 @@ part_added a b (Puts into key value) maps d m i = go (subst (In m) d.is.added i)
 
 parts_map : {a b : State} {parts : List Part} {maps : List Maps} → DoesParts a parts b maps → (name : Key) → maps_of b name ≡ map_after_parts parts name (maps_of a name)
 parts_map NoPart name = refl
-parts_map {a = a} {b = b} (OnePart {m = mid} {part = part} {parts = parts} {added = added} {maps = maps} one more) name =
+parts_map {a = a} {b = b} (OnePart {m = mid} {part = part} {parts = parts} {maps = maps} added one more) name =
     parts_map more name ∙ ap (map_after_parts parts name) (part_map a mid part added one name)
 
 -- some first parts are done in these maps
@@ -87,7 +87,7 @@ pub record SomeDone (a : State) (parts : List Part) (m : Maps) : Type 0 where
 
 some_done : {a b : State} {parts : List Part} {maps : List Maps} → DoesParts a parts b maps → (m : Maps) → In m maps → SomeDone a parts m
 some_done NoPart m i = absurd i
-some_done {a = a} {b = b} (OnePart {m = mid} {part = part} {parts = parts} {added = added} {maps = maps} one more) m i = elim (In_cases added maps m i) [
+some_done {a = a} {b = b} (OnePart {m = mid} {part = part} {parts = parts} {maps = maps} added one more) m i = elim (In_cases added maps m i) [
   | inl k ↦ record { done = part ∷ []; later = parts; first = refl; is = λ name. ap (λ (f : Maps). f name) (part_added a mid part added one m k) ∙ part_map a mid part added one name }
   | inr k ↦
       let s = some_done more m k in record {

@@ -17,7 +17,7 @@ use Rattle.sled_model.specs.Maps.{Map, Maps, Merge, IsLeast, IsGreatest}
 use Rattle.sled_model.specs.Answer.{answer_of, map_after}
 use Rattle.sled_model.specs.State.{State, NamedTree, CallInFlight, maps_of, after_decision_on}
 use Rattle.sled_model.specs.Refusal.{MustRefuse, must_refuse, must_refuse_of, MayRefuse, TellsTurns, ToPoint, ToCall, cause_of, may_refuse_as, cause_of_walk}
-use Rattle.sled_model.specs.Transition.{Configuration, WholeDecides, WholeRefuses, kind_of}
+use Rattle.sled_model.specs.Transition.{Configuration, does_of, kind_of}
 use Rattle.sled_model.specs.Whole.{Pops, RemovesLeast, RemovesNone, RemovesOne}
 use Rattle.sled_model.specs.declared.outcome.Outcome.TheVariants as outcome
 use Rattle.sled_model.specs.declared.call.Call.TheVariants.{Remove}
@@ -102,8 +102,8 @@ pub record IsPop (reads is_end : Map → Option (Key × Key) → Type 0) (tree :
   pub which : (whole ≡ PopMin tree) ⊎ (whole ≡ PopMax tree)
   pub must : (s : State) → must_refuse s (ToCall whole) ≡ must_refuse_of s (tree ∷ [])
   pub cause : (s : State) (a b : Store) (e : Error) → cause_of_walk a b e → cause_of s a b (ToCall whole) e
-  pub decides : (old : Configuration) (reply : Reply) (new : State) (maps : List Maps) → Pops is_end old.state whole tree reply new maps → WholeDecides old whole reply new maps
-  pub refuses : (s : State) (a b : Store) (e : Error) (new : State) → MayRefuse s a b (ToCall whole) e → new ≡ s → WholeRefuses s a b whole e new []
+  pub decides : (old : Configuration) (reply : Reply) (new : State) (maps : List Maps) → Pops is_end old.state whole tree reply new maps → (does_of whole).decides old reply new maps
+  pub refuses : (s : State) (a b : Store) (e : Error) (new : State) → MayRefuse s a b (ToCall whole) e → new ≡ s → (does_of whole).refuses s a b e new []
 
 pub min_is : (tree : Tree) → IsPop (IsSuccessor Unbounded) IsLeast tree (PopMin tree)
 min_is tree = record {
@@ -138,7 +138,7 @@ module _ (tree : Tree) (whole : Whole) (which : (whole ≡ PopMin tree) ⊎ (who
   ]
 
   pop_decided : {P M : Type 0} (store : P → Store) (meant : M → Merge) (old : DbValue P M) (reply : Reply) (new : DbValue P M) (maps : List Maps)
-      → ((slots : ℕ → Option CallInFlight) (slots_given number : ℕ) → WholeDecides (configuration_of store meant old slots slots_given number) whole reply (state_of store meant new slots slots_given) maps)
+      → ((slots : ℕ → Option CallInFlight) (slots_given number : ℕ) → (does_of whole).decides (configuration_of store meant old slots slots_given number) reply (state_of store meant new slots slots_given) maps)
       → Conducts store maps None old new → WholeDecided store meant old whole reply new
   pop_decided store meant old reply new maps decides c = record {
     maps = maps;
@@ -149,7 +149,7 @@ module _ (tree : Tree) (whole : Whole) (which : (whole ≡ PopMin tree) ⊎ (who
   }
 
   pop_refused : {P M : Type 0} (store : P → Store) (meant : M → Merge) (old : DbValue P M) (e : Error) (new : DbValue P M)
-      → ((slots : ℕ → Option CallInFlight) (slots_given : ℕ) → WholeRefuses (state_of store meant old slots slots_given) (store old.pages) (store new.pages) whole e (state_of store meant new slots slots_given) [])
+      → ((slots : ℕ → Option CallInFlight) (slots_given : ℕ) → (does_of whole).refuses (state_of store meant old slots slots_given) (store old.pages) (store new.pages) e (state_of store meant new slots slots_given) [])
       → Conducts store [] (Some e) old new → (must_refuse (db_state store meant old) (ToCall whole) ≢ None → new ≡ old) → WholeRefused store meant old whole e new
   pop_refused store meant old e new refuses c tested = record {
     maps = [];

@@ -43,7 +43,7 @@ use Rattle.sled.specs.Flush.{RefusesFlush}
 use Rattle.sled.specs.Sound.{IsDb}
 use Rattle.sled.specs.theory.Transactions.{CommitsGroup, StopsCommit}
 use Rattle.sled.specs.Groups.{GroupDecided, IsQuietGroup}
-use Rattle.sled.specs.Transactions.{TakesIds, flushes_as, MakesWrites, Commits, Stops, ByTest, ByClosure, ByGroup, ByFlush, fails_as, Fails, ShowsLaw, ShowsAtLaw, RefusesInside, RefusesToShowLaw, RefusesToShowAtLaw, trees_of_list}
+use Rattle.sled.specs.Transactions.{TakesIds, RunsTo, runs_as, flushes_as, MakesWrites, Commits, Stops, ByTest, ByClosure, ByGroup, ByFlush, fails_as, Fails, ShowsLaw, ShowsAtLaw, RefusesInside, RefusesToShowLaw, RefusesToShowAtLaw, trees_of_list}
 use Rattle.sled.proofs.Batching.{tested_parts}
 use Rattle.sled.proofs.Changes.{parted}
 use Rattle.sled.proofs.Numbering.{state_taken, left_taken, leaves_taken}
@@ -116,6 +116,12 @@ module _ {P M : Type 0} (store : P → Store) (flush_number : P → ℕ) (meant 
 
     pub fails_know : (e : TransactionError E) (new : DbValue P M) → Fails store flush_number meant tests reaches batches_of has old e new → (h : InFlight) → IsKnown (snapshot_of_db store old) h → IsKnown (snapshot_of_db store new) h
     fails_know e new f h k = fails_know_as e new f.is h k
+
+    pub runs_know : (ended : Result (Commit A W) (TransactionError E)) (new : DbValue P M) → runs_as store meant tests reaches old ended new → (h : InFlight) → IsKnown (snapshot_of_db store old) h → IsKnown (snapshot_of_db store new) h
+    runs_know (Ok commit) new r h k = r.takes.leaves.others h k
+    runs_know (Err (Abort e)) new r h k = r.takes.leaves.others h k
+    runs_know (Err (Storage e)) new (inl (cause, same)) h k = subst (λ (d : DbValue P M). IsKnown (snapshot_of_db store d) h) (sym same) k
+    runs_know (Err (Storage e)) new (inr r) h k = r.takes.leaves.others h k
 
 -- ---- the tests of a list
 
@@ -295,29 +301,36 @@ module _ {P M : Type 0} (store : P → Store) (flush_number : P → ℕ) (meant 
   uncommitted (Err e) h = subst (λ b. StopsCommit store flush_number meant old b flushes e new) same (record { is = inr (record { made = made; group = group; quiet = quiet; asked = h.0; refused = h.1 }) })
 
 module _ {P M A E W : Type 0} (store : P → Store) (flush_number : P → ℕ) (meant : M → Merge) (tests : Error → Type 0) (reaches : Result (Commit A W) (TransactionError E) → Store → ℕ → Type 0) (batches_of : W → List (Tree × Writes)) (has : Bool) (old : DbValue P M) where
-  pub made_of : (commit : Commit A W) (run new : DbValue P M) (flushes : Bool) → flushes ≡ has && commit.flushes → reaches (Ok commit) (store run.pages) run.greatest_id → TakesIds store meant old run
+  -- the closure was run to this end
+  pub ran_of : (ended : Result (Commit A W) (TransactionError E)) (new : DbValue P M) → reaches ended (store new.pages) new.greatest_id → TakesIds store meant old new → runs_as store meant tests reaches old ended new
+  ran_of (Ok commit) new reached taken = record { runs = reached; takes = taken }
+  ran_of (Err (Abort e)) new reached taken = record { runs = reached; takes = taken }
+  ran_of (Err (Storage e)) new reached taken = inr (record { runs = reached; takes = taken })
+
+  pub made_of : (commit : Commit A W) (run new : DbValue P M) (flushes : Bool) → flushes ≡ has && commit.flushes → RunsTo store meant reaches old (Ok commit) run
       → CommitsGroup store flush_number meant run (batches_of commit.writes) flushes new → Commits store flush_number meant tests reaches batches_of has old commit.answer new
-  made_of commit run new flushes asked reached taken k = record {
+  made_of commit run new flushes asked ran k = record {
     commit = commit;
     answers = refl;
     run = run;
     made = k.made;
-    makes = record { runs = record { runs = reached; takes = taken }; group = k.group; quiet = k.quiet };
+    makes = record { runs = ran; group = k.group; quiet = k.quiet };
     flushes = subst (λ b. flushes_as store flush_number meant b k.made new) asked k.flushed;
   }
 
-  pub not_made_of : (commit : Commit A W) (run new : DbValue P M) (e : Error) (flushes : Bool) → flushes ≡ has && commit.flushes → reaches (Ok commit) (store run.pages) run.greatest_id → TakesIds store meant old run
+  pub not_made_of : (commit : Commit A W) (run new : DbValue P M) (e : Error) (flushes : Bool) → flushes ≡ has && commit.flushes → RunsTo store meant reaches old (Ok commit) run
       → StopsCommit store flush_number meant run (batches_of commit.writes) flushes e new → Fails store flush_number meant tests reaches batches_of has old (Storage e) new
-  not_made_of commit run new e flushes asked reached taken k = record {
+  not_made_of commit run new e flushes asked ran k = record {
     is = elim k.is [
-      | inl r ↦ ByGroup commit run (record { runs = reached; takes = taken }) r.0 r.1
-      | inr l ↦ ByFlush commit run l.made (record { runs = record { runs = reached; takes = taken }; group = l.group; quiet = l.quiet }) (sym asked ∙ l.asked) l.refused
+      | inl r ↦ ByGroup commit run ran r.0 r.1
+      | inr l ↦ ByFlush commit run l.made (record { runs = ran; group = l.group; quiet = l.quiet }) (sym asked ∙ l.asked) l.refused
     ];
   }
 
-  pub ended_of : (e : TransactionError E) (new : DbValue P M) → reaches (Err e) (store new.pages) new.greatest_id → TakesIds store meant old new → Fails store flush_number meant tests reaches batches_of has old e new
-  ended_of (Abort e) new reached taken = record { is = record { runs = reached; takes = taken } }
-  ended_of (Storage e) new reached taken = record { is = ByClosure (record { runs = reached; takes = taken }) }
+  pub ended_of : (e : TransactionError E) (new : DbValue P M) → runs_as store meant tests reaches old (Err e) new → Fails store flush_number meant tests reaches batches_of has old e new
+  ended_of (Abort e) new ran = record { is = ran }
+  ended_of (Storage e) new (inl (cause, same)) = record { is = ByTest cause same }
+  ended_of (Storage e) new (inr ran) = record { is = ByClosure ran }
 
 -- ---- a method knows the database by its fields
 

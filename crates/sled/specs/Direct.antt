@@ -11,7 +11,7 @@ use Rattle.sled_nodes.specs.declared.error.Error.TheVariants.{NoMemory}
 use Rattle.sled_model.specs.Maps.{Maps, Merge}
 use Rattle.sled_model.specs.Answer.{key_of}
 use Rattle.sled_model.specs.State.{CallInFlight, maps_of}
-use Rattle.sled_model.specs.Transition.{WholeDecides, WholeRefuses, Kind, Flushing, Telling, Changing, Grouping, InParts, Dropping, Listening, kind_of}
+use Rattle.sled_model.specs.Transition.{does_of, Kind, Flushing, Telling, Changing, Grouping, InParts, Dropping, Listening, kind_of}
 use Rattle.sled_model.specs.Whole.{DecidesPoint, RefusesPoint}
 use Rattle.sled_model.specs.Refusal.{ToPoint, ToCall, must_refuse, TellsTurns, turns_limit}
 use Rattle.sled_model.specs.declared.call.Call.{Call}
@@ -104,53 +104,74 @@ effect_of_whole InParts (outcome.Decided reply) old new = effects_until None old
 effect_of_whole InParts (outcome.Refused e) old new = effects_until (Some e) old new
 effect_of_whole kind o old new = ⊥
 
--- what a decided whole call may change of the database: its pages. One that removes or imports keys may change the queues too, one that
--- opens a tree the list of trees, and one that drops a tree that list and the operators. One that takes an id may change the greatest that
--- was given. One that learns of changes touches the queues alone
-abbrev pub changes_only : {P M : Type 0} → Whole → DbValue P M → DbValue P M → Type 0
-changes_only Flush old new = new ≡ record old { pages = new.pages }
-changes_only (OpenTree name) old new = new ≡ record old { pages = new.pages; trees = new.trees; trees_given = new.trees_given }
-changes_only (DropTree name) old new = new ≡ record old { pages = new.pages; trees = new.trees; operators = new.operators }
-changes_only GenerateId old new = new ≡ record old { pages = new.pages; greatest_id = new.greatest_id }
-changes_only (PopMin tree) old new = new ≡ record old { pages = new.pages; queues = new.queues }
-changes_only (PopMax tree) old new = new ≡ record old { pages = new.pages; queues = new.queues }
-changes_only (Clear tree) old new = new ≡ record old { pages = new.pages; queues = new.queues }
-changes_only (Group batches) old new = new ≡ record old { pages = new.pages; queues = new.queues }
-changes_only (Import collections) old new = new ≡ record old { pages = new.pages; queues = new.queues; trees = new.trees; trees_given = new.trees_given }
-changes_only (Watch tree prefix) old new = new ≡ record old { queues = new.queues }
-changes_only (Next subscriber) old new = new ≡ record old { queues = new.queues }
-changes_only (Unsubscribe subscriber) old new = new ≡ record old { queues = new.queues }
+-- what a whole call may change of the database, if it is decided and if it is refused
+pub record Alters (P M : Type 0) : Type 1 where
+  pub decided : DbValue P M → DbValue P M → Type 0
+  pub refused : DbValue P M → DbValue P M → Type 0
 
--- .. and one that is refused. A clear may have removed some keys, and an import keeps the parts that it did
+-- .. each of them: its pages. One that removes or imports keys may change the queues too, one that opens a tree the list of trees, and one
+-- that drops a tree that list and the operators. One that takes an id may change the greatest that was given. One that learns of changes
+-- touches the queues alone. Refused, a clear may have removed some keys, and an import keeps the parts that it did
+abbrev pub alters_of : {P M : Type 0} → Whole → Alters P M
+alters_of Flush = record {
+  decided = λ old new. new ≡ record old { pages = new.pages };
+  refused = λ old new. new ≡ record old { pages = new.pages };
+}
+alters_of (PopMin tree) = record {
+  decided = λ old new. new ≡ record old { pages = new.pages; queues = new.queues };
+  refused = λ old new. new ≡ record old { pages = new.pages; queues = new.queues };
+}
+alters_of (PopMax tree) = record {
+  decided = λ old new. new ≡ record old { pages = new.pages; queues = new.queues };
+  refused = λ old new. new ≡ record old { pages = new.pages; queues = new.queues };
+}
+alters_of (Clear tree) = record {
+  decided = λ old new. new ≡ record old { pages = new.pages; queues = new.queues };
+  refused = λ old new. new ≡ record old { pages = new.pages; queues = new.queues };
+}
+alters_of (Group batches) = record {
+  decided = λ old new. new ≡ record old { pages = new.pages; queues = new.queues };
+  refused = λ old new. new ≡ record old { pages = new.pages; queues = new.queues };
+}
+alters_of (OpenTree name) = record {
+  decided = λ old new. new ≡ record old { pages = new.pages; trees = new.trees; trees_given = new.trees_given };
+  refused = λ old new. new ≡ record old { pages = new.pages };
+}
+alters_of (DropTree name) = record {
+  decided = λ old new. new ≡ record old { pages = new.pages; trees = new.trees; operators = new.operators };
+  refused = λ old new. new ≡ record old { pages = new.pages };
+}
+alters_of GenerateId = record {
+  decided = λ old new. new ≡ record old { pages = new.pages; greatest_id = new.greatest_id };
+  refused = λ old new. new ≡ record old { pages = new.pages };
+}
+alters_of (Import collections) = record {
+  decided = λ old new. new ≡ record old { pages = new.pages; queues = new.queues; trees = new.trees; trees_given = new.trees_given };
+  refused = λ old new. new ≡ record old { pages = new.pages; queues = new.queues; trees = new.trees; trees_given = new.trees_given };
+}
+alters_of (Watch tree prefix) = record {
+  decided = λ old new. new ≡ record old { queues = new.queues };
+  refused = λ old new. new ≡ record old { pages = new.pages };
+}
+alters_of (Next subscriber) = record {
+  decided = λ old new. new ≡ record old { queues = new.queues };
+  refused = λ old new. new ≡ record old { pages = new.pages };
+}
+alters_of (Unsubscribe subscriber) = record {
+  decided = λ old new. new ≡ record old { queues = new.queues };
+  refused = λ old new. new ≡ record old { pages = new.pages };
+}
+
+abbrev pub changes_only : {P M : Type 0} → Whole → DbValue P M → DbValue P M → Type 0
+changes_only whole old new = (alters_of whole).decided old new
+
 abbrev pub changes_refused : {P M : Type 0} → Whole → DbValue P M → DbValue P M → Type 0
-changes_refused Flush old new = new ≡ record old { pages = new.pages }
-changes_refused (PopMin tree) old new = new ≡ record old { pages = new.pages; queues = new.queues }
-changes_refused (PopMax tree) old new = new ≡ record old { pages = new.pages; queues = new.queues }
-changes_refused (Clear tree) old new = new ≡ record old { pages = new.pages; queues = new.queues }
-changes_refused (OpenTree name) old new = new ≡ record old { pages = new.pages }
-changes_refused (DropTree name) old new = new ≡ record old { pages = new.pages }
-changes_refused GenerateId old new = new ≡ record old { pages = new.pages }
-changes_refused (Group batches) old new = new ≡ record old { pages = new.pages; queues = new.queues }
-changes_refused (Import collections) old new = new ≡ record old { pages = new.pages; queues = new.queues; trees = new.trees; trees_given = new.trees_given }
-changes_refused (Watch tree prefix) old new = new ≡ record old { pages = new.pages }
-changes_refused (Next subscriber) old new = new ≡ record old { pages = new.pages }
-changes_refused (Unsubscribe subscriber) old new = new ≡ record old { pages = new.pages }
+changes_refused whole old new = (alters_of whole).refused old new
 
 -- the tree that a decided whole call drops, if it drops one
 abbrev pub lost_of : Whole → Reply → Option Key
-lost_of Flush reply = None
-lost_of (PopMin tree) reply = None
-lost_of (PopMax tree) reply = None
-lost_of (Clear tree) reply = None
-lost_of (OpenTree name) reply = None
 lost_of (DropTree name) (Flag true) = Some name
-lost_of (DropTree name) reply = None
-lost_of GenerateId reply = None
-lost_of (Group batches) reply = None
-lost_of (Import collections) reply = None
-lost_of (Watch tree prefix) reply = None
-lost_of (Next subscriber) reply = None
-lost_of (Unsubscribe subscriber) reply = None
+lost_of whole reply = None
 
 -- a call as it begins
 abbrev pub begun_flight : Tree → Call → InFlight
@@ -184,7 +205,7 @@ module _ {P M : Type 0} (store : P → Store) (meant : M → Merge) where
   -- A whole call was decided, in whatever machine the database is
   pub record WholeDecided (old : DbValue P M) (whole : Whole) (reply : Reply) (new : DbValue P M) : Type 0 where
     pub maps : List Maps
-    pub decides : (slots : ℕ → Option CallInFlight) (slots_given number : ℕ) → WholeDecides (configuration_of store meant old slots slots_given number) whole reply (state_of store meant new slots slots_given) maps
+    pub decides : (slots : ℕ → Option CallInFlight) (slots_given number : ℕ) → (does_of whole).decides (configuration_of store meant old slots slots_given number) reply (state_of store meant new slots slots_given) maps
     pub acts : effect_of_whole (kind_of whole) (outcome.Decided reply) (store old.pages) (store new.pages)
     pub leaves : LeavesAll store maps (lost_of whole reply) old new
     pub same : changes_only whole old new
@@ -192,7 +213,7 @@ module _ {P M : Type 0} (store : P → Store) (meant : M → Merge) where
   -- .. or it was refused
   pub record WholeRefused (old : DbValue P M) (whole : Whole) (e : Error) (new : DbValue P M) : Type 0 where
     pub maps : List Maps
-    pub refuses : (slots : ℕ → Option CallInFlight) (slots_given : ℕ) → WholeRefuses (state_of store meant old slots slots_given) (store old.pages) (store new.pages) whole e (state_of store meant new slots slots_given) maps
+    pub refuses : (slots : ℕ → Option CallInFlight) (slots_given : ℕ) → (does_of whole).refuses (state_of store meant old slots slots_given) (store old.pages) (store new.pages) e (state_of store meant new slots slots_given) maps
     pub acts : effect_of_whole (kind_of whole) (outcome.Refused e) (store old.pages) (store new.pages)
     pub leaves : LeavesAll store maps None old new
     pub same : changes_refused whole old new

@@ -1,5 +1,5 @@
 -- The outcome of a transaction: a closure is run on trees, and then what it wrote is made as a group.
-use Rattle.std.specs.Prelude.{◌≡◌, ℕ, ◌≤◌, true, false, Bool, ◌&&◌, List, [], ◌∷◌, map, Option, Some, None, Result, Ok, Err, slice_get}
+use Rattle.std.specs.Prelude.{◌≡◌, ◌⊎◌, ℕ, ◌≤◌, true, false, Bool, ◌&&◌, List, [], ◌∷◌, map, Option, Some, None, Result, Ok, Err, slice_get}
 use Rattle.std.specs.List.{zip}
 use Rattle.std.specs.Option.{unwrap_or}
 use Rattle.std.specs.FinMap.Entries.{find}
@@ -49,17 +49,23 @@ abbrev pub flushes_as : {P M : Type 0} → (P → Store) → (P → ℕ) → (M 
 flushes_as store flush_number meant false old new = new ≡ old
 flushes_as store flush_number meant true old new = (number : ℕ) × FlushesDb store flush_number meant old number new
 
+-- the closure of a transaction was run to this end, with the ids of the database, and nothing is written so far
+pub record RunsTo {P M A E W : Type 0} (store : P → Store) (meant : M → Merge) (reaches : Result (Commit A W) (TransactionError E) → Store → ℕ → Type 0) (old : DbValue P M) (ended : Result (Commit A W) (TransactionError E)) (new : DbValue P M) : Type 0 where
+  pub runs : reaches ended (store new.pages) new.greatest_id
+  pub takes : TakesIds store meant old new
+
+-- .. or a test refused that, and nothing changed
+abbrev pub runs_as : {P M A E W : Type 0} → (P → Store) → (M → Merge) → (Error → Type 0) → (Result (Commit A W) (TransactionError E) → Store → ℕ → Type 0) → DbValue P M → Result (Commit A W) (TransactionError E) → DbValue P M → Type 0
+runs_as store meant tests reaches old (Ok commit) new = RunsTo store meant reaches old (Ok commit) new
+runs_as store meant tests reaches old (Err (Abort e)) new = RunsTo store meant reaches old (Err (Abort e)) new
+runs_as store meant tests reaches old (Err (Storage e)) new = (tests e × (new ≡ old)) ⊎ RunsTo store meant reaches old (Err (Storage e)) new
+
 -- How a transaction ends. Its parameters are the tests before it, the end to which the closure was run, and the batches that are made from
 -- what it wrote. And whether there are any trees: without trees a flush that is asked for is passed over
 module _ {P M A E W : Type 0} (store : P → Store) (flush_number : P → ℕ) (meant : M → Merge) (tests : Error → Type 0) (reaches : Result (Commit A W) (TransactionError E) → Store → ℕ → Type 0) (batches_of : W → List (Tree × Writes)) (has_trees : Bool) (old : DbValue P M) where
-  -- the closure was run to this end, and nothing is written so far
-  pub record RunsTo (ended : Result (Commit A W) (TransactionError E)) (new : DbValue P M) : Type 0 where
-    pub runs : reaches ended (store new.pages) new.greatest_id
-    pub takes : TakesIds store meant old new
-
   -- .. and what it wrote was made as a group, which does nothing if it brings no event
   pub record MakesWrites (commit : Commit A W) (run new : DbValue P M) : Type 0 where
-    pub runs : RunsTo (Ok commit) run
+    pub runs : RunsTo store meant reaches old (Ok commit) run
     pub group : GroupDecided store meant run (batches_of commit.writes) new
     pub quiet : IsQuietGroup store meant run (batches_of commit.writes) new
 
@@ -78,14 +84,14 @@ module _ {P M A E W : Type 0} (store : P → Store) (flush_number : P → ℕ) (
     ByTest : tests e → new ≡ old → Stops e new
     -- its closure is refused, or met as many conflicts as it may, or there is no memory for what an attempt at a list would write, and
     -- nothing is written
-    ByClosure : RunsTo (Err (Storage e)) new → Stops e new
+    ByClosure : RunsTo store meant reaches old (Err (Storage e)) new → Stops e new
     -- the group of what it wrote is refused; if it brings no event it did nothing
-    ByGroup : (commit : Commit A W) (run : DbValue P M) → RunsTo (Ok commit) run → GroupRefused store meant run (batches_of commit.writes) e new → IsQuietGroup store meant run (batches_of commit.writes) new → Stops e new
+    ByGroup : (commit : Commit A W) (run : DbValue P M) → RunsTo store meant reaches old (Ok commit) run → GroupRefused store meant run (batches_of commit.writes) e new → IsQuietGroup store meant run (batches_of commit.writes) new → Stops e new
     -- the flush is refused, and what it wrote stays
     ByFlush : (commit : Commit A W) (run made : DbValue P M) → MakesWrites commit run made → has_trees && commit.flushes ≡ true → RefusesFlush store meant made new e → Stops e new
 
   abbrev pub fails_as : TransactionError E → DbValue P M → Type 0
-  fails_as (Abort e) new = RunsTo (Err (Abort e)) new
+  fails_as (Abort e) new = RunsTo store meant reaches old (Err (Abort e)) new
   fails_as (Storage e) new = Stops e new
 
   -- The closure gave it up, and nothing is written; or it is refused
@@ -113,6 +119,10 @@ module _ {P M F R A E : Type 0} (store : P → Store) (flush_number : P → ℕ)
 
   abbrev pub batch_of : Writes → List (Tree × Writes)
   batch_of writes = (tree, writes) ∷ []
+
+  -- the closure of a transaction of the tree is run, and nothing is written
+  abbrev pub TransactionRuns : Result (Commit A Writes) (TransactionError E) → DbValue P M → Type 0
+  TransactionRuns ended new = runs_as store meant tests_tree (RunsOnTree store meant says result_of f old tree) old ended new
 
   -- a transaction of the tree is made, with this answer
   abbrev pub TransactionMade : A → DbValue P M → Type 0
@@ -164,6 +174,10 @@ module _ {P M F R A E : Type 0} (store : P → Store) (flush_number : P → ℕ)
   -- the tests of its trees, or there is no memory for the list of their roots
   abbrev pub tests_list : Error → Type 0
   tests_list e = RefusesList (must_refuse_of (db_state store meant old) trees) e
+
+  -- the closure of a transaction of the trees is run, and nothing is written
+  abbrev pub ListRuns : Result (Commit A (List Writes)) (TransactionError E) → DbValue P M → Type 0
+  ListRuns ended new = runs_as store meant tests_list (RunsOnList store meant says result_of f old trees) old ended new
 
   -- a transaction of the trees is made, with this answer: of each tree what was written at its position, in the order of the list
   abbrev pub ListMade : A → DbValue P M → Type 0

@@ -49,8 +49,8 @@ pub use tree_check::{findings, verify_integrity};
 pub use tree_pages::Stats;
 pub use tree_reads::{Iter, Keys, Reads, Values, law_bytes, law_prefix};
 pub use tree_transactions::{
-    ConflictableTransactionError, ConflictableTransactionResult, MOST_ATTEMPTS, TransactionAnswer,
-    TransactionError, TransactionResult, TransactionalTree, TransactionalTrees,
+    Commit, ConflictableTransactionError, ConflictableTransactionResult, MOST_ATTEMPTS, Overlays,
+    TransactionAnswer, TransactionError, TransactionResult, TransactionalTree, TransactionalTrees,
     UnabortableTransactionError, UnabortableTransactionResult, abort,
 };
 pub use whole::Side;

@@ -59,7 +59,7 @@ impl<P: Pages, M: MergeOperator> Db<P, M> {
     ghost use Rattle.sled.specs.theory.Transactions.{CommitsGroup, StopsCommit};
     ghost use Rattle.sled.specs.Flush.{RefusesFlush};
     ghost use Rattle.sled.specs.Written.{WritesOnTree, RefusesOnTree, WritesOnList, RefusesOnList, LeavesOrFlushes};
-    ghost use Rattle.sled.specs.Transactions.{TakesIds, flushes_as, CanTransact, TransactionMade, TransactionNotMade, CanTransactAll, ListMade, ListNotMade};
+    ghost use Rattle.sled.specs.Transactions.{TakesIds, flushes_as, CanTransact, TransactionRuns, TransactionMade, TransactionNotMade, CanTransactAll, ListRuns, ListMade, ListNotMade};
 
     // Runs a closure at the root of a tree, with the ids of this database. Nothing is written.
     fn run_on<A, E, R: TransactionAnswer<A, E>, F>(
@@ -171,6 +171,74 @@ impl<P: Pages, M: MergeOperator> Db<P, M> {
         self.flush_where(flushes)
     }
 
+    /// Runs a closure as `transaction` does, and hands back what it wrote instead of making it: so its caller can note the writes, or change
+    /// them, before it makes them as a batch (`apply_batch`), and flushes if the closure asked for that. No map changes. Ids that the closure
+    /// took stay taken, however it ends.
+    ///
+    /// Refused by the tests of the tree, as the closure is, and with `ReportableBug` after a million conflicts.
+    ///
+    /// ```
+    /// let ended: TransactionResult<Commit<(), Batch>, ()> = db.run_transaction(&tree, |weather| {
+    ///     weather.insert(b"ulm", b"21")?;
+    ///     Ok(())
+    /// });
+    /// if let Ok(commit) = ended {
+    ///     db.apply_batch(&tree, commit.writes)?; // Not before this the tree has the pair.
+    ///     if commit.flushes {
+    ///         let flushed = db.flush()?;
+    ///     }
+    /// }
+    /// ```
+    pub fn run_transaction<A, E, R: TransactionAnswer<A, E>, F>(
+        &mut self,
+        tree: &Tree,
+        f: F,
+    ) -> TransactionResult<Commit<A, Batch>, E>
+    where
+        F: Fn(&mut TransactionalTree<'_, P>) -> R,
+        requires { CanTransact P.store M.meant (F.pre f) self.old tree.now }
+        ensures { TransactionRuns P.store P.flush_number M.meant F.Fn R.result_of f self.old tree.now result self.new }
+    {
+        let root = match self.root_of(tree) {
+            Ok(root) => root,
+            Err(e) => return Err(TransactionError::Storage(e)),
+        };
+        self.run_on(root, f)
+    }
+
+    /// The same of a closure that `transaction_all` would run: what it wrote of each tree, by position.
+    ///
+    /// Refused with `Unsupported`, with a text of its own, if a tree is another database's, and else as `run_transaction` is, for want of
+    /// memory too.
+    ///
+    /// ```
+    /// let ended: TransactionResult<Commit<(), Overlays>, ()> = db.run_transaction_all(&[&ready, &done], |both| {
+    ///     both.insert(1, b"ulm", b"21")?;
+    ///     Ok(())
+    /// });
+    /// if let Ok(commit) = ended {
+    ///     let writes = commit.writes.into_batches(); // None of the first tree, and one of the second.
+    /// }
+    /// ```
+    pub fn run_transaction_all<A, E, R: TransactionAnswer<A, E>, F>(
+        &mut self,
+        trees: &[&Tree],
+        f: F,
+    ) -> TransactionResult<Commit<A, Overlays>, E>
+    where
+        F: Fn(&mut TransactionalTrees<'_, P>) -> R,
+        requires { CanTransactAll P.store M.meant (F.pre f) self.old (trees_of_list trees.now) }
+        ensures { ListRuns P.store P.flush_number M.meant F.Fn R.result_of f self.old (trees_of_list trees.now) result self.new }
+    {
+        let roots = match self.roots_of(trees) {
+            Ok(roots) => roots,
+            Err(e) => return Err(TransactionError::Storage(e)),
+        };
+        let ended = self.run_on_list(roots.as_slice(), f);
+        drop(roots);
+        ended
+    }
+
     // A transaction of a tree, as a result of its own type.
     fn transact_tree<A: Drop, E, R: TransactionAnswer<A, E>, F>(
         &mut self,
@@ -187,11 +255,7 @@ impl<P: Pages, M: MergeOperator> Db<P, M> {
         ensures leaves { LeavesOrFlushes P.store M.meant self.old self.new }
     {
         self.audit();
-        let root = match self.root_of(tree) {
-            Ok(root) => root,
-            Err(e) => return Err(TransactionError::Storage(e)),
-        };
-        match self.run_on(root, f) {
+        match self.run_transaction(tree, f) {
             Ok(
                 Commit {
                     answer,
@@ -264,13 +328,7 @@ impl<P: Pages, M: MergeOperator> Db<P, M> {
         ensures leaves { LeavesOrFlushes P.store M.meant self.old self.new }
     {
         self.audit();
-        let roots = match self.roots_of(trees) {
-            Ok(roots) => roots,
-            Err(e) => return Err(TransactionError::Storage(e)),
-        };
-        let ended = self.run_on_list(roots.as_slice(), f);
-        drop(roots);
-        match ended {
+        match self.run_transaction_all(trees, f) {
             Ok(
                 Commit {
                     answer,

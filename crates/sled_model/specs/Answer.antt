@@ -38,10 +38,6 @@ decision_of_swap value old new =
     then (record { effect = effect_of_write new; reply = Swapped (Ok tt) })
     else (record { effect = effect.Nothing; reply = Swapped (Err (record { current = value; proposed = new })) })
 
--- this value is written, or none is left, and the reply has it
-abbrev pub decision_of_write : Option Key → Decision
-decision_of_write new = record { effect = effect_of_write new; reply = Value new }
-
 -- What becomes of the value at the call's key, if it has one, and the reply, by the merge operator of the tree: a merge writes what the
 -- operator makes of the key's value and the bytes. Without an operator, if it must be refused before, it would leave no value
 abbrev pub decision_of : Option Merge → Call → Option Key → Decision
@@ -49,8 +45,8 @@ decision_of merge (Get k) value = record { effect = effect.Nothing; reply = Valu
 decision_of merge (Insert k v) value = record { effect = if option_eq bytes_eq value (Some v) then effect.Nothing else (effect.Set v); reply = Value value }
 decision_of merge (Remove k) value = record { effect = if is_some value then effect.Remove else effect.Nothing; reply = Value value }
 decision_of merge (CompareAndSwap k old new) value = decision_of_swap value old new
-decision_of None (call.Merge k bytes) value = decision_of_write None
-decision_of (Some merge) (call.Merge k bytes) value = decision_of_write (merge k value bytes)
+decision_of None (call.Merge k bytes) value = record { effect = effect.Remove; reply = Value None }
+decision_of (Some merge) (call.Merge k bytes) value = record { effect = effect_of_write (merge k value bytes); reply = Value (merge k value bytes) }
 decision_of merge (Scan lo hi back) value = record { effect = effect.Nothing; reply = End }
 
 -- the reply of a swap that finds another value than it expects

@@ -10,7 +10,7 @@ use Rattle.sled_model.specs.Maps.{Maps}
 use Rattle.sled_model.specs.Answer.{answer_of}
 use Rattle.sled_model.specs.Collections.{Content, are_trees}
 use Rattle.sled_model.specs.State.{State, NamedTree, maps_of, after_decision_on}
-use Rattle.sled_model.specs.Refusal.{MustRefuse, ToPoint, ToCall, must_refuse_of, tells, cause_of_import, may_refuse_as, MayRefuse}
+use Rattle.sled_model.specs.Refusal.{MustRefuse, ToPoint, ToCall, must_refuse_of, tells, MayRefuse}
 use Rattle.sled_model.specs.Whole.{number_opened, state_opened, maps_if}
 use Rattle.sled_model.specs.declared.call.Call.TheVariants.{Insert}
 use Rattle.sled_model.specs.declared.call.Whole.TheVariants.{OpenTree}
@@ -43,18 +43,15 @@ pub record PutsPair (old : State) (name key value : Key) (new : State) (maps : L
   pub is : new ≡ after_decision_on old name named (answer_of named.merge (Insert key value) named.map)
   pub added : maps ≡ maps_of new ∷ []
 
+-- one part is done, and adds these maps
 abbrev pub does_part_as : State → Part → State → List Maps → Type 0
 does_part_as old (OpensName name) new maps = (new ≡ state_opened (old.trees name) old name) × (maps ≡ maps_if (is_none (old.trees name)) new)
 does_part_as old (Puts name key value) new maps = PutsPair old name key value new maps
 
--- one part is done, and adds these maps
-pub record DoesPart (old : State) (part : Part) (new : State) (maps : List Maps) : Type 0 where
-  pub is : does_part_as old part new maps
-
 -- Parts are done one after the other, and these are the maps that each adds, in order
 pub data DoesParts : State → List Part → State → List Maps → Type 0 where
   NoPart : {s : State} → DoesParts s [] s []
-  OnePart : {a m b : State} {part : Part} {parts : List Part} {added maps : List Maps} → DoesPart a part m added → DoesParts m parts b maps → DoesParts a (part ∷ parts) b (added ++ maps)
+  OnePart : {a m b : State} {part : Part} {parts : List Part} {maps : List Maps} (added : List Maps) → does_part_as a part m added → DoesParts m parts b maps → DoesParts a (part ∷ parts) b (added ++ maps)
 
 -- an import of these collections, each of the type `tree`, does all its parts
 pub record Imports (old : State) (all : List Content) (new : State) (maps : List Maps) : Type 0 where
@@ -98,8 +95,3 @@ pub record StopsAtPart (old : State) (a b : Store) (all : List Content) (stop : 
   pub all_parts : parts_of all ≡ stop.done ++ stop.next ∷ stop.later
   pub does : DoesParts old stop.done new maps
   pub refuses : refuses_part new a b stop.next e
-
--- An import is refused before its first part, if the database is closed or some collection is of another type, and has done nothing; or it
--- has done its first parts
-pub record StopsImporting (old : State) (a b : Store) (all : List Content) (e : Error) (new : State) (maps : List Maps) : Type 0 where
-  pub is : (may_refuse_as (must_refuse_of old []) (cause_of_import all) e × (new ≡ old) × (maps ≡ [])) ⊎ ((stop : Stop) × StopsAtPart old a b all stop e new maps)

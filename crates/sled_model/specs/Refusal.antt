@@ -30,25 +30,6 @@ pub data Asked : Type 0 where
 abbrev pub trees_of_batches : List (Tree × Writes) → List Tree
 trees_of_batches batches = map (λ b. b.0) batches
 
--- the trees that it is asked of
-abbrev pub trees_asked : Asked → List Tree
-trees_asked (ToBegin tree call) = tree ∷ []
-trees_asked (ToStep flying) = flying.tree ∷ []
-trees_asked (ToPoint tree call) = tree ∷ []
-trees_asked (ToSetOperator tree) = tree ∷ []
-trees_asked (ToCall Flush) = []
-trees_asked (ToCall (PopMin tree)) = tree ∷ []
-trees_asked (ToCall (PopMax tree)) = tree ∷ []
-trees_asked (ToCall (Clear tree)) = tree ∷ []
-trees_asked (ToCall (Group batches)) = trees_of_batches batches.items
-trees_asked (ToCall (OpenTree name)) = []
-trees_asked (ToCall (DropTree name)) = []
-trees_asked (ToCall GenerateId) = []
-trees_asked (ToCall (Import collections)) = []
-trees_asked (ToCall (Watch tree prefix)) = tree ∷ []
-trees_asked (ToCall (Next subscriber)) = []
-trees_asked (ToCall (Unsubscribe subscriber)) = []
-
 -- why a call must be refused: the database is closed, the tree is another database's, it was dropped, or it has no operator
 pub data MustRefuse : Type 0 where
   IsClosed : MustRefuse
@@ -97,22 +78,8 @@ abbrev pub operator_test : State → Asked → Option MustRefuse
 operator_test s (ToBegin tree call) = if needs_operator call && not (has_operator (s.trees tree.name)) then (Some HasNoOperator) else None
 operator_test s (ToStep f) = if needs_operator f.call && not (has_operator (s.trees f.tree.name)) then (Some HasNoOperator) else None
 operator_test s (ToPoint tree call) = if needs_operator call && not (has_operator (s.trees tree.name)) then (Some HasNoOperator) else None
-operator_test s (ToCall Flush) = None
-operator_test s (ToCall (PopMin tree)) = None
-operator_test s (ToCall (PopMax tree)) = None
-operator_test s (ToCall (Clear tree)) = None
-operator_test s (ToCall (Group batches)) = None
-operator_test s (ToCall (OpenTree name)) = None
-operator_test s (ToCall (DropTree name)) = None
-operator_test s (ToCall GenerateId) = None
-operator_test s (ToCall (Import collections)) = None
-operator_test s (ToCall (Watch tree prefix)) = None
-operator_test s (ToCall (Next subscriber)) = None
-operator_test s (ToCall (Unsubscribe subscriber)) = None
+operator_test s (ToCall whole) = None
 operator_test s (ToSetOperator tree) = None
-
-abbrev pub must_refuse : State → Asked → Option MustRefuse
-must_refuse s asked = first_of (must_refuse_of s (trees_asked asked)) (operator_test s asked)
 
 -- the error of this cause. A tree's name may want memory
 abbrev pub tells : MustRefuse → Error → Type 0
@@ -184,27 +151,52 @@ cause_of_opening s a b name (Io fault) = (s.trees name ≡ None) × (a.faults < 
 cause_of_opening s a b name (Unsupported text) = (text.now ≡ NUMBERS_USED_UP.now) × (s.trees name ≡ None) × (s.trees_given ≡ 18446744073709551615)
 cause_of_opening s a b name e = ⊥
 
+-- why a flush is refused: there is no memory, or the store counted a fault
+abbrev pub cause_of_flush : Store → Store → Error → Type 0
+cause_of_flush a b NoMemory = Unit {0}
+cause_of_flush a b (Io fault) = a.faults < b.faults
+cause_of_flush a b e = ⊥
+
+-- what a whole call asks for: the trees that it is asked of, and why it is refused if no test of the database and of these refuses it.
+-- a is the store before, b the store after
+pub record Asks : Type 1 where
+  pub trees : List Tree
+  pub cause : State → Store → Store → Error → Type 0
+
+-- .. each of them. `Next` and `Unsubscribe` are never refused
+abbrev pub asks_of : Whole → Asks
+asks_of Flush = record { trees = []; cause = λ s a b e. cause_of_flush a b e }
+asks_of (PopMin tree) = record { trees = tree ∷ []; cause = λ s a b e. cause_of_walk a b e }
+asks_of (PopMax tree) = record { trees = tree ∷ []; cause = λ s a b e. cause_of_walk a b e }
+asks_of (Clear tree) = record { trees = tree ∷ []; cause = λ s a b e. cause_of_walk a b e }
+asks_of (Group batches) = record { trees = trees_of_batches batches.items; cause = λ s a b e. cause_of_walk a b e }
+asks_of (OpenTree name) = record { trees = []; cause = λ s a b e. cause_of_opening s a b name e }
+asks_of (DropTree name) = record { trees = []; cause = λ s a b e. cause_of_drop s a b name e }
+asks_of GenerateId = record { trees = []; cause = λ s a b e. cause_of_id s a b e }
+asks_of (Import collections) = record { trees = []; cause = λ s a b e. cause_of_import (contents_of collections.items) e }
+asks_of (Watch tree prefix) = record { trees = tree ∷ []; cause = λ s a b e. cause_of_numbering s.subscribers_given e }
+asks_of (Next subscriber) = record { trees = []; cause = λ s a b e. ⊥ }
+asks_of (Unsubscribe subscriber) = record { trees = []; cause = λ s a b e. ⊥ }
+
+-- the trees that it is asked of
+abbrev pub trees_asked : Asked → List Tree
+trees_asked (ToBegin tree call) = tree ∷ []
+trees_asked (ToStep flying) = flying.tree ∷ []
+trees_asked (ToPoint tree call) = tree ∷ []
+trees_asked (ToCall whole) = (asks_of whole).trees
+trees_asked (ToSetOperator tree) = tree ∷ []
+
+abbrev pub must_refuse : State → Asked → Option MustRefuse
+must_refuse s asked = first_of (must_refuse_of s (trees_asked asked)) (operator_test s asked)
+
 -- The causes of a refusal that is none of those tests: slots, trees and subscribers are numbered up to the greatest u64. The call has
--- no turns left; the store counted a fault, or some page is not readable; for a flush and a merge operator memory may be wanted. `Next` and
--- `Unsubscribe` are never refused. a is the store before, b the store after
+-- no turns left; the store counted a fault, or some page is not readable; for a flush and a merge operator memory may be wanted. a is the
+-- store before, b the store after
 abbrev pub cause_of : State → Store → Store → Asked → Error → Type 0
 cause_of s a b (ToBegin tree call) e = cause_of_numbering s.slots_given e
 cause_of s a b (ToStep f) e = cause_of_step s a b f e
 cause_of s a b (ToPoint tree call) e = cause_of_walk a b e
-cause_of s a b (ToCall Flush) NoMemory = Unit {0}
-cause_of s a b (ToCall Flush) (Io fault) = a.faults < b.faults
-cause_of s a b (ToCall Flush) e = ⊥
-cause_of s a b (ToCall (PopMin tree)) e = cause_of_walk a b e
-cause_of s a b (ToCall (PopMax tree)) e = cause_of_walk a b e
-cause_of s a b (ToCall (Clear tree)) e = cause_of_walk a b e
-cause_of s a b (ToCall (Group batches)) e = cause_of_walk a b e
-cause_of s a b (ToCall (OpenTree name)) e = cause_of_opening s a b name e
-cause_of s a b (ToCall (DropTree name)) e = cause_of_drop s a b name e
-cause_of s a b (ToCall GenerateId) e = cause_of_id s a b e
-cause_of s a b (ToCall (Import collections)) e = cause_of_import (contents_of collections.items) e
-cause_of s a b (ToCall (Watch tree prefix)) e = cause_of_numbering s.subscribers_given e
-cause_of s a b (ToCall (Next subscriber)) e = ⊥
-cause_of s a b (ToCall (Unsubscribe subscriber)) e = ⊥
+cause_of s a b (ToCall whole) e = (asks_of whole).cause s a b e
 cause_of s a b (ToSetOperator tree) NoMemory = Unit {0}
 cause_of s a b (ToSetOperator tree) e = ⊥
 

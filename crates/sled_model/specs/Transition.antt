@@ -9,13 +9,13 @@ use Rattle.sled_model.specs.Maps.{Maps, IsLeast, IsGreatest}
 use Rattle.sled_model.specs.Answer.{answer_of}
 use Rattle.sled_model.specs.State.{State, NamedTree, CallInFlight, maps_of, range_of, after_decision_on}
 use Rattle.sled_model.specs.Scan.{ReadsPart, is_read}
-use Rattle.sled_model.specs.Refusal.{ToBegin, ToStep, ToCall, must_refuse, MayRefuse, TellsTurns, turns_limit}
+use Rattle.sled_model.specs.Refusal.{ToBegin, ToStep, ToCall, must_refuse, must_refuse_of, may_refuse_as, cause_of_import, MayRefuse, TellsTurns, turns_limit}
 use Rattle.sled_model.specs.declared.call.Call.{Call}
 use Rattle.sled_model.specs.declared.call.Whole.{Whole}
 use Rattle.sled_model.specs.declared.call.Whole.TheVariants.{Flush, PopMin, PopMax, Clear, Group, OpenTree, DropTree, GenerateId, Import, Watch, Next, Unsubscribe}
 use Rattle.sled_model.specs.Whole.{Pops, Clears, StopsClearing, OpensTree, DropsTreeOf, GeneratesId, Watches, TakesNext}
 use Rattle.sled_model.specs.Collections.{contents_of}
-use Rattle.sled_model.specs.Imports.{Imports, StopsImporting}
+use Rattle.sled_model.specs.Imports.{Imports, Stop, StopsAtPart}
 use Rattle.sled_model.specs.Groups.{DecidesGroup, StopsGroup}
 use Rattle.sled_model.specs.declared.tree.Tree.{Tree}
 use Rattle.sled_model.specs.declared.reply.Reply.{Reply}
@@ -102,55 +102,85 @@ pub data Kind : Type 0 where
   Dropping : Kind
   Listening : Kind
 
-abbrev pub kind_of : Whole → Kind
-kind_of Flush = Flushing
-kind_of (PopMin tree) = Changing
-kind_of (PopMax tree) = Changing
-kind_of (Clear tree) = InParts
-kind_of (Group batches) = Grouping
-kind_of (OpenTree name) = Changing
-kind_of (DropTree name) = Dropping
-kind_of GenerateId = Telling
-kind_of (Import collections) = InParts
-kind_of (Watch tree prefix) = Listening
-kind_of (Next subscriber) = Listening
-kind_of (Unsubscribe subscriber) = Listening
-
--- A whole call is decided. A flush answers the store's number. A closed database too returns what is next for a subscriber, and drops a
--- queue, with the events that waited there
-abbrev pub WholeDecides : Configuration → Whole → Reply → State → List Maps → Type 0
-WholeDecides old Flush reply new maps = (must_refuse old.state (ToCall Flush) ≡ None) × (reply ≡ Number old.flush_number) × (new ≡ old.state) × (maps ≡ [])
-WholeDecides old (PopMin tree) reply new maps = Pops IsLeast old.state (PopMin tree) tree reply new maps
-WholeDecides old (PopMax tree) reply new maps = Pops IsGreatest old.state (PopMax tree) tree reply new maps
-WholeDecides old (Clear tree) reply new maps = (reply ≡ Done) × Clears old.state tree new maps
-WholeDecides old (Group batches) reply new maps = DecidesGroup old.state batches.items reply new maps
-WholeDecides old (OpenTree name) reply new maps = OpensTree old.state name reply new maps
-WholeDecides old (DropTree name) reply new maps = DropsTreeOf old.state name reply new maps
-WholeDecides old GenerateId reply new maps = GeneratesId old.state reply new maps
-WholeDecides old (Import collections) reply new maps = (reply ≡ Done) × Imports old.state (contents_of collections.items) new maps
-WholeDecides old (Watch tree prefix) reply new maps = (number : ℕ) × (reply ≡ told.Subscriber number) × Watches old.state tree prefix number new × (maps ≡ [])
-WholeDecides old (Next subscriber) reply new maps = (next : Option event.Next) × (reply ≡ told.Next next) × TakesNext old.state subscriber next new × (maps ≡ [])
-WholeDecides old (Unsubscribe subscriber) reply new maps = (reply ≡ Done) × (new ≡ record old.state { queues = put_at old.state.queues subscriber None }) × (maps ≡ [])
-
 -- a whole call is refused for a cause, and nothing changes
 abbrev pub RefusesAtOnce : State → Store → Store → Whole → Error → State → List Maps → Type 0
 RefusesAtOnce old a b whole e new maps = MayRefuse old a b (ToCall whole) e × (new ≡ old) × (maps ≡ [])
 
--- A whole call is refused, and nothing changes, but for the parts that a call in parts has done, and that a group refused midway closes
--- the database. `Next` and `Unsubscribe` are never refused
-abbrev pub WholeRefuses : State → Store → Store → Whole → Error → State → List Maps → Type 0
-WholeRefuses old a b Flush e new maps = RefusesAtOnce old a b Flush e new maps
-WholeRefuses old a b (PopMin tree) e new maps = RefusesAtOnce old a b (PopMin tree) e new maps
-WholeRefuses old a b (PopMax tree) e new maps = RefusesAtOnce old a b (PopMax tree) e new maps
-WholeRefuses old a b (Clear tree) e new maps = StopsClearing old a b tree e new maps
-WholeRefuses old a b (Group batches) e new maps = StopsGroup old a b batches.items e new maps
-WholeRefuses old a b (OpenTree name) e new maps = RefusesAtOnce old a b (OpenTree name) e new maps
-WholeRefuses old a b (DropTree name) e new maps = RefusesAtOnce old a b (DropTree name) e new maps
-WholeRefuses old a b GenerateId e new maps = RefusesAtOnce old a b GenerateId e new maps
-WholeRefuses old a b (Import collections) e new maps = StopsImporting old a b (contents_of collections.items) e new maps
-WholeRefuses old a b (Watch tree prefix) e new maps = RefusesAtOnce old a b (Watch tree prefix) e new maps
-WholeRefuses old a b (Next subscriber) e new maps = ⊥
-WholeRefuses old a b (Unsubscribe subscriber) e new maps = ⊥
+-- what a whole call does: what it is about, what is so when it is decided with a reply, and when it is refused with a cause
+pub record Does : Type 1 where
+  pub kind : Kind
+  pub decides : Configuration → Reply → State → List Maps → Type 0
+  pub refuses : State → Store → Store → Error → State → List Maps → Type 0
+
+-- .. each of them. A flush answers the store's number. A closed database too returns what is next for a subscriber, and drops a queue, with
+-- the events that waited there; these two are never refused. If a call is refused nothing changes, but for the parts that a call in parts
+-- has done, and that a group refused midway closes the database. An import is refused before its first part, if the database is closed or
+-- some collection is of another type, or at one of its parts
+abbrev pub does_of : Whole → Does
+does_of Flush = record {
+  kind = Flushing;
+  decides = λ old reply new maps. (must_refuse old.state (ToCall Flush) ≡ None) × (reply ≡ Number old.flush_number) × (new ≡ old.state) × (maps ≡ []);
+  refuses = λ old a b e new maps. RefusesAtOnce old a b Flush e new maps;
+}
+does_of (PopMin tree) = record {
+  kind = Changing;
+  decides = λ old reply new maps. Pops IsLeast old.state (PopMin tree) tree reply new maps;
+  refuses = λ old a b e new maps. RefusesAtOnce old a b (PopMin tree) e new maps;
+}
+does_of (PopMax tree) = record {
+  kind = Changing;
+  decides = λ old reply new maps. Pops IsGreatest old.state (PopMax tree) tree reply new maps;
+  refuses = λ old a b e new maps. RefusesAtOnce old a b (PopMax tree) e new maps;
+}
+does_of (Clear tree) = record {
+  kind = InParts;
+  decides = λ old reply new maps. (reply ≡ Done) × Clears old.state tree new maps;
+  refuses = λ old a b e new maps. StopsClearing old a b tree e new maps;
+}
+does_of (Group batches) = record {
+  kind = Grouping;
+  decides = λ old reply new maps. DecidesGroup old.state batches.items reply new maps;
+  refuses = λ old a b e new maps. StopsGroup old a b batches.items e new maps;
+}
+does_of (OpenTree name) = record {
+  kind = Changing;
+  decides = λ old reply new maps. OpensTree old.state name reply new maps;
+  refuses = λ old a b e new maps. RefusesAtOnce old a b (OpenTree name) e new maps;
+}
+does_of (DropTree name) = record {
+  kind = Dropping;
+  decides = λ old reply new maps. DropsTreeOf old.state name reply new maps;
+  refuses = λ old a b e new maps. RefusesAtOnce old a b (DropTree name) e new maps;
+}
+does_of GenerateId = record {
+  kind = Telling;
+  decides = λ old reply new maps. GeneratesId old.state reply new maps;
+  refuses = λ old a b e new maps. RefusesAtOnce old a b GenerateId e new maps;
+}
+does_of (Import collections) = record {
+  kind = InParts;
+  decides = λ old reply new maps. (reply ≡ Done) × Imports old.state (contents_of collections.items) new maps;
+  refuses = λ old a b e new maps. (may_refuse_as (must_refuse_of old []) (cause_of_import (contents_of collections.items)) e × (new ≡ old) × (maps ≡ []))
+      ⊎ ((stop : Stop) × StopsAtPart old a b (contents_of collections.items) stop e new maps);
+}
+does_of (Watch tree prefix) = record {
+  kind = Listening;
+  decides = λ old reply new maps. (number : ℕ) × (reply ≡ told.Subscriber number) × Watches old.state tree prefix number new × (maps ≡ []);
+  refuses = λ old a b e new maps. RefusesAtOnce old a b (Watch tree prefix) e new maps;
+}
+does_of (Next subscriber) = record {
+  kind = Listening;
+  decides = λ old reply new maps. (next : Option event.Next) × (reply ≡ told.Next next) × TakesNext old.state subscriber next new × (maps ≡ []);
+  refuses = λ old a b e new maps. ⊥;
+}
+does_of (Unsubscribe subscriber) = record {
+  kind = Listening;
+  decides = λ old reply new maps. (reply ≡ Done) × (new ≡ record old.state { queues = put_at old.state.queues subscriber None }) × (maps ≡ []);
+  refuses = λ old a b e new maps. ⊥;
+}
+
+abbrev pub kind_of : Whole → Kind
+kind_of whole = (does_of whole).kind
 
 -- One step: what was done, how it came out, the state after it, and the maps that it added: those after each call that
 -- it decided, in order. Nothing changes if no call has the slot. What no case names stays as it was, and no other case exists
@@ -164,8 +194,8 @@ transition_as old (step.Step slot) (Decided reply) new maps = Decide old.state s
 transition_as old (step.Step slot) (Refused e) new maps = RefuseStep old.state old.store new.store slot e new.state × (maps ≡ [])
 transition_as old (step.Abandon slot) NoSuchSlot new maps = ((old.state.slots slot ≡ None) × (new.state ≡ old.state)) × (maps ≡ [])
 transition_as old (step.Abandon slot) Abandoned new maps = Abandon old.state slot new.state × (maps ≡ [])
-transition_as old (step.Whole whole) (Decided reply) new maps = WholeDecides old whole reply new.state maps
-transition_as old (step.Whole whole) (Refused e) new maps = WholeRefuses old.state old.store new.store whole e new.state maps
+transition_as old (step.Whole whole) (Decided reply) new maps = (does_of whole).decides old reply new.state maps
+transition_as old (step.Whole whole) (Refused e) new maps = (does_of whole).refuses old.state old.store new.store e new.state maps
 transition_as old s o new maps = ⊥
 
 pub record Transition (old : Configuration) (s : Step) (o : Outcome) (new : Configuration) (maps : List Maps) : Type 0 where

@@ -15,7 +15,7 @@ use Rattle.sled_model.specs.Collections.{contents_of}
 use Rattle.sled_model.specs.declared.call.Call.{Call}
 use Rattle.sled_model.specs.declared.call.Call.TheVariants.{Remove}
 use Rattle.sled_model.specs.declared.call.Whole.{Whole}
-use Rattle.sled_model.specs.declared.call.Whole.TheVariants.{Flush, PopMin, PopMax, Clear, Group, OpenTree, DropTree, GenerateId, Import, Watch, Next, Unsubscribe}
+use Rattle.sled_model.specs.declared.call.Whole.TheVariants.{Clear, Group, OpenTree, DropTree, GenerateId, Import, Watch}
 use Rattle.sled_model.specs.declared.event.Next as event
 use Rattle.sled_model.specs.declared.tree.Tree.{Tree}
 use Rattle.sled_model.specs.declared.reply.Reply.{Reply}
@@ -144,16 +144,7 @@ is_same_whole (Import a) (Import b) = contents_of a.items ≡ contents_of b.item
 is_same_whole (Import a) b = ⊥
 is_same_whole (Group a) (Group b) = a.items ≡ b.items
 is_same_whole (Group a) b = ⊥
-is_same_whole Flush b = Flush ≡ b
-is_same_whole (PopMin tree) b = PopMin tree ≡ b
-is_same_whole (PopMax tree) b = PopMax tree ≡ b
-is_same_whole (Clear tree) b = Clear tree ≡ b
-is_same_whole (OpenTree name) b = OpenTree name ≡ b
-is_same_whole (DropTree name) b = DropTree name ≡ b
-is_same_whole GenerateId b = GenerateId ≡ b
-is_same_whole (Watch tree prefix) b = Watch tree prefix ≡ b
-is_same_whole (Next subscriber) b = Next subscriber ≡ b
-is_same_whole (Unsubscribe subscriber) b = Unsubscribe subscriber ≡ b
+is_same_whole a b = a ≡ b
 
 pub record IsSameWhole (a b : Whole) : Type 0 where
   pub is : is_same_whole a b

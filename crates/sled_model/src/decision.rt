@@ -2,8 +2,10 @@
 ghost use Rattle.std.specs.Prelude.{◌≡◌, IfOk, IfErr, Some};
 ghost use Rattle.std.specs.Option.{option_map, option_copied};
 ghost use Rattle.sled_nodes.specs.declared.error.Error.TheVariants.{NoMemory};
-ghost use Rattle.sled_model.specs.Answer.{ReadDecides, decision_of, decision_of_swap, decision_of_write, reply_of_swap};
+ghost use Rattle.sled_model.specs.Answer.{ReadDecides, decision_of, decision_of_swap, reply_of_swap};
 ghost use Rattle.sled_model.specs.declared.call.Call.TheVariants.{Merge};
+ghost use Rattle.sled_model.specs.declared.decision.Effect.TheVariants as effect;
+ghost use Rattle.sled_model.specs.declared.reply.Reply.TheVariants as told;
 
 use crate::{Call, CompareAndSwapError, MergeOperator, Reply};
 use sled_nodes::{Error, IVec, Result, clone_value};
@@ -191,7 +193,7 @@ fn bytes_of(value: &Option<IVec>) -> Option<&[u8]>
 
 // A value is written, and the reply has it.
 fn write(alloc: Global, value: &[u8]) -> Result<Decision>
-    ensures ok { IfOk result (λ decision. decision ≡ decision_of_write (Some value.now)) }
+    ensures ok { IfOk result (λ decision. decision ≡ record { effect = effect.Set value.now; reply = told.Value (Some value.now) }) }
     ensures err { IfErr result (λ e. e ≡ NoMemory) }
 {
     let value = IVec::from_slice(alloc, value)?;

@@ -50,7 +50,7 @@ part_done a (Puts name key value) b maps d = ap (λ (s : State). s.is_open) d.is
 
 parts_done : {a b : State} {parts : List Part} {maps : List Maps} → DoesParts a parts b maps → Stays a b
 parts_done NoPart = refl
-parts_done (OnePart {a = a} {m = m} {part = part} {added = added} one more) = parts_done more ∙ part_done a part m added one.is
+parts_done (OnePart {a = a} {m = m} {part = part} added one more) = parts_done more ∙ part_done a part m added one
 
 stopped : (old : State) (a b : Store) (all : List Content) (e : Error) (new : State) (maps : List Maps)
     → (may_refuse_as (must_refuse_of old []) (cause_of_import all) e × (new ≡ old) × (maps ≡ [])) ⊎ ((stop : Stop) × StopsAtPart old a b all stop e new maps) → Stays old new
@@ -94,7 +94,7 @@ whole_done a (Group batches) (outcome.Refused e) b maps t h = group_stops a.stat
 whole_done a (OpenTree name) (outcome.Refused e) b maps t h = same a.state b.state t.1
 whole_done a (DropTree name) (outcome.Refused e) b maps t h = same a.state b.state t.1
 whole_done a GenerateId (outcome.Refused e) b maps t h = same a.state b.state t.1
-whole_done a (Import collections) (outcome.Refused e) b maps t h = stopped a.state a.store b.store _ e b.state maps t.is
+whole_done a (Import collections) (outcome.Refused e) b maps t h = stopped a.state a.store b.store _ e b.state maps t
 whole_done a (Watch tree prefix) (outcome.Refused e) b maps t h = same a.state b.state t.1
 whole_done a (Next subscriber) (outcome.Refused e) b maps t h = absurd t
 whole_done a (Unsubscribe subscriber) (outcome.Refused e) b maps t h = absurd t

@@ -218,9 +218,9 @@ part_told a (Puts name key value) b maps d n = with_state a (after_decision_on a
 
 parts_told : {a b : State} {parts : List Part} {maps : List Maps} → (run : DoesParts a parts b maps) → AreNumbered a → Tells a keeps_all (turns_of_parts run) b
 parts_told (NoPart {s = s}) n = same_trees s s refl refl n
-parts_told (OnePart {a = a} {m = m} {b = b} {part = part} {added = added} one more) n =
-    let first = part_told a part m added one.is n in
-    both a m b (turns_of_part a part m added one.is) (turns_of_parts more) first (parts_told more first.numbered)
+parts_told (OnePart {a = a} {m = m} {b = b} {part = part} added one more) n =
+    let first = part_told a part m added one n in
+    both a m b (turns_of_part a part m added one) (turns_of_parts more) first (parts_told more first.numbered)
 
 -- the event of a write comes as that of its call
 event_turns : (tree : ℕ) (e : Option Event) → turns_of_event tree e ≡ turns_of_events (map (λ e. (tree, e)) (option_to_list e))
@@ -315,7 +315,7 @@ refused_told a (Group batches) e b maps t n = group_told a.state b.state (Group 
 refused_told a (OpenTree name) e b maps t n = where_open a.state (step.Whole (OpenTree name)) (outcome.Refused e) _ b.state (same_state a.state b.state t.1 n)
 refused_told a (DropTree name) e b maps t n = where_open a.state (step.Whole (DropTree name)) (outcome.Refused e) _ b.state (same_state a.state b.state t.1 n)
 refused_told a GenerateId e b maps t n = where_open a.state (step.Whole GenerateId) (outcome.Refused e) _ b.state (same_state a.state b.state t.1 n)
-refused_told a (Import collections) e b maps t n = where_open a.state (step.Whole (Import collections)) (outcome.Refused e) _ b.state (stop_told t.is n)
+refused_told a (Import collections) e b maps t n = where_open a.state (step.Whole (Import collections)) (outcome.Refused e) _ b.state (stop_told t n)
 refused_told a (Watch tree prefix) e b maps t n = where_open a.state (step.Whole (Watch tree prefix)) (outcome.Refused e) _ b.state (same_state a.state b.state t.1 n)
 refused_told a (Next subscriber) e b maps t n = absurd t
 refused_told a (Unsubscribe subscriber) e b maps t n = absurd t

@@ -78,10 +78,10 @@ part_turns a (Puts name key value) b maps d = same_queues _ b d.is ∙ event_com
 
 parts_turns : {a b : State} {parts : List Part} {maps : List Maps} → (run : DoesParts a parts b maps) → b.queues ≡ after_turns (turns_of_parts run) a.queues
 parts_turns NoPart = refl
-parts_turns (OnePart {a = a} {m = m} {part = part} {added = added} one more) =
+parts_turns (OnePart {a = a} {m = m} {part = part} added one more) =
     parts_turns more
-    ∙ ap (after_turns (turns_of_parts more)) (part_turns a part m added one.is)
-    ∙ sym (after_both_turns (turns_of_part a part m added one.is) (turns_of_parts more) a.queues)
+    ∙ ap (after_turns (turns_of_parts more)) (part_turns a part m added one)
+    ∙ sym (after_both_turns (turns_of_part a part m added one) (turns_of_parts more) a.queues)
 
 -- what an import that is refused has done
 abbrev Stopped : State → Store → Store → List Content → Error → State → List Maps → Type 0
@@ -121,7 +121,7 @@ whole_turns a (Group batches) (outcome.Refused e) b maps t = group_stops a.state
 whole_turns a (OpenTree name) (outcome.Refused e) b maps t = same_queues a.state b.state t.1
 whole_turns a (DropTree name) (outcome.Refused e) b maps t = same_queues a.state b.state t.1
 whole_turns a GenerateId (outcome.Refused e) b maps t = same_queues a.state b.state t.1
-whole_turns a (Import collections) (outcome.Refused e) b maps t = stop_turns t.is
+whole_turns a (Import collections) (outcome.Refused e) b maps t = stop_turns t
 whole_turns a (Watch tree prefix) (outcome.Refused e) b maps t = same_queues a.state b.state t.1
 whole_turns a (Next subscriber) (outcome.Refused e) b maps t = absurd t
 whole_turns a (Unsubscribe subscriber) (outcome.Refused e) b maps t = absurd t
@@ -188,7 +188,7 @@ quiet_part n a (Puts name key value) b maps d = quiet_event n d.named.number _
 
 quiet_parts : (n : ℕ) {a b : State} {parts : List Part} {maps : List Maps} → (run : DoesParts a parts b maps) → IsQuiet n (turns_of_parts run)
 quiet_parts n NoPart = quiet_none n
-quiet_parts n (OnePart {a = a} {m = m} {part = part} {added = added} one more) = quiet_both n (turns_of_part a part m added one.is) (turns_of_parts more) (quiet_part n a part m added one.is) (quiet_parts n more)
+quiet_parts n (OnePart {a = a} {m = m} {part = part} added one more) = quiet_both n (turns_of_part a part m added one) (turns_of_parts more) (quiet_part n a part m added one) (quiet_parts n more)
 
 quiet_stop : (n : ℕ) {old : State} {a b : Store} {all : List Content} {e : Error} {new : State} {maps : List Maps} (s : Stopped old a b all e new maps) → IsQuiet n (turns_of_stop s)
 quiet_stop n (inl none) = quiet_none n
@@ -232,7 +232,7 @@ whole_heard n q a (Group batches) (outcome.Refused e) b maps t here kept = heard
 whole_heard n q a (OpenTree name) (outcome.Refused e) b maps t here kept = heard n _ _ [] _ refl (quiet_none n)
 whole_heard n q a (DropTree name) (outcome.Refused e) b maps t here kept = heard n _ _ [] _ refl (quiet_none n)
 whole_heard n q a GenerateId (outcome.Refused e) b maps t here kept = heard n _ _ [] _ refl (quiet_none n)
-whole_heard n q a (Import collections) (outcome.Refused e) b maps t here kept = heard n _ _ (turns_of_stop t.is) _ refl (quiet_stop n t.is)
+whole_heard n q a (Import collections) (outcome.Refused e) b maps t here kept = heard n _ _ (turns_of_stop t) _ refl (quiet_stop n t)
 whole_heard n q a (Watch tree prefix) (outcome.Refused e) b maps t here kept = heard n _ _ [] _ refl (quiet_none n)
 whole_heard n q a (Next subscriber) (outcome.Refused e) b maps t here kept = absurd t
 whole_heard n q a (Unsubscribe subscriber) (outcome.Refused e) b maps t here kept = absurd t

@@ -12,11 +12,11 @@ use Rattle.sled_model.specs.Imports.{Part, OpensName, Puts, does_part_as, DoesPa
 use Rattle.sled_model.specs.Whole.{RemovesLeast, RemovesNone, RemovesOne}
 use Rattle.sled_model.specs.Groups.{writes_of, events_of_writes}
 use Rattle.sled_model.specs.Refusal.{must_refuse_of, cause_of_import, may_refuse_as}
-use Rattle.sled_model.specs.Transition.{Configuration, transition_as, WholeDecides, WholeRefuses}
+use Rattle.sled_model.specs.Transition.{Configuration, transition_as, does_of}
 use Rattle.sled_model.specs.declared.call.Call.{Call}
 use Rattle.sled_model.specs.declared.call.Call.TheVariants.{Insert, Remove}
 use Rattle.sled_model.specs.declared.call.Whole.{Whole}
-use Rattle.sled_model.specs.declared.call.Whole.TheVariants.{Flush, PopMin, PopMax, Clear, Group, OpenTree, DropTree, GenerateId, Import, Watch, Next, Unsubscribe}
+use Rattle.sled_model.specs.declared.call.Whole.TheVariants.{PopMin, PopMax, Clear, Group, Import, Watch, Next, Unsubscribe}
 use Rattle.sled_model.specs.declared.event.Event.{Event}
 use Rattle.sled_model.specs.declared.event.Next as event
 use Rattle.sled_model.specs.declared.tree.Tree.{Tree}
@@ -54,26 +54,23 @@ turns_of_part old (Puts name key value) new maps d = turns_of_call d.named (Inse
 
 abbrev pub turns_of_parts : {a b : State} {parts : List Part} {maps : List Maps} → DoesParts a parts b maps → List Turn
 turns_of_parts NoPart = []
-turns_of_parts (OnePart {a = a} {m = m} {part = part} {added = added} one more) = turns_of_part a part m added one.is ++ turns_of_parts more
+turns_of_parts (OnePart {a = a} {m = m} {part = part} added one more) = turns_of_part a part m added one ++ turns_of_parts more
 
 -- events come, each to the tree of its number, in order
 abbrev pub turns_of_events : List (ℕ × Event) → List Turn
 turns_of_events es = map (λ e. Comes e.0 e.1) es
 
 -- a whole call that is decided
-abbrev pub turns_of_whole : (old : Configuration) (whole : Whole) (reply : Reply) (new : State) (maps : List Maps) → WholeDecides old whole reply new maps → List Turn
-turns_of_whole old Flush reply new maps d = []
+abbrev pub turns_of_whole : (old : Configuration) (whole : Whole) (reply : Reply) (new : State) (maps : List Maps) → (does_of whole).decides old reply new maps → List Turn
 turns_of_whole old (PopMin tree) reply new maps d = turns_of_pop d.named d.found
 turns_of_whole old (PopMax tree) reply new maps d = turns_of_pop d.named d.found
 turns_of_whole old (Clear tree) reply new maps d = turns_of_removals d.1.removes
 turns_of_whole old (Group batches) reply new maps d = turns_of_events (events_of_writes (writes_of batches.items) old.state)
-turns_of_whole old (OpenTree name) reply new maps d = []
-turns_of_whole old (DropTree name) reply new maps d = []
-turns_of_whole old GenerateId reply new maps d = []
 turns_of_whole old (Import collections) reply new maps d = turns_of_parts d.1.does
 turns_of_whole old (Watch tree prefix) reply new maps d = Watches d.0 tree.number prefix ∷ []
 turns_of_whole old (Next subscriber) reply new maps d = Takes subscriber ∷ []
 turns_of_whole old (Unsubscribe subscriber) reply new maps d = Ends subscriber ∷ []
+turns_of_whole old whole reply new maps d = []
 
 -- an import that is refused has done none of its parts, or the first
 abbrev pub turns_of_stop : {old : State} {a b : Store} {all : List (Key × Key × List (Key × Key))} {e : Error} {new : State} {maps : List Maps}
@@ -83,19 +80,10 @@ turns_of_stop (inr s) = turns_of_parts s.1.does
 
 -- a whole call that is refused: of a clear and an import, the parts that were done. A refused group brings
 -- nothing, even if it closes the database
-abbrev pub turns_of_refusal : (old : State) (a b : Store) (whole : Whole) (e : Error) (new : State) (maps : List Maps) → WholeRefuses old a b whole e new maps → List Turn
-turns_of_refusal old a b Flush e new maps d = []
-turns_of_refusal old a b (PopMin tree) e new maps d = []
-turns_of_refusal old a b (PopMax tree) e new maps d = []
+abbrev pub turns_of_refusal : (old : State) (a b : Store) (whole : Whole) (e : Error) (new : State) (maps : List Maps) → (does_of whole).refuses old a b e new maps → List Turn
 turns_of_refusal old a b (Clear tree) e new maps d = turns_of_removals d.removes
-turns_of_refusal old a b (Group batches) e new maps d = []
-turns_of_refusal old a b (OpenTree name) e new maps d = []
-turns_of_refusal old a b (DropTree name) e new maps d = []
-turns_of_refusal old a b GenerateId e new maps d = []
-turns_of_refusal old a b (Import collections) e new maps d = turns_of_stop d.is
-turns_of_refusal old a b (Watch tree prefix) e new maps d = []
-turns_of_refusal old a b (Next subscriber) e new maps d = []
-turns_of_refusal old a b (Unsubscribe subscriber) e new maps d = []
+turns_of_refusal old a b (Import collections) e new maps d = turns_of_stop d
+turns_of_refusal old a b whole e new maps d = []
 
 -- A step of a slot brings what its call does when it is decided, and a whole call what its cases say. All other steps do nothing to queues
 abbrev pub turns_of : (old : Configuration) (s : Step) (o : Outcome) (new : Configuration) (maps : List Maps) → transition_as old s o new maps → List Turn

@@ -1,8 +1,10 @@
 //! The errors of transactions, with their texts and clones, and how often a closure is run.
+use machine_alone::Machine;
 use sled::{
-    ConflictableTransactionError, Db, MemPages, TransactionError, TransactionResult,
-    UnabortableTransactionError,
+    Commit, ConflictableTransactionError, Db, MemPages, Overlays, TransactionError,
+    TransactionResult, UnabortableTransactionError,
 };
+use sled_batch::Batch;
 use sled_model::Tree;
 use sled_nodes::{Error, IVec, Result};
 use std::cell::Cell;
@@ -108,9 +110,84 @@ fn tell_move(report: &Report, db: &mut Db<MemPages>, from: &Tree) {
     }
 }
 
+// What a closure wrote that is run alone.
+type Wrote = TransactionResult<Commit<(), Batch>, ()>;
+
+type WroteAll = TransactionResult<Commit<(), Overlays>, ()>;
+
+// How many writes a closure hands back, and whether its key is there before they are made and after.
+fn run_alone(db: &mut Db<MemPages>, tree: &Tree) -> Result<(usize, bool, bool)> {
+    let ended: Wrote = db.run_transaction(tree, |inside| {
+        inside.insert(b"alone", b"1")?;
+        Ok(())
+    });
+    let Ok(commit) = ended else {
+        return Err(Error::NoMemory);
+    };
+    let writes = commit.writes;
+    let count = writes.len();
+    let before = db.contains_key(tree, b"alone")?;
+    db.apply_batch(tree, writes)?;
+    Ok((count, before, db.contains_key(tree, b"alone")?))
+}
+
+// How many batches are handed back of a closure at two trees, and how many writes of the second one.
+fn run_alone_at_both(db: &mut Db<MemPages>, from: &Tree, to: &Tree) -> Result<(usize, usize)> {
+    let ended: WroteAll = db.run_transaction_all(&[from, to], |both| {
+        both.insert(1, b"alone", b"1")?;
+        both.remove(1, b"ulm")?;
+        Ok(())
+    });
+    let Ok(commit) = ended else {
+        return Err(Error::NoMemory);
+    };
+    let batches = commit.writes.into_batches();
+    let count = batches.len();
+    let second = batches.get(1).map_or(0, |batch| batch.len());
+    drop(batches);
+    Ok((count, second))
+}
+
+// The same by a machine: how many writes of the tree, and how many batches of a list of one.
+fn run_by_machine(machine: &mut Machine<MemPages>, tree: &Tree) -> Result<(usize, usize)> {
+    let ended: Wrote = machine.run_transaction(tree, |inside| {
+        inside.remove(b"alone")?;
+        Ok(())
+    });
+    let Ok(commit) = ended else {
+        return Err(Error::NoMemory);
+    };
+    let writes = commit.writes.len();
+    drop(commit);
+    let ended: WroteAll = machine.run_transaction_all(&[tree], |one| {
+        one.insert(0, b"alone", b"1")?;
+        Ok(())
+    });
+    let Ok(commit) = ended else {
+        return Err(Error::NoMemory);
+    };
+    let batches = commit.writes.into_batches();
+    let count = batches.len();
+    drop(batches);
+    Ok((writes, count))
+}
+
+// Prints what closures hand back that are run alone.
+fn tell_run_alone(report: &Report, mut db: Db<MemPages>, tree: &Tree) -> Db<MemPages> {
+    report.show("run alone, and made after it", run_alone(&mut db, tree));
+    if let Some(to) = report.keep(db.open_tree(b"other")) {
+        let both = run_alone_at_both(&mut db, tree, &to);
+        drop(to);
+        report.show("run alone at two trees", both);
+    }
+    let mut machine = Machine::new(db);
+    report.show("run alone by a machine", run_by_machine(&mut machine, tree));
+    machine.into_db()
+}
+
 /// Prints what comes of transactions. The database comes back.
 pub fn tell_on(report: &Report, mut db: Db<MemPages>, tree: &Tree) -> Db<MemPages> {
     tell_runs(report, &mut db, tree);
     tell_move(report, &mut db, tree);
-    db
+    tell_run_alone(report, db, tree)
 }

@@ -1,7 +1,7 @@
 //! Calls and entries of a history as lines.
 use crate::text::Text;
 use sled::{Batch, Call, IVec, Tree, Whole};
-use sled_machine::shared::{Answer, Entry, Made, Question, Read};
+use sled_machine::shared::{Answer, Entry, Made, Question, Read, ScanNote, Scanned};
 
 impl Text {
     // Adds a call on a key with a value.
@@ -168,6 +168,29 @@ impl Text {
                 self.transaction(batches.as_slice(), stood.as_slice())
             }
         }
+    }
+
+    // Adds what a scan did.
+    fn did(&mut self, did: &Scanned) {
+        match did {
+            Scanned::Begun(tree, call) => self.call(tree, call),
+            Scanned::Gave(key, value) => {
+                self.text(b" pair");
+                self.pair(key.as_ref(), value.as_ref());
+            }
+            Scanned::Ended => self.text(b" end"),
+        }
+        self.text(b"\n");
+    }
+
+    /// Adds what scans did, one note a line, and whether all of it is noted.
+    pub fn scans(&mut self, notes: &[ScanNote], all: bool) {
+        for note in notes {
+            self.number(b"note ", note.slot.0);
+            self.number(b" ", note.at);
+            self.did(&note.did);
+        }
+        self.text(if all { b"notes yes\n" } else { b"notes no\n" });
     }
 
     /// Adds a history, one entry a line.

@@ -101,7 +101,7 @@ fn crash(
     }
 }
 
-// Adds the history and all pairs, and crashes.
+// Adds the history, what scans did, and all pairs, and crashes.
 fn ended<L: Ledger>(
     alloc: Global,
     all: &mut Text,
@@ -109,6 +109,7 @@ fn ended<L: Ledger>(
     keep: usize,
 ) -> Option<Fresh> {
     all.history(state.history());
+    all.scans(state.scans(), state.keeps_scans());
     tell_pairs(all, b"left ", state.machine().db());
     crash(alloc, all, state.into_machine(), keep)
 }
@@ -128,7 +129,7 @@ where
     requires each { blank.parts ≡ scene.now.plan.callers + 1 }
 {
     let callers = u64::from(scene.plan.callers);
-    match shared::Db::<_, L, _>::new(rt, scene.plan.alloc, db, blank, callers) {
+    match shared::Db::<_, L, _>::new_noting_scans(rt, scene.plan.alloc, db, blank, callers) {
         Ok(shared) => round(rt, scene, ending, all, shared),
         Err(refused) => {
             drop(refused);

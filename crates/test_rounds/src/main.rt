@@ -16,6 +16,8 @@
 //!     gathered, missing, reclaimed    how the state was taken: with all handles, or not, since some are missing, and then without any
 //!     again                           it is shared again
 //!     entry N CALL = REPLY            an entry of the history, by this caller
+//!     note SLOT N DID                 what a scan did in its slot, and how many entries the history had then
+//!     notes yes|no                    whether all that scans did is noted
 //!     left N ..                       what is there at the end
 //!     crash N                         a crash that keeps so many actions
 //!
@@ -28,6 +30,7 @@ mod era;
 mod listen;
 mod round;
 mod scene;
+mod short;
 mod slots;
 mod text;
 mod trees;

@@ -4,6 +4,7 @@ use crate::caller::{
 };
 use crate::listen::listen;
 use crate::scene::Scene;
+use crate::short::{look, page_through, short};
 use crate::slots::{begin_last, leave, meddle, work};
 use crate::text::Text;
 use crate::trees::{exchange, import, number_inside};
@@ -46,10 +47,13 @@ fn make_on_keys<L: Ledger, R: Wait>(
     choice: u64,
 ) {
     match choice % 100 {
-        0..=23 => point(rt, scene, way, book, choice),
+        0..=15 => point(rt, scene, way, book, choice),
+        16..=23 => short(rt, scene, way, book, choice),
         24..=48 => work(rt, scene, way, book, choice),
         49..=53 => meddle(rt, scene, way, book, choice),
-        54..=64 => ask(rt, scene, way, book, choice),
+        54..=62 => ask(rt, scene, way, book, choice),
+        63 => look(rt, scene, way, book, choice),
+        64 => page_through(rt, scene, way, book, choice),
         65 | 66 => read_all(rt, scene, way, book, choice),
         _ => listen(rt, scene, way, book, choice),
     }

@@ -122,7 +122,7 @@ pub fn exchange<L: Ledger, R: Wait>(
     }
 }
 
-/// Asks for an id inside of a transaction, which would write it.
+/// Takes an id inside a transaction, which writes it.
 pub fn number_inside<L: Ledger, R: Wait>(
     rt: &R,
     scene: &Scene,

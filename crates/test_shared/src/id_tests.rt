@@ -48,6 +48,31 @@ const WHOLES: [(Ask<'static>, Told); 15] = [
     (Ask::PopMin, Told::NoSuchTree),
 ];
 
+// The same, but for the flush.
+const UNFLUSHED: [(Ask<'static>, Told); 14] = [
+    (Ask::Transact(b"c", &[4]), Told::Done),
+    (Ask::TransactAll(b"d", &[5]), Told::Done),
+    (Ask::Group(b"e", &[6]), Told::Done),
+    (Ask::PopMin, Told::Popped),
+    (Ask::PopMax, Told::Popped),
+    (Ask::Import(&[7], 1), Told::Done),
+    (Ask::Watch, Told::Subscriber(1)),
+    (Ask::Insert(b"f", &[8]), Told::NoValue),
+    (Ask::Next(1), Told::Event(0x66)),
+    (Ask::Unsubscribe(1), Told::Done),
+    (Ask::OpenTree(b"other"), Told::Tree),
+    (Ask::Clear, Told::Done),
+    (Ask::DropTree, Told::Dropped),
+    (Ask::PopMin, Told::NoSuchTree),
+];
+
+const QUIETLY: [Turn<'static>; 4] = [
+    Turn::NextId,
+    Turn::TakeNoId(&POINTS),
+    Turn::TakeNoId(&READS),
+    Turn::TakeNoId(&UNFLUSHED),
+];
+
 const FIRST: [Turn<'static>; 10] = [
     Turn::NextId,
     Turn::Begin(Ask::Get(b"a"), Signal::Before),
@@ -73,6 +98,17 @@ const TRIAL: Trial<'static> = Trial {
     wanted: Wanted::Any,
     ..TWO_CALLERS
 };
+
+// All that is done here is undone by a crash that keeps nothing since the last flush.
+const QUIET_TRIAL: Trial<'static> = Trial {
+    first: &QUIETLY,
+    ..TRIAL
+};
+
+#[test]
+fn no_call_but_a_flush_flushes(rt: HostRuntime) {
+    try_out(&rt, rt.alloc(), &QUIET_TRIAL);
+}
 
 #[test]
 fn a_call_takes_no_id_and_no_turn_of_another(rt: HostRuntime) {

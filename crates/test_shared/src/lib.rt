@@ -1,7 +1,7 @@
 //! Tests of a database that threads share. Each ends by itself, and comes out the same whatever the schedule, as long as a thread that
 //! waits for another one does not look in vain a hundred million times; then the test fails. `beside` has callers work in threads of their
 //! own, gathers the state, and looks at what they made. A `trial` says which `turns` each `caller` takes, and their expected outcome.
-//! `asking` makes a call and boils down its outcome, by `naming` and `reading` too. A `replay` makes the calls of a history again, on a
+//! `asking` makes a call and tells its outcome in short, by `naming` and `reading` too. A `replay` makes the calls of a history again, on a
 //! plain map.
 #![tactic(auto)]
 

@@ -20,7 +20,6 @@ enum Came {
     /// It was aborted with this.
     GivenUp(u64),
     NoSuchTree,
-    Unsupported,
     Other,
 }
 
@@ -29,7 +28,6 @@ fn came_of(ended: TransactionResult<u64, u64>) -> Came {
         Ok(answer) => Came::Answered(*answer),
         Err(TransactionError::Abort(why)) => Came::GivenUp(*why),
         Err(TransactionError::Storage(Error::CollectionNotFound(_))) => Came::NoSuchTree,
-        Err(TransactionError::Storage(Error::Unsupported(_))) => Came::Unsupported,
         Err(TransactionError::Storage(_)) => Came::Other,
     };
     drop(ended);
@@ -48,7 +46,7 @@ fn transfer<L: Ledger>(rt: &impl Wait, handle: &mut Way<L>, tree: &Tree) -> Came
     }))
 }
 
-// Reads its own write, and takes an id, of which none is set aside.
+// Reads its own write, takes an id, and aborts with it.
 fn take_id<L: Ledger>(rt: &impl Wait, handle: &mut Way<L>, tree: &Tree) -> Came {
     came_of(handle.transaction(rt, tree, |inside| {
         inside.insert(b"c", b"4")?;
@@ -56,7 +54,7 @@ fn take_id<L: Ledger>(rt: &impl Wait, handle: &mut Way<L>, tree: &Tree) -> Came 
             Some(value) => drop(value),
             None => return abort(1),
         }
-        Ok(inside.generate_id()?)
+        abort(inside.generate_id()?)
     }))
 }
 
@@ -111,8 +109,8 @@ fn make<L: Ledger, R: Wait + Abort>(
     );
     require(
         rt,
-        take_id(rt, one, tree) == Came::Unsupported,
-        "no id is set aside",
+        take_id(rt, one, tree) == Came::GivenUp(1) && take_id(rt, other, tree) == Came::GivenUp(2),
+        "ids that stay taken",
     );
     require(rt, one.made().len() == 1, "an insert alone");
     let name = tree.name.clone().expect(rt, "memory");

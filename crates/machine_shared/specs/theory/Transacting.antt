@@ -1,12 +1,10 @@
 -- Of Transactions, for proofs. What is noted of each part of a transaction.
-use Rattle.std.specs.Prelude.{◌≡◌, ◌⊎◌, ℕ, Bool, true, false, List, [], ◌∷◌, ◌++◌, Option, Some, None, Result, Ok, Err}
+use Rattle.std.specs.Prelude.{◌≡◌, ◌⊎◌, ℕ, Bool, true, List, [], ◌∷◌, ◌++◌, Result, Ok, Err}
 use Rattle.std.specs.Global.{Vec}
 use Rattle.sled_nodes.specs.declared.error.Error.{Error}
-use Rattle.sled_nodes.specs.declared.error.Error.TheVariants.{Unsupported}
 use Rattle.sled_batch.specs.Batch.{Writes}
 use Rattle.sled_store.specs.Store.{Store}
 use Rattle.sled_model.specs.Maps.{Merge}
-use Rattle.sled_model.specs.Refusal.{MustRefuse, IsForeign}
 use Rattle.sled_model.specs.declared.call.Whole.TheVariants.{Group}
 use Rattle.sled_model.specs.declared.outcome.Outcome.{Outcome}
 use Rattle.sled_model.specs.declared.outcome.Outcome.TheVariants.{Decided, Refused}
@@ -16,6 +14,7 @@ use Rattle.sled_model.specs.declared.reply.Reply.TheVariants.{Number}
 use Rattle.sled_model.specs.declared.tree.Tree.{Tree}
 use Rattle.tree_transactions.specs.declared.errors.TransactionError.{TransactionError}
 use Rattle.tree_transactions.specs.declared.errors.TransactionError.TheVariants.{Abort, Storage}
+use Rattle.sled.specs.Values.{DbValue}
 use Rattle.machine_alone.specs.Step.{MachineStepContract}
 use Rattle.machine_alone.specs.Values.{MachineValue}
 use Rattle.machine_shared.specs.Made.{MadeValue, WholeMade}
@@ -39,21 +38,11 @@ is_refused_as (Decided reply) e = ⊥
 is_refused_as (Refused x) e = e ≡ x
 is_refused_as o e = Unit {0}
 
--- something is not supported
-abbrev pub is_unsupported : Error → Bool
-is_unsupported (Unsupported text) = true
-is_unsupported e = false
-
--- what the test comes to that trees are of this database
-abbrev pub foreign_if : Bool → Option MustRefuse
-foreign_if true = Some IsForeign
-foreign_if false = None
-
--- a closure was run to this end, or a test refused that
-abbrev pub ran_as : {E W : Type 0} → (Error → Type 0) → (Result W (TransactionError E) → Type 0) → Result W (TransactionError E) → Type 0
-ran_as tests reaches (Ok commit) = reaches (Ok commit)
-ran_as tests reaches (Err (Abort e)) = reaches (Err (Abort e))
-ran_as tests reaches (Err (Storage e)) = tests e ⊎ reaches (Err (Storage e))
+-- a closure was run to this end, or a test refused that, and then nothing changed
+abbrev pub ran_as : {P M E W : Type 0} → (Error → Type 0) → (Result W (TransactionError E) → DbValue P M → Type 0) → DbValue P M → Result W (TransactionError E) → DbValue P M → Type 0
+ran_as tests reaches d (Ok commit) after = reaches (Ok commit) after
+ran_as tests reaches d (Err (Abort e)) after = reaches (Err (Abort e)) after
+ran_as tests reaches d (Err (Storage e)) after = (tests e × (after ≡ d)) ⊎ reaches (Err (Storage e)) after
 
 module _ {P M : Type 0} (store : P → Store) (flush_number : P → ℕ) (meant : M → Merge) (old : MachineValue P M) (group : Vec (Tree × Writes)) (new : MachineValue P M) where
   -- a group was made

@@ -1,6 +1,4 @@
-use Rattle.std.proofs.Common.{◌≡◌, ◌∙◌, ap}
-use Rattle.sled_files.specs.Stored.{Stored}
-use Rattle.sled.specs.Values.{DbValue}
+use Rattle.std.proofs.Common.{◌≡◌}
 use Rattle.example_files.proofs.Found.{goes_on_from, is_valid, reopens}
 use Rattle.example_files.proofs.reopening.reopen_db.Goals as goal
 

@@ -1,4 +1,4 @@
-use Rattle.std.proofs.Common.{List, [], ◌∷◌, subst}
+use Rattle.std.proofs.Common.{[], ◌∷◌, subst}
 use Rattle.machine_shared.specs.UnderLock.{ReadsUnderLock}
 use Rattle.machine_shared.specs.Values.{CallerValue}
 use Rattle.machine_shared.specs.declared.read.Read.TheVariants as read

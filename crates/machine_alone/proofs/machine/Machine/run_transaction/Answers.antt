@@ -1,0 +1,29 @@
+use Rattle.std.proofs.Common.{◌≡◌, ◌≤◌, true, [], ◌∷◌, Some, None}
+use Rattle.sled_store.specs.Store.{now}
+use Rattle.sled_model.specs.Refusal.{must_refuse_of}
+use Rattle.tree_transactions.specs.Ids.{OnlyRaises}
+use Rattle.sled.specs.Values.{db_state}
+use Rattle.sled.specs.Transactions.{RunsOnTree, TransactionRuns}
+use Rattle.sled.proofs.Transacting.{runs_know}
+use Rattle.machine_alone.proofs.Transacted.{db_over, stay}
+use Rattle.machine_alone.proofs.machine.Machine.run_transaction.Goals as goal
+
+pub run_transaction-requires-after_bounds : goal.run_transaction-requires-after_bounds
+run_transaction-requires-after_bounds g c κs within =
+    let store = g.P.Pages.store in
+    let meant = g.M.MergeOperator.meant in
+    λ tested root there s here only le aside given begins. c.requires
+    (db_over _ _ c.self.view_is (λ d. must_refuse_of (db_state store meant d) (c.args.tree.now ∷ []) ≡ None) tested) root
+    (db_over _ _ c.self.view_is (λ d. (now (store d.pages)).roots c.args.tree.now.name ≡ Some root) there) s here
+    (db_over _ _ c.self.view_is (λ d. OnlyRaises (store d.pages) s) only) (db_over _ _ c.self.view_is (λ d. d.greatest_id ≤ here) le) (db_over _ _ c.self.view_is (λ d. d.greatest_id ≤ (store d.pages).mark → here ≤ s.mark) aside) given begins
+
+pub returns-clause-runs : goal.returns-clause-runs
+returns-clause-runs g c = db_over _ _ c.self.view_is (λ d. TransactionRuns g.P.Pages.store g.P.Pages.flush_number g.M.MergeOperator.meant g.F.Fn g.R.TransactionAnswer.result_of c.args.f d c.args.tree.now c.run_transaction.result c.run_transaction.new.self) c.run_transaction.ensures
+
+pub invariant_of-self : goal.invariant_of-self
+invariant_of-self g c =
+    let store = g.P.Pages.store in
+    let meant = g.M.MergeOperator.meant in
+    let old = c.self.inside.db in
+    stay store (record { db = c.self.inside.db; flights = c.self.inside.flights.entries; slots_given = c.self.inside.slots_given }) c.run_transaction.new.self c.self.invariant
+    (λ h k. runs_know store g.P.Pages.flush_number meant _ (RunsOnTree store meant g.F.Fn g.R.TransactionAnswer.result_of c.args.f old c.args.tree.now) (λ w. (c.args.tree.now, w) ∷ []) true old c.run_transaction.result c.run_transaction.new.self c.run_transaction.ensures h k)
