@@ -72,7 +72,15 @@ fn numbers(words: &[String; 6]) -> Result<[u64; 6], Stopped> {
     Ok(numbers)
 }
 
-fn run_words(rt: &HostRuntime, words: &[String]) -> Result<(), Stopped> {
+// What the words ask for.
+struct Asked<'a> {
+    pairs: Pairs,
+    calls: u64,
+    flush: u64,
+    names: &'a [String],
+}
+
+fn asked_by<'a>(rt: &HostRuntime, words: &'a [String]) -> Result<Asked<'a>, Stopped> {
     let Some((first, names)) = words.split_first_chunk::<6>() else {
         return Err(Stopped);
     };
@@ -81,7 +89,21 @@ fn run_words(rt: &HostRuntime, words: &[String]) -> Result<(), Stopped> {
         Some(keys) => (keys, names.get(1..).unwrap_or(&[])),
         None => (Keys::Scattered, names),
     };
-    let pairs = Pairs::new(rt.alloc(), keys, seed, pairs, shortest, longest)?;
+    Ok(Asked {
+        pairs: Pairs::new(rt.alloc(), keys, seed, pairs, shortest, longest)?,
+        calls,
+        flush,
+        names,
+    })
+}
+
+fn run_words(rt: &HostRuntime, words: &[String]) -> Result<(), Stopped> {
+    let Asked {
+        pairs,
+        calls,
+        flush,
+        names,
+    } = asked_by(rt, words)?;
     let db = match Db::open(rt.alloc(), empty_pages(rt.alloc()), b"bench") {
         Ok(db) => db,
         Err(refused) => {

@@ -5,7 +5,7 @@
 //! Each workload begins with so many pairs loaded anew, at least one. So many threads, at most 255, share the database, and each makes so
 //! many calls by its handle, on keys of these pairs. They are `gets`, or a `mix` of 95 gets and 5 inserts of 100. In `reads` and
 //! `mixed_reads` each get is a read under one lock. Then the handles are given back. Up to 8 pairs are in one leaf. Keys are 8 bytes, and
-//! values 16. Each call is recorded in memory, in the history and in the handle's own list, so a hundred thousand calls are enough.
+//! values 16. Each call is recorded in memory, in the history and in the handle's own list, so some hundred thousand calls are enough.
 //!
 //! Each workload prints its name, how many calls the history has, and a checksum of their replies, which is the same whatever the
 //! schedule. On standard error it prints its name and the time from the start of the first thread to the end of the last, in microseconds.

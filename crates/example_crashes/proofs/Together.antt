@@ -1,10 +1,8 @@
 -- One caller flushes, and all others raise a number.
-use Rattle.std.proofs.Common.{◌≡◌, ◌⊎◌, ◌∙◌, ℕ, suc, ◌+◌, ◌*◌, ◌≤◌, Bool, true, false, cond, nat_eq, length, length-append, List, [], ◌∷◌, ◌++◌, append-nil, map, filter, All, sum_by, count_by, sym, refl, ap, subst, inl, inr, arith}
+use Rattle.std.proofs.Common.{◌≡◌, ◌⊎◌, ◌∙◌, ℕ, suc, ◌+◌, ◌*◌, ◌≤◌, Bool, true, false, cond, nat_eq, length, length-append, List, [], ◌∷◌, ◌++◌, append-nil, map, filter, All, sum_by, sym, ap, subst, inl, inr, arith}
 use Rattle.std.specs.List.{AllByRecursion}
-use Rattle.std.proofs.lemmas.Bool.{eqb-true, eq-eqb}
 use Rattle.std.proofs.lemmas.List.Elements.{All-push}
 use Rattle.std.proofs.lemmas.List.Sums.{sum_by-cons, sum_by_push}
-use Rattle.sled_nodes.proofs.Basics.{false_true}
 use Rattle.sled_nodes.specs.Order.{Key}
 use Rattle.sled_store.specs.In.{In}
 use Rattle.sled_store.specs.Store.{Store}
@@ -14,7 +12,7 @@ use Rattle.sled_model.specs.Maps.{Maps}
 use Rattle.sled_model.specs.declared.tree.Tree.{Tree}
 use Rattle.tree_laws.specs.Contents.{trees_of}
 use Rattle.tree_laws.proofs.Pairs.{each_append}
-use Rattle.machine_shared.specs.Gathered.{EachOnce, EachOnceBehind, IsGiven, IsMadeIn, IsOfGiven}
+use Rattle.machine_shared.specs.Gathered.{EachOnce, EachOnceBehind, IsMadeIn, IsOfGiven}
 use Rattle.machine_shared.specs.Gathered as gathered_as
 use Rattle.machine_shared.specs.History.{made_by, maps_from}
 use Rattle.machine_shared.specs.Made.{MadeValue, WholeMade, EntryValue}
@@ -28,7 +26,7 @@ use Rattle.example_shared.proofs.Crashed.{crashed_law}
 use Rattle.example_shared.proofs.Leaving.{leaves}
 use Rattle.example_shared.proofs.Sharing.{first_of_all, rest_of_all, shares_law}
 use Rattle.example_shared.proofs.Swapping.{raises_law}
-use Rattle.example_shared.proofs.Together.{part_swaps, parts_raise}
+use Rattle.example_shared.proofs.Together.{all_made, made_by_one, part_swaps, parts_raise}
 use Rattle.example_crashes.specs.Crashing.{number_under}
 use Rattle.example_crashes.specs.theory.Raised.{HasFlushed, HasRaised, IsRaised}
 
@@ -38,43 +36,11 @@ pub last_of_all : {X : Type 0} (P : X → Type 0) (xs : List X) (x : X) → All 
 last_of_all P [] x h = first_of_all P x [] h
 last_of_all P (y ∷ xs) x h = last_of_all P xs x (rest_of_all P y (xs ++ x ∷ []) h)
 
--- one that passes a test is there, if one is counted
-counted_is : (p : CallerValue → Bool) (Q : CallerValue → Type 0) (xs : List CallerValue) → count_by p xs ≡ 1 → All Q xs → (x : CallerValue) × (p x ≡ true) × Q x
-counted_is p Q [] e all = absurd (none e)
-  where
-    none : ◌≡◌ {A = ℕ} 0 1 → ⊥
-    none e = omega arith
-counted_is p Q (x ∷ xs) e all = go (λ once. counted_is p Q xs once (rest_of_all Q x xs all)) (p x) refl (sym (sum_by-cons (λ x. cond (p x) 1 0) x xs) ∙ e)
-  where
-    left_one : (count : ℕ) → 0 + count ≡ 1 → count ≡ 1
-    left_one count e = omega arith
-
-    go : (count_by p xs ≡ 1 → (x : CallerValue) × (p x ≡ true) × Q x) → (b : Bool) → p x ≡ b → cond b 1 0 + count_by p xs ≡ 1 → (x : CallerValue) × (p x ≡ true) × Q x
-    go later true h f = (x, h, first_of_all Q x xs all)
-    go later false h f = later (left_one (count_by p xs) f)
-
 module _ (P : MadeValue → Type 0) where
-  entries_all : (given : ℕ) (es : List EntryValue) → All (IsOfGiven given) es → ((n : ℕ) → IsGiven given n → AllByRecursion P (made_by n es)) → AllByRecursion P (made_in es)
-  entries_all given [] all by = tt
-  entries_all given (e ∷ es) all by = (here (nat_eq e.by e.by) (eq-eqb e.by e.by refl) (by e.by (first_of_all (IsOfGiven given) e es all)), entries_all given es (rest_of_all (IsOfGiven given) e es all) (λ n g. later n (nat_eq e.by n) (by n g)))
-    where
-      here : (b : Bool) → b ≡ true → AllByRecursion P (map (λ e. e.made) (cond b (e ∷ filter (λ x. nat_eq x.by e.by) es) (filter (λ x. nat_eq x.by e.by) es))) → P e.made
-      here true q x = x.0
-      here false q x = false_true q
-
-      later : (n : ℕ) (b : Bool) → AllByRecursion P (map (λ e. e.made) (cond b (e ∷ filter (λ x. nat_eq x.by n) es) (filter (λ x. nat_eq x.by n) es))) → AllByRecursion P (made_by n es)
-      later n true x = x.1
-      later n false x = x
-
   -- what holds of all that the callers made holds of the history
   pub history_all : (given : ℕ) (history : List EntryValue) (callers : List CallerValue) → All (IsMadeIn history) callers → EachOnce given callers → All (IsOfGiven given) history
       → All (λ (c : CallerValue). AllByRecursion P c.made) callers → AllByRecursion P (made_in history)
-  history_all given history callers made once others each = entries_all given history others (λ n g. go n (once n g))
-    where
-      go : (n : ℕ) → count_by (λ (c : CallerValue). nat_eq n c.number) callers ≡ 1 → AllByRecursion P (made_by n history)
-      go n one =
-          let c = counted_is (λ (c : CallerValue). nat_eq n c.number) (λ (c : CallerValue). IsMadeIn history c × AllByRecursion P c.made) callers one (λ k d l. (made k d l, each k d l)) in
-          subst (λ m. AllByRecursion P (made_by m history)) (sym (eqb-true n c.0.number c.1)) (subst (AllByRecursion P) c.2.0 c.2.1)
+  history_all given history callers made once others each = all_made P given history others (λ n g. made_by_one P history callers n (once n g) (λ k d l. (made k d l, each k d l)))
 
 abbrev first_of : MadeValue → List MadeValue → MadeValue
 first_of other [] = other

@@ -15,7 +15,7 @@ use Rattle.sled.specs.Values.{DbValue}
 use Rattle.sled.specs.Sound.{IsDb}
 use Rattle.sled.specs.Opens.{Opens}
 use Rattle.sled.specs.Operators.{without_operators}
-use Rattle.sled_path.proofs.Named.{opens_alike}
+use Rattle.sled.proofs.Operating.{bare_opens}
 use Rattle.machine_alone.specs.CrashMaps.{AreCrashMaps}
 use Rattle.machine_alone.specs.Run.{MachineRun}
 use Rattle.machine_alone.specs.Values.{MachineValue}
@@ -47,7 +47,7 @@ pub reopens : {D E M N : Type 0} (name : Key) (old : DbValue (Stored D) M) (left
 reopens {D} {E} {M} name old left new found sound g o is = subst (λ (d : DbValue (Stored E) M). Reopens name old d) (sym is) (record {
   left = stored_as left;
   goes_on = g;
-  opens = opens_alike stored_as (stored_as left) name new o;
+  opens = bare_opens stored_as (stored_as left) name new o;
   maps = λ kept are. record { left = trees_of (now (stored_as left)); one = one_in g kept are; is = o.maps };
   ids = omega (arith, sound.ids, g.no_lower, o.ids);
 })

@@ -135,7 +135,7 @@ module _ {P M : Type 0} (store : P → Store) (number : P → ℕ) (meant : M �
           brought = (t.run, t.makes.runs.takes, refl);
         }
 
-    nothing_made : (e : Error) (k : Stops store number meant (tests_tree store number meant says result_of f old tree) (RunsOnTree store meant says result_of f old tree) (batch_of store number meant says result_of f old tree) true old e new) → made_before_stop k ≡ []
+    nothing_made : (e : Error) (k : Stops store number meant (tests_tree store meant old tree) (RunsOnTree store meant says result_of f old tree) (batch_of store number meant says result_of f old tree) true old e new) → made_before_stop k ≡ []
     nothing_made e (ByTest t same) = refl
     nothing_made e (ByClosure runs) = refl
     nothing_made e (ByGroup commit run runs refused quiet) = refl
@@ -145,7 +145,7 @@ module _ {P M : Type 0} (store : P → Store) (number : P → ℕ) (meant : M �
     none_made (Abort x) t = refl
     none_made (Storage x) t = nothing_made x t.is
 
-    nothing_brought : (e : Error) (k : Stops store number meant (tests_tree store number meant says result_of f old tree) (RunsOnTree store meant says result_of f old tree) (batch_of store number meant says result_of f old tree) true old e new) → turns_before_stop k ≡ []
+    nothing_brought : (e : Error) (k : Stops store number meant (tests_tree store meant old tree) (RunsOnTree store meant says result_of f old tree) (batch_of store number meant says result_of f old tree) true old e new) → turns_before_stop k ≡ []
     nothing_brought e (ByTest t same) = refl
     nothing_brought e (ByClosure runs) = refl
     nothing_brought e (ByGroup commit run runs refused quiet) = refl

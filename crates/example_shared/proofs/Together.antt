@@ -40,7 +40,7 @@ one_of {X = X} p Q (x ∷ xs) e all = go (λ once. one_of p Q xs once (rest_of_a
 
 module _ (P : MadeValue → Type 0) where
   -- .. holds of each entry, where it holds of what each caller made
-  all_made : (given : ℕ) (es : List EntryValue) → All (IsOfGiven given) es → ((n : ℕ) → IsGiven given n → AllByRecursion P (made_by n es)) → AllByRecursion P (made_in es)
+  pub all_made : (given : ℕ) (es : List EntryValue) → All (IsOfGiven given) es → ((n : ℕ) → IsGiven given n → AllByRecursion P (made_by n es)) → AllByRecursion P (made_in es)
   all_made given [] all by = tt
   all_made given (e ∷ es) all by = (here (nat_eq e.by e.by) (eq-eqb e.by e.by refl) (by e.by (first_of_all (IsOfGiven given) e es all)), all_made given es (rest_of_all (IsOfGiven given) e es all) (λ n g. later n (nat_eq e.by n) (by n g)))
     where
@@ -52,7 +52,7 @@ module _ (P : MadeValue → Type 0) where
       later n true x = x.1
       later n false x = x
 
-  made_by_one : (history : List EntryValue) (callers : List CallerValue) (n : ℕ) → count_by (λ (c : CallerValue). nat_eq n c.number) callers ≡ 1
+  pub made_by_one : (history : List EntryValue) (callers : List CallerValue) (n : ℕ) → count_by (λ (c : CallerValue). nat_eq n c.number) callers ≡ 1
       → All (λ (c : CallerValue). IsMadeIn history c × AllByRecursion P c.made) callers → AllByRecursion P (made_by n history)
   made_by_one history callers n once all =
       let c = one_of (λ (c : CallerValue). nat_eq n c.number) (λ (c : CallerValue). IsMadeIn history c × AllByRecursion P c.made) callers once all in

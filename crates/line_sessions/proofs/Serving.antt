@@ -4,7 +4,6 @@ use Rattle.std.proofs.lemmas.Option.{IfSome_then}
 use Rattle.std.specs.Io.KnownBytes.{Keeps}
 use Rattle.sled_store.specs.Crash.{Crashes}
 use Rattle.sled_pages.specs.Memory.{store_of, flush_number_of, empty_store}
-use Rattle.sled_nodes.specs.Order.{Key}
 use Rattle.sled_store.specs.Store.{Store}
 use Rattle.sled_pages.specs.declared.memory.MemPages.{MemPages}
 use Rattle.sled_model.specs.State.{default_name}
@@ -12,6 +11,7 @@ use Rattle.sled.specs.Calls.{IsHandle}
 use Rattle.sled.specs.Opens.{Opens}
 use Rattle.sled.specs.Operators.{without_operators}
 use Rattle.sled.specs.Values.{DbValue}
+use Rattle.sled.proofs.Operating.{bare_opens}
 use Rattle.line_words.specs.Print.{Prints}
 use Rattle.line_sessions.specs.Serve.{lines_of, no_meaning, recovered_text, OpensSession, ToTheEnd, ToABadLine, ToACrash, Served}
 use Rattle.line_sessions.specs.theory.Serve.{LivesOn, LivedFrom, ServesOn, ServesFrom}
@@ -21,31 +21,6 @@ use Rattle.line_sessions.specs.declared.lines.End.{End}
 use Rattle.line_sessions.specs.declared.lines.End.TheVariants as end
 use Rattle.line_sessions.specs.declared.session.Session.{Session}
 use Rattle.line_sessions.proofs.Printing.{prints_then, prints_kept}
-
--- a database that was opened is so too without its operators, since it has none
-pub opens_without : {P M N : Type 0} (store : P → Store) (before : Store) (called : Key) (d : DbValue P M) → Opens store before called d → Opens {M = N} store before called (without_operators d)
-opens_without store before called d o = record {
-  middle = o.middle;
-  grows = o.grows;
-  flushes = o.flushes;
-  left = o.left;
-  maps = o.maps;
-  fresh = o.fresh;
-  names = o.names;
-  numbers = o.numbers;
-  ascends = o.ascends;
-  each = o.each;
-  given = o.given;
-  ids = o.ids;
-  operators = refl;
-  queues = o.queues;
-  no_group = o.no_group;
-  name = o.name;
-  mark = o.mark;
-  recovered = o.recovered;
-  readable = o.readable;
-  faults = o.faults;
-}
 
 -- a session that lived over these lines, after the first thing that it printed
 pub lived_from : (before : Store) (s last : Session MemPages NoOperator) (here : Place) (held : Option (List ℕ)) (gathered : List ℕ) (e : End) (there : Place) → OpensSession before s → Prints here.held here.gathered held gathered (recovered_text before.recovered)
@@ -66,7 +41,7 @@ pub lived : {B : Type 0} (before : Store) (db : DbValue MemPages B) (d out : DbV
     → IfSome here.left (LivesOn store_of flush_number_of no_meaning s (record { number = here.number; left = here.left; held = held; gathered = gathered }) e last there)
     → out ≡ last.machine.db → left ≡ out.pages → LivedFrom before here e (store_of left) there
 lived before db d out s last here held gathered e there left opens without same tree flights given slots first lives taken pages =
-    let over : Opens store_of before (codes "sledrun") s.machine.db = subst (λ (z : DbValue MemPages NoOperator). Opens store_of before (codes "sledrun") z) (sym (same ∙ without)) (opens_without store_of before (codes "sledrun") db opens) in
+    let over : Opens store_of before (codes "sledrun") s.machine.db = subst (λ (z : DbValue MemPages NoOperator). Opens store_of before (codes "sledrun") z) (sym (same ∙ without)) (bare_opens store_of before (codes "sledrun") db opens) in
     subst (λ (z : Store). LivedFrom before here e z there) (sym (ap store_of (pages ∙ ap (λ (z : DbValue MemPages NoOperator). z.pages) taken)))
     (lived_from before s last here held gathered e there
     (record { opens = over; tree = subst (λ (z : DbValue MemPages NoOperator). IsHandle z default_name s.tree) (sym same) tree; flights = flights; given = given; slots = slots })

@@ -242,7 +242,7 @@ impl<P: Pages, M: MergeOperator> Machine<P, M> {
     where
         F: Fn(&mut TransactionalTree<'_, P>) -> R,
         requires { CanTransact P.store M.meant (F.pre f) self.old.db tree.now }
-        ensures runs { TransactionRuns P.store P.flush_number M.meant F.Fn R.result_of f self.old.db tree.now result self.new.db }
+        ensures runs { TransactionRuns P.store M.meant F.Fn R.result_of f self.old.db tree.now result self.new.db }
         ensures same { self.new ≡ record (self.old) { db = self.new.db } }
     {
         self.db.run_transaction(tree, f)
@@ -265,7 +265,7 @@ impl<P: Pages, M: MergeOperator> Machine<P, M> {
     where
         F: Fn(&mut TransactionalTrees<'_, P>) -> R,
         requires { CanTransactAll P.store M.meant (F.pre f) self.old.db (trees_of_list trees.now) }
-        ensures runs { ListRuns P.store P.flush_number M.meant F.Fn R.result_of f self.old.db (trees_of_list trees.now) result self.new.db }
+        ensures runs { ListRuns P.store M.meant F.Fn R.result_of f self.old.db (trees_of_list trees.now) result self.new.db }
         ensures same { self.new ≡ record (self.old) { db = self.new.db } }
     {
         self.db.run_transaction_all(trees, f)

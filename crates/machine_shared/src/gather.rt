@@ -8,6 +8,7 @@ ghost use Rattle.machine_shared.specs.UnderLock.{IsHeld};
 use crate::compare::{all_agree, are_all, are_same_collections, has_no_others};
 use crate::db::Db;
 use crate::handle::Handle;
+use crate::locked::locked;
 use crate::state::State;
 use sled_model::{Collection, MergeOperator};
 use sled_store::Pages;
@@ -118,7 +119,7 @@ impl<P: Pages, L: Ledger, M: MergeOperator> Db<P, L, M> {
         if Arc::strong_count(&self.lock) != 1 {
             return None;
         }
-        let mut guard = self.lock.lock(rt);
+        let mut guard = locked(rt, &self.lock);
         take_begun(&mut *guard, self.opening.as_slice())
     }
 
@@ -133,7 +134,7 @@ impl<P: Pages, L: Ledger, M: MergeOperator> Db<P, L, M> {
         if !are_all(handles, self.before, self.given) {
             return None;
         }
-        let mut guard = self.lock.lock(rt);
+        let mut guard = locked(rt, &self.lock);
         let last = self.before + self.given;
         take_agreeing(&mut *guard, handles, last, self.opening.as_slice())
     }

@@ -16,6 +16,7 @@ ghost use Rattle.machine_shared.specs.WholeNotes.{AddsWhole};
 use crate::called::{Stepped, begin_on, step_on};
 use crate::caller::Caller;
 use crate::entry::Made;
+use crate::locked::locked;
 use crate::noting::{Jobs, copies_of};
 use crate::state::State;
 use crate::steps::{abandon_in, begin_in, fetch_adding, step_adding, whole_adding};
@@ -96,7 +97,7 @@ impl<P: Pages, L: Ledger, M: MergeOperator> Handle<P, L, M> {
         ensures same { self.new ≡ self.old }
         ensures begins { BeginsUnderLock P.store P.flush_number M.meant tree.now call result }
     {
-        let mut guard = self.lock.lock(rt);
+        let mut guard = locked(rt, &self.lock);
         let begun = begin_in(&mut *guard, tree, call);
         drop(guard);
         begun
@@ -114,7 +115,7 @@ impl<P: Pages, L: Ledger, M: MergeOperator> Handle<P, L, M> {
         ensures number { self.new.number ≡ self.old.number }
         ensures steps { StepsUnderLock P.store P.flush_number M.meant slot result self.old self.new }
     {
-        let mut guard = self.lock.lock(rt);
+        let mut guard = locked(rt, &self.lock);
         let outcome = step_adding(&mut *guard, &mut self.me, slot);
         drop(guard);
         outcome
@@ -131,7 +132,7 @@ impl<P: Pages, L: Ledger, M: MergeOperator> Handle<P, L, M> {
         ensures same { self.new ≡ self.old }
         ensures abandons { AbandonsUnderLock P.store P.flush_number M.meant slot result }
     {
-        let mut guard = self.lock.lock(rt);
+        let mut guard = locked(rt, &self.lock);
         let outcome = abandon_in(&mut *guard, slot);
         drop(guard);
         outcome
@@ -150,7 +151,7 @@ impl<P: Pages, L: Ledger, M: MergeOperator> Handle<P, L, M> {
         ensures number { self.new.number ≡ self.old.number }
         ensures wholes { WholesUnderLock P.store P.flush_number M.meant whole result self.old self.new }
     {
-        let mut guard = self.lock.lock(rt);
+        let mut guard = locked(rt, &self.lock);
         let outcome = whole_adding(&mut *guard, &mut self.me, whole);
         drop(guard);
         outcome
@@ -172,7 +173,7 @@ impl<P: Pages, L: Ledger, M: MergeOperator> Handle<P, L, M> {
         ensures number { self.new.number ≡ self.old.number }
         ensures under_lock { FetchesUnderLock P.store M.meant tree.now key.now result self.old self.new }
     {
-        let mut guard = self.lock.lock(rt);
+        let mut guard = locked(rt, &self.lock);
         let fetched = fetch_adding(&mut *guard, &mut self.me, tree, key, f);
         drop(guard);
         fetched
@@ -253,7 +254,7 @@ impl<P: Pages, L: Ledger, M: MergeOperator> Handle<P, L, M> {
         ensures ends { EndsStepped P.store P.flush_number M.meant tree.now call result self.old self.new }
         ensures began { BeganStepped P.store P.flush_number M.meant tree.now call result }
     {
-        let mut guard = self.lock.lock(rt);
+        let mut guard = locked(rt, &self.lock);
         let stepped = begin_on(&mut *guard, &mut self.me, tree, call, jobs);
         drop(guard);
         stepped
@@ -268,7 +269,7 @@ impl<P: Pages, L: Ledger, M: MergeOperator> Handle<P, L, M> {
         ensures number { self.new.number ≡ self.old.number }
         ensures ends { EndsStepped P.store P.flush_number M.meant jobs.0.tree jobs.0.call result self.old self.new }
     {
-        let mut guard = self.lock.lock(rt);
+        let mut guard = locked(rt, &self.lock);
         let stepped = step_on(&mut *guard, &mut self.me, slot, jobs);
         drop(guard);
         stepped

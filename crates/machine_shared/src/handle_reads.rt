@@ -12,6 +12,7 @@ ghost use Rattle.machine_shared.specs.declared.read.Read.TheVariants as read;
 ghost use Rattle.machine_shared.specs.UnderLock.{ReadsUnderLock};
 
 use crate::handle::Handle;
+use crate::locked::locked;
 use crate::read::{Answer, Question};
 use crate::state_reads::{export_in, read_in, tree_names_in, value_in};
 use crate::told::{Collections, Names, Pairs};
@@ -102,7 +103,7 @@ impl<P: Pages, L: Ledger, M: MergeOperator> Handle<P, L, M> {
         ensures number { self.new.number ≡ self.old.number }
         ensures looks { ReadsUnderLock P.store M.meant (tree.now ∷ []) (λ answer. read.Tree tree.now question answer) result self.old self.new }
     {
-        let mut guard = self.lock.lock(rt);
+        let mut guard = locked(rt, &self.lock);
         let answer = read_in(&mut *guard, &mut self.me, tree, question);
         drop(guard);
         answer
@@ -115,7 +116,7 @@ impl<P: Pages, L: Ledger, M: MergeOperator> Handle<P, L, M> {
         ensures number { self.new.number ≡ self.old.number }
         ensures looks { ReadsUnderLock P.store M.meant (tree.now ∷ []) (λ it. read.Tree tree.now (asks.Get key) (told.Value it)) result self.old self.new }
     {
-        let mut guard = self.lock.lock(rt);
+        let mut guard = locked(rt, &self.lock);
         let value = value_in(&mut *guard, &mut self.me, tree, key);
         drop(guard);
         value
@@ -327,7 +328,7 @@ impl<P: Pages, L: Ledger, M: MergeOperator> Handle<P, L, M> {
         ensures number { self.new.number ≡ self.old.number }
         ensures looks { ReadsUnderLock P.store M.meant [] read.Names result self.old self.new }
     {
-        let mut guard = self.lock.lock(rt);
+        let mut guard = locked(rt, &self.lock);
         let names = tree_names_in(&mut *guard, &mut self.me);
         drop(guard);
         names
@@ -345,7 +346,7 @@ impl<P: Pages, L: Ledger, M: MergeOperator> Handle<P, L, M> {
         ensures number { self.new.number ≡ self.old.number }
         ensures looks { ReadsUnderLock P.store M.meant [] read.Export result self.old self.new }
     {
-        let mut guard = self.lock.lock(rt);
+        let mut guard = locked(rt, &self.lock);
         let all = export_in(&mut *guard, &mut self.me);
         drop(guard);
         all

@@ -41,6 +41,7 @@ mod handle_reads;
 mod handle_wholes;
 mod kept;
 mod lists;
+mod locked;
 mod noting;
 mod pages;
 mod range_pages;

@@ -1,7 +1,6 @@
 //! Transactions of several trees by a caller.
-ghost use Rattle.std.specs.Prelude.{◌≡◌, ◌&&◌, IfErr, IfOk, OnOk, OnErr};
+ghost use Rattle.std.specs.Prelude.{◌≡◌, ◌&&◌, IfErr, OnOk, OnErr};
 ghost use Rattle.std.specs.List.{zip};
-ghost use Rattle.sled_nodes.specs.declared.error.Error.TheVariants.{NoMemory};
 ghost use Rattle.sled_model.specs.State.{maps_of};
 ghost use Rattle.sled.specs.Transactions.{has_trees, trees_of_list};
 ghost use Rattle.sled.specs.Values.{db_state};
@@ -12,16 +11,17 @@ ghost use Rattle.machine_shared.specs.theory.Transacting.{AddsCommit, StopsCommi
 
 use crate::caller::Caller;
 use crate::handle::Handle;
+use crate::locked::locked;
 use crate::state::State;
 use crate::transactions::commit;
 use sled::{
     Commit, Overlays, TransactionAnswer, TransactionError, TransactionResult, TransactionalTrees,
+    group_of,
 };
 use sled_batch::Batch;
 use sled_model::{MergeOperator, Tree};
 use sled_nodes::{Error, Result};
 use sled_store::Pages;
-use std::alloc::Global;
 use std::sync::Wait;
 use std::sync::ledger::Ledger;
 
@@ -43,28 +43,6 @@ impl<P: Pages, L: Ledger, M: MergeOperator> State<P, L, M> {
         self.machine.audit();
         self.machine.run_transaction_all(trees, f)
     }
-}
-
-// What was written of each tree of a list, as a group.
-fn group_of(alloc: Global, trees: &[&Tree], writes: Vec<Batch>) -> Result<Vec<(Tree, Batch)>>
-    ensures ok { IfOk result (λ group. group.items ≡ zip (trees_of_list trees.now) writes.items) }
-    ensures err { IfErr result (λ e. e ≡ NoMemory) }
-{
-    let mut group = Vec::new(alloc);
-    for batch in writes {
-        let Some(&tree) = trees.get(group.len()) else {
-            drop(batch);
-            return Ok(group);
-        };
-        match tree.clone() {
-            Ok(tree) => group.push((tree, batch))?,
-            Err(e) => {
-                drop(batch);
-                return Err(e);
-            }
-        }
-    }
-    Ok(group)
 }
 
 // Whether a flush follows a transaction of these trees.
@@ -190,7 +168,7 @@ impl<P: Pages, L: Ledger, M: MergeOperator> Handle<P, L, M> {
         ensures number { self.new.number ≡ self.old.number }
         ensures under_lock { TransactsUnderLock P.store P.flush_number M.meant (fails_tests_of_list P.store M.meant (trees_of_list trees.now)) (RunsOverAll P.store M.meant F.Fn R.result_of f (trees_of_list trees.now)) (zip (trees_of_list trees.now)) (has_trees (trees_of_list trees.now)) (R.answer_of result) self.old self.new }
     {
-        let mut guard = self.lock.lock(rt);
+        let mut guard = locked(rt, &self.lock);
         let ended = transact_all_in(&mut *guard, &mut self.me, trees, f);
         drop(guard);
         R::ended(ended)

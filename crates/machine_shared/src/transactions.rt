@@ -14,6 +14,7 @@ ghost use Rattle.machine_shared.specs.theory.Transacting.{AddsCommit, AddsFlush,
 use crate::caller::Caller;
 use crate::grouping::decided;
 use crate::handle::Handle;
+use crate::locked::locked;
 use crate::state::State;
 use sled::{Commit, TransactionAnswer, TransactionError, TransactionResult, TransactionalTree};
 use sled_batch::Batch;
@@ -219,7 +220,7 @@ impl<P: Pages, L: Ledger, M: MergeOperator> Handle<P, L, M> {
         ensures number { self.new.number ≡ self.old.number }
         ensures under_lock { TransactsUnderLock P.store P.flush_number M.meant (fails_tests P.store M.meant tree.now) (RunsOver P.store M.meant F.Fn R.result_of f tree.now) (batches_of_tree tree.now) true (R.answer_of result) self.old self.new }
     {
-        let mut guard = self.lock.lock(rt);
+        let mut guard = locked(rt, &self.lock);
         let ended = transact_in(&mut *guard, &mut self.me, tree, f);
         drop(guard);
         R::ended(ended)

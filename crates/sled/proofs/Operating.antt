@@ -23,6 +23,7 @@ use Rattle.sled_tree.specs.theory.StageAction.{FlightStepBy, Only}
 use Rattle.sled.specs.Values.{DbValue, numbers_of, given_to, named, state_of, db_state}
 use Rattle.sled.specs.Sound.{IsDb}
 use Rattle.sled.specs.Calls.{MustBeRefused, must_be_refused_as}
+use Rattle.sled.specs.Opens.{Opens}
 use Rattle.sled.specs.Operators.{OperatorSet, OperatorNotSet, without_operators}
 use Rattle.tree_lists.specs.theory.Operators.{with_operator}
 use Rattle.tree_lists.proofs.Operating.{find_set, find_other}
@@ -179,3 +180,28 @@ set_db_told store meant inside old e db tree operator (Err x) operators must is 
 -- what holds of a database holds of it without its operators
 pub bare_db : {P M N : Type 0} (store : P → Store) (d : DbValue P M) → IsDb store d → IsDb store (without_operators {N = N} d)
 bare_db store d s = record { forest = s.forest; is = s.is; sized = s.sized; safe = s.safe; ascends = s.ascends; default = s.default; ungiven = λ n above. refl; calm = s.calm; ids = s.ids }
+
+-- so it is opened without them, since no tree has one then
+pub bare_opens : {P M N : Type 0} (store : P → Store) (before : Store) (name : Key) (d : DbValue P M) → Opens store before name d → Opens store before name (without_operators {N = N} d)
+bare_opens store before name d o = record {
+  middle = o.middle;
+  grows = o.grows;
+  flushes = o.flushes;
+  left = o.left;
+  maps = o.maps;
+  fresh = o.fresh;
+  names = o.names;
+  numbers = o.numbers;
+  ascends = o.ascends;
+  each = o.each;
+  given = o.given;
+  ids = o.ids;
+  operators = refl;
+  queues = o.queues;
+  no_group = o.no_group;
+  name = o.name;
+  mark = o.mark;
+  recovered = o.recovered;
+  readable = o.readable;
+  faults = o.faults;
+}

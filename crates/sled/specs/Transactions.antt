@@ -112,25 +112,25 @@ abbrev pub CanTransact : {P M : Type 0} → (P → Store) → (M → Merge) → 
 CanTransact store meant requires_of old tree =
     must_refuse_of (db_state store meant old) (tree ∷ []) ≡ None → (root : ℕ) → (now (store old.pages)).roots tree.name ≡ Some root → CanBegin (Begins store root) requires_of (store old.pages) old.greatest_id
 
-module _ {P M F R A E : Type 0} (store : P → Store) (flush_number : P → ℕ) (meant : M → Merge) (says : Closure F (TransactionalTree P) R) (result_of : R → Answer A E) (f : F) (old : DbValue P M) (tree : Tree) where
-  -- the tests of its tree
-  abbrev pub tests_tree : Error → Type 0
-  tests_tree e = MustBeRefused (must_refuse_of (db_state store meant old) (tree ∷ [])) e
+-- the tests before a transaction of the tree
+abbrev pub tests_tree : {P M : Type 0} → (P → Store) → (M → Merge) → DbValue P M → Tree → Error → Type 0
+tests_tree store meant old tree e = MustBeRefused (must_refuse_of (db_state store meant old) (tree ∷ [])) e
 
+-- the closure of a transaction of the tree is run, and nothing is written
+abbrev pub TransactionRuns : {P M F R A E : Type 0} → (P → Store) → (M → Merge) → Closure F (TransactionalTree P) R → (R → Answer A E) → F → DbValue P M → Tree → Result (Commit A Writes) (TransactionError E) → DbValue P M → Type 0
+TransactionRuns store meant says result_of f old tree ended new = runs_as store meant (tests_tree store meant old tree) (RunsOnTree store meant says result_of f old tree) old ended new
+
+module _ {P M F R A E : Type 0} (store : P → Store) (flush_number : P → ℕ) (meant : M → Merge) (says : Closure F (TransactionalTree P) R) (result_of : R → Answer A E) (f : F) (old : DbValue P M) (tree : Tree) where
   abbrev pub batch_of : Writes → List (Tree × Writes)
   batch_of writes = (tree, writes) ∷ []
 
-  -- the closure of a transaction of the tree is run, and nothing is written
-  abbrev pub TransactionRuns : Result (Commit A Writes) (TransactionError E) → DbValue P M → Type 0
-  TransactionRuns ended new = runs_as store meant tests_tree (RunsOnTree store meant says result_of f old tree) old ended new
-
   -- a transaction of the tree is made, with this answer
   abbrev pub TransactionMade : A → DbValue P M → Type 0
-  TransactionMade answer new = Commits store flush_number meant tests_tree (RunsOnTree store meant says result_of f old tree) batch_of true old answer new
+  TransactionMade answer new = Commits store flush_number meant (tests_tree store meant old tree) (RunsOnTree store meant says result_of f old tree) batch_of true old answer new
 
   -- .. or it is aborted or refused
   abbrev pub TransactionNotMade : TransactionError E → DbValue P M → Type 0
-  TransactionNotMade e new = Fails store flush_number meant tests_tree (RunsOnTree store meant says result_of f old tree) batch_of true old e new
+  TransactionNotMade e new = Fails store flush_number meant (tests_tree store meant old tree) (RunsOnTree store meant says result_of f old tree) batch_of true old e new
 
 -- ---- of a list of trees
 
@@ -170,22 +170,22 @@ abbrev pub CanTransactAll : {P M : Type 0} → (P → Store) → (M → Merge) �
 CanTransactAll store meant requires_of old trees =
     must_refuse_of (db_state store meant old) trees ≡ None → (roots : List ℕ) → map (λ (t : Tree). (now (store old.pages)).roots t.name) trees ≡ map Some roots → CanBegin (BeginsAll store roots) requires_of (store old.pages) old.greatest_id
 
+-- the tests before a transaction of the trees, or there is no memory for the list of their roots
+abbrev pub tests_list : {P M : Type 0} → (P → Store) → (M → Merge) → DbValue P M → List Tree → Error → Type 0
+tests_list store meant old trees e = RefusesList (must_refuse_of (db_state store meant old) trees) e
+
+-- the closure of a transaction of the trees is run, and nothing is written
+abbrev pub ListRuns : {P M F R A E : Type 0} → (P → Store) → (M → Merge) → Closure F (TransactionalTrees P) R → (R → Answer A E) → F → DbValue P M → List Tree → Result (Commit A (List Writes)) (TransactionError E) → DbValue P M → Type 0
+ListRuns store meant says result_of f old trees ended new = runs_as store meant (tests_list store meant old trees) (RunsOnList store meant says result_of f old trees) old ended new
+
 module _ {P M F R A E : Type 0} (store : P → Store) (flush_number : P → ℕ) (meant : M → Merge) (says : Closure F (TransactionalTrees P) R) (result_of : R → Answer A E) (f : F) (old : DbValue P M) (trees : List Tree) where
-  -- the tests of its trees, or there is no memory for the list of their roots
-  abbrev pub tests_list : Error → Type 0
-  tests_list e = RefusesList (must_refuse_of (db_state store meant old) trees) e
-
-  -- the closure of a transaction of the trees is run, and nothing is written
-  abbrev pub ListRuns : Result (Commit A (List Writes)) (TransactionError E) → DbValue P M → Type 0
-  ListRuns ended new = runs_as store meant tests_list (RunsOnList store meant says result_of f old trees) old ended new
-
   -- a transaction of the trees is made, with this answer: of each tree what was written at its position, in the order of the list
   abbrev pub ListMade : A → DbValue P M → Type 0
-  ListMade answer new = Commits store flush_number meant tests_list (RunsOnList store meant says result_of f old trees) (zip trees) (has_trees trees) old answer new
+  ListMade answer new = Commits store flush_number meant (tests_list store meant old trees) (RunsOnList store meant says result_of f old trees) (zip trees) (has_trees trees) old answer new
 
   -- .. or it is aborted or refused
   abbrev pub ListNotMade : TransactionError E → DbValue P M → Type 0
-  ListNotMade e new = Fails store flush_number meant tests_list (RunsOnList store meant says result_of f old trees) (zip trees) (has_trees trees) old e new
+  ListNotMade e new = Fails store flush_number meant (tests_list store meant old trees) (RunsOnList store meant says result_of f old trees) (zip trees) (has_trees trees) old e new
 
 -- ---- reads inside, as reads of the map
 

@@ -44,7 +44,7 @@ pub use sled_nodes::{
 pub use sled_pages::MemPages;
 pub use sled_store::{Page, Pages, View, law_given, law_sealed};
 pub use sled_tree::{InFlight, Job, Stage, Went};
-pub use transaction::law_shows;
+pub use transaction::{group_of, law_shows};
 pub use tree_check::{findings, verify_integrity};
 pub use tree_pages::Stats;
 pub use tree_reads::{Iter, Keys, Reads, Values, law_bytes, law_prefix};

@@ -25,8 +25,16 @@ use tree_transactions::{
     TransactionalTrees, transact, transact_all,
 };
 
-// What was written of each tree of a list, as a group. Refused with `NoMemory` alone.
-fn group_of(alloc: Global, trees: &[&Tree], writes: Vec<Batch>) -> Result<Vec<(Tree, Batch)>>
+/// What was written of each tree of a list, as a group that `apply_group` makes: each batch with the tree at its position. A batch or a tree
+/// that has no partner is left out. Refused with `NoMemory` alone. Our own.
+///
+/// ```
+/// if let Ok(commit) = ended {
+///     let group = group_of(alloc, &[&ready, &done], commit.writes.into_batches())?;
+///     db.apply_group(group.as_slice())?; // What `run_transaction_all` handed back is made, all or nothing.
+/// }
+/// ```
+pub fn group_of(alloc: Global, trees: &[&Tree], writes: Vec<Batch>) -> Result<Vec<(Tree, Batch)>>
     ensures ok { IfOk result (λ group. group.items ≡ zip (trees_of_list trees.now) writes.items) }
     ensures err { IfErr result (λ e. e ≡ NoMemory) }
 {
@@ -197,7 +205,7 @@ impl<P: Pages, M: MergeOperator> Db<P, M> {
     where
         F: Fn(&mut TransactionalTree<'_, P>) -> R,
         requires { CanTransact P.store M.meant (F.pre f) self.old tree.now }
-        ensures { TransactionRuns P.store P.flush_number M.meant F.Fn R.result_of f self.old tree.now result self.new }
+        ensures { TransactionRuns P.store M.meant F.Fn R.result_of f self.old tree.now result self.new }
     {
         let root = match self.root_of(tree) {
             Ok(root) => root,
@@ -228,7 +236,7 @@ impl<P: Pages, M: MergeOperator> Db<P, M> {
     where
         F: Fn(&mut TransactionalTrees<'_, P>) -> R,
         requires { CanTransactAll P.store M.meant (F.pre f) self.old (trees_of_list trees.now) }
-        ensures { ListRuns P.store P.flush_number M.meant F.Fn R.result_of f self.old (trees_of_list trees.now) result self.new }
+        ensures { ListRuns P.store M.meant F.Fn R.result_of f self.old (trees_of_list trees.now) result self.new }
     {
         let roots = match self.roots_of(trees) {
             Ok(roots) => roots,

@@ -2,7 +2,7 @@
 use machine_alone::Machine;
 use sled::{
     Commit, ConflictableTransactionError, Db, MemPages, Overlays, TransactionError,
-    TransactionResult, UnabortableTransactionError,
+    TransactionResult, UnabortableTransactionError, group_of,
 };
 use sled_batch::Batch;
 use sled_model::Tree;
@@ -131,8 +131,13 @@ fn run_alone(db: &mut Db<MemPages>, tree: &Tree) -> Result<(usize, bool, bool)> 
     Ok((count, before, db.contains_key(tree, b"alone")?))
 }
 
-// How many batches are handed back of a closure at two trees, and how many writes of the second one.
-fn run_alone_at_both(db: &mut Db<MemPages>, from: &Tree, to: &Tree) -> Result<(usize, usize)> {
+// How many batches are handed back of a closure at two trees, how many writes of the second one, and whether its key is there once they
+// are made as a group.
+fn run_alone_at_both(
+    db: &mut Db<MemPages>,
+    from: &Tree,
+    to: &Tree,
+) -> Result<(usize, usize, bool)> {
     let ended: WroteAll = db.run_transaction_all(&[from, to], |both| {
         both.insert(1, b"alone", b"1")?;
         both.remove(1, b"ulm")?;
@@ -141,11 +146,13 @@ fn run_alone_at_both(db: &mut Db<MemPages>, from: &Tree, to: &Tree) -> Result<(u
     let Ok(commit) = ended else {
         return Err(Error::NoMemory);
     };
-    let batches = commit.writes.into_batches();
-    let count = batches.len();
-    let second = batches.get(1).map_or(0, |batch| batch.len());
-    drop(batches);
-    Ok((count, second))
+    let group = group_of(db.allocator(), &[from, to], commit.writes.into_batches())?;
+    let count = group.len();
+    let second = group.get(1).map_or(0, |(_, batch)| batch.len());
+    let made = db.apply_group(group.as_slice());
+    drop(group);
+    made?;
+    Ok((count, second, db.contains_key(to, b"alone")?))
 }
 
 // The same by a machine: how many writes of the tree, and how many batches of a list of one.

@@ -1,6 +1,6 @@
 use Rattle.std.proofs.Common.{inr}
 use Rattle.sled_files.specs.Stored.{stored_as}
-use Rattle.sled_path.proofs.Named.{opens_alike}
+use Rattle.sled.proofs.Operating.{bare_opens}
 use Rattle.sled_path.proofs.once.open_once.Goals as goal
 
 pub returns-in-Ok-open_checked-clause-ok : goal.returns-in-Ok-open_checked-clause-ok
@@ -10,7 +10,7 @@ returns-in-Ok-open_checked-clause-ok g c = let pages = c.in-Ok-open_mended.pages
       store = stored_as pages;
       is = record { first = c.in-Ok.pair.first; second = c.in-Ok.pair.second; are = c.in-Ok.ensures.whole; opens = c.in-Ok-open_mended.ensures.opens };
       fit = c.in-Ok-open_checked.ensures.fit;
-      opens = opens_alike stored_as (stored_as pages) c.args.name.now c.in-Ok-open_checked.db c.in-Ok-open_checked.ensures.ok;
+      opens = bare_opens stored_as (stored_as pages) c.args.name.now c.in-Ok-open_checked.db c.in-Ok-open_checked.ensures.ok;
     })
 
 pub returns-in-Err-open_checked-clause-err : goal.returns-in-Err-open_checked-clause-err

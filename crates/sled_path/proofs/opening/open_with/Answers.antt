@@ -1,6 +1,6 @@
 use Rattle.std.proofs.Common.{inr}
 use Rattle.sled_files.specs.Stored.{stored_as}
-use Rattle.sled_path.proofs.Named.{opens_alike}
+use Rattle.sled.proofs.Operating.{bare_opens}
 use Rattle.sled_path.proofs.opening.open_with.Goals as goal
 
 pub returns-in-Ok-open_checked-clause-ok : goal.returns-in-Ok-open_checked-clause-ok
@@ -11,7 +11,7 @@ returns-in-Ok-open_checked-clause-ok g c = let pages = c.in-Ok-open.pages in
         store = stored_as pages;
         is = record { first = c.in-Ok.pair.first; second = c.in-Ok.pair.second; are = c.in-Ok.ensures.pair; opens = c.in-Ok-open.ensures.opens };
         fit = c.in-Ok-open_checked.ensures.fit;
-        opens = opens_alike stored_as (stored_as pages) c.args.name.now c.in-Ok-open_checked.db c.in-Ok-open_checked.ensures.ok;
+        opens = bare_opens stored_as (stored_as pages) c.args.name.now c.in-Ok-open_checked.db c.in-Ok-open_checked.ensures.ok;
       };
       meanwhile = c.in-Ok-open.ensures.any_moment;
     })

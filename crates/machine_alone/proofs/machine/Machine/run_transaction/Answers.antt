@@ -18,7 +18,7 @@ run_transaction-requires-after_bounds g c κs within =
     (db_over _ _ c.self.view_is (λ d. OnlyRaises (store d.pages) s) only) (db_over _ _ c.self.view_is (λ d. d.greatest_id ≤ here) le) (db_over _ _ c.self.view_is (λ d. d.greatest_id ≤ (store d.pages).mark → here ≤ s.mark) aside) given begins
 
 pub returns-clause-runs : goal.returns-clause-runs
-returns-clause-runs g c = db_over _ _ c.self.view_is (λ d. TransactionRuns g.P.Pages.store g.P.Pages.flush_number g.M.MergeOperator.meant g.F.Fn g.R.TransactionAnswer.result_of c.args.f d c.args.tree.now c.run_transaction.result c.run_transaction.new.self) c.run_transaction.ensures
+returns-clause-runs g c = db_over _ _ c.self.view_is (λ d. TransactionRuns g.P.Pages.store g.M.MergeOperator.meant g.F.Fn g.R.TransactionAnswer.result_of c.args.f d c.args.tree.now c.run_transaction.result c.run_transaction.new.self) c.run_transaction.ensures
 
 pub invariant_of-self : goal.invariant_of-self
 invariant_of-self g c =

@@ -20,7 +20,7 @@ run_transaction_all-requires-after_bounds g c κs within =
     (db_over _ _ c.self.view_is (λ d. OnlyRaises (store d.pages) s) only) (db_over _ _ c.self.view_is (λ d. d.greatest_id ≤ here) le) (db_over _ _ c.self.view_is (λ d. d.greatest_id ≤ (store d.pages).mark → here ≤ s.mark) aside) given begins
 
 pub returns-clause-runs : goal.returns-clause-runs
-returns-clause-runs g c = db_over _ _ c.self.view_is (λ d. ListRuns g.P.Pages.store g.P.Pages.flush_number g.M.MergeOperator.meant g.F.Fn g.R.TransactionAnswer.result_of c.args.f d (trees_of_list c.args.trees.now) c.run_transaction_all.result c.run_transaction_all.new.self) c.run_transaction_all.ensures
+returns-clause-runs g c = db_over _ _ c.self.view_is (λ d. ListRuns g.P.Pages.store g.M.MergeOperator.meant g.F.Fn g.R.TransactionAnswer.result_of c.args.f d (trees_of_list c.args.trees.now) c.run_transaction_all.result c.run_transaction_all.new.self) c.run_transaction_all.ensures
 
 pub invariant_of-self : goal.invariant_of-self
 invariant_of-self g c =
