@@ -1,5 +1,5 @@
 -- What reads under one lock return.
-use Rattle.std.specs.Prelude.{◌≡◌, ◌↔◌, ℕ, ◌≤◌, Bool, true, ◌&&◌, IsTrue, All, List, [], length, map, take, Option, Some, None, is_some}
+use Rattle.std.specs.Prelude.{◌≡◌, ◌↔◌, ◌⊎◌, ℕ, ◌≤◌, Bool, true, ◌&&◌, IsTrue, All, List, [], ◌∷◌, length, map, take, Option, Some, None, is_some}
 use Rattle.std.specs.FinMap.Entries.{find, is_sorted}
 use Rattle.std.specs.declared.ops.Bound.{Bound}
 use Rattle.std.specs.declared.ops.Bound.TheVariants.{Excluded, Unbounded}
@@ -9,12 +9,15 @@ use Rattle.sled_nodes.specs.declared.error.Error.{Error}
 use Rattle.sled_nodes.specs.declared.error.Error.TheVariants.{ReportableBug}
 use Rattle.sled_nodes.specs.declared.texts.TheConstants.{WALK_PASSED_TURNS}
 use Rattle.sled_store.specs.In.{In}
-use Rattle.sled_store.specs.Store.{Store, refuses_read_as}
+use Rattle.sled_store.specs.Store.{Store, now, refuses_read_as}
 use Rattle.sled_model.specs.Collections.{Content, are_trees}
 use Rattle.sled_model.specs.Maps.{Map, Maps}
 use Rattle.sled_model.specs.Refusal.{MustRefuse, tells}
 use Rattle.sled_model.specs.declared.tree.Tree.{Tree}
+use Rattle.tree_laws.specs.Paths.{tree_pages}
 use Rattle.tree_reads.specs.Ranges.{pairs_within}
+use Rattle.tree_reads.specs.Walk.{once, for_each}
+use Rattle.tree_reads.specs.declared.TheConstants.{MOST_PAGES}
 use Rattle.sled.specs.Names.{Ascend}
 use Rattle.machine_shared.specs.Openings.{maps_from}
 use Rattle.machine_shared.specs.Orders.{in_order}
@@ -110,12 +113,17 @@ IsAnswerTo Len answer = IsCount answer
 IsAnswerTo IsEmpty answer = IsFlag answer
 IsAnswerTo (Page lo hi back most) answer = IsPageOf lo hi back most answer
 
--- why a read stops: for want of memory, for a page that is not readable, or for as many pages looked at as may be
-abbrev pub stops_look : Store → Error → Type 0
-stops_look s (ReportableBug text) = text.now ≡ WALK_PASSED_TURNS.now
-stops_look s e = refuses_read_as s e
+-- a read of one tree may look at too many pages: those of the tree, or from right to left their square, reach the limit
+abbrev pub has_too_many : Store → List Tree → Type 0
+has_too_many s (tree ∷ []) = (MOST_PAGES ≤ once (tree_pages (now s) tree.name)) ⊎ (MOST_PAGES ≤ for_each (tree_pages (now s) tree.name))
+has_too_many s trees = ⊥
+
+-- why a read of trees stops: for want of memory, for a page that is not readable, or for as many pages looked at as may be
+abbrev pub stops_look : Store → List Tree → Error → Type 0
+stops_look s trees (ReportableBug text) = (text.now ≡ WALK_PASSED_TURNS.now) × has_too_many s trees
+stops_look s trees e = refuses_read_as s e
 
 -- .. or why it is refused before, by a test
-abbrev pub refuses_look_as : Store → Option MustRefuse → Error → Type 0
-refuses_look_as s (Some must) e = tells must e
-refuses_look_as s None e = stops_look s e
+abbrev pub refuses_look_as : Store → List Tree → Option MustRefuse → Error → Type 0
+refuses_look_as s trees (Some must) e = tells must e
+refuses_look_as s trees None e = stops_look s trees e

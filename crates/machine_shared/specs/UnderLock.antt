@@ -156,7 +156,7 @@ module _ {P M : Type 0} (store : P → Store) (meant : M → Merge) where
   -- a read of these trees is refused: by the first test that fails; or if none fails for want of memory, for a page that is not readable,
   -- or for as many pages looked at as may be
   pub record RefusesNow (m : MachineValue P M) (trees : List Tree) (e : Error) : Type 0 where
-    pub is : refuses_look_as (store m.db.pages) (must_refuse_of (db_state store meant m.db) trees) e
+    pub is : refuses_look_as (store m.db.pages) trees (must_refuse_of (db_state store meant m.db) trees) e
 
   -- a read of these trees is noted as this caller's, or it is refused; and nothing else changes
   pub record Looks {A : Type 0} (trees : List Tree) (read_of : A → Read) (result : Result A Error) (me more : CallerValue) (old new : StateValue P M) : Type 0 where

@@ -32,6 +32,7 @@ fn page_in<P: Pages, M: MergeOperator>(
     ensures ok { IfOk result (λ answer. ReadsMap P.store M.meant machine.now.db tree.now (λ map. answers_as map (question.Page lo.now hi.now back most) answer)) }
     ensures err { IfErr result (RefusesNow P.store M.meant machine.now (tree.now ∷ [])) }
 {
+    machine.audit();
     let alloc = machine.db().allocator();
     let mut pairs = match machine.db().range(tree, lend_bound(lo), lend_bound(hi)) {
         Ok(pairs) => pairs,
@@ -46,7 +47,7 @@ fn page_in<P: Pages, M: MergeOperator>(
 }
 
 // The value at a key.
-#[tactic(auto, using(crate::proofs::Refusing::as_read))]
+#[tactic(auto, using(crate::proofs::Refusing::as_once))]
 fn value_at<P: Pages, M: MergeOperator>(
     machine: &Machine<P, M>,
     tree: &Tree,
@@ -59,7 +60,7 @@ fn value_at<P: Pages, M: MergeOperator>(
 }
 
 // Whether a key is present.
-#[tactic(auto, using(crate::proofs::Refusing::as_read))]
+#[tactic(auto, using(crate::proofs::Refusing::as_once))]
 fn is_there<P: Pages, M: MergeOperator>(
     machine: &Machine<P, M>,
     tree: &Tree,
@@ -72,7 +73,7 @@ fn is_there<P: Pages, M: MergeOperator>(
 }
 
 // The pair with the least key.
-#[tactic(auto, using(crate::proofs::Refusing::as_read))]
+#[tactic(auto, using(crate::proofs::Refusing::as_once))]
 fn first_of<P: Pages, M: MergeOperator>(machine: &Machine<P, M>, tree: &Tree) -> Result<Answer>
     ensures ok { IfOk result (λ answer. ReadsMap P.store M.meant machine.now.db tree.now (λ map. answers_as map question.First answer)) }
     ensures err { IfErr result (RefusesNow P.store M.meant machine.now (tree.now ∷ [])) }
@@ -81,7 +82,7 @@ fn first_of<P: Pages, M: MergeOperator>(machine: &Machine<P, M>, tree: &Tree) ->
 }
 
 // The pair with the greatest key.
-#[tactic(auto, using(crate::proofs::Refusing::as_read))]
+#[tactic(auto, using(crate::proofs::Refusing::as_each))]
 fn last_of<P: Pages, M: MergeOperator>(machine: &Machine<P, M>, tree: &Tree) -> Result<Answer>
     ensures ok { IfOk result (λ answer. ReadsMap P.store M.meant machine.now.db tree.now (λ map. answers_as map question.Last answer)) }
     ensures err { IfErr result (RefusesNow P.store M.meant machine.now (tree.now ∷ [])) }
@@ -90,7 +91,7 @@ fn last_of<P: Pages, M: MergeOperator>(machine: &Machine<P, M>, tree: &Tree) -> 
 }
 
 // The pair just below a key.
-#[tactic(auto, using(crate::proofs::Refusing::as_read))]
+#[tactic(auto, using(crate::proofs::Refusing::as_each))]
 fn below<P: Pages, M: MergeOperator>(
     machine: &Machine<P, M>,
     tree: &Tree,
@@ -103,7 +104,7 @@ fn below<P: Pages, M: MergeOperator>(
 }
 
 // The pair just above a key.
-#[tactic(auto, using(crate::proofs::Refusing::as_read))]
+#[tactic(auto, using(crate::proofs::Refusing::as_once))]
 fn above<P: Pages, M: MergeOperator>(
     machine: &Machine<P, M>,
     tree: &Tree,
@@ -116,7 +117,7 @@ fn above<P: Pages, M: MergeOperator>(
 }
 
 // How many pairs there are.
-#[tactic(auto, using(crate::proofs::Refusing::as_read))]
+#[tactic(auto, using(crate::proofs::Refusing::as_once))]
 fn len_of<P: Pages, M: MergeOperator>(machine: &Machine<P, M>, tree: &Tree) -> Result<Answer>
     ensures ok { IfOk result (λ answer. ReadsMap P.store M.meant machine.now.db tree.now (λ map. answers_as map question.Len answer)) }
     ensures err { IfErr result (RefusesNow P.store M.meant machine.now (tree.now ∷ [])) }
@@ -125,7 +126,7 @@ fn len_of<P: Pages, M: MergeOperator>(machine: &Machine<P, M>, tree: &Tree) -> R
 }
 
 // Whether there is none.
-#[tactic(auto, using(crate::proofs::Refusing::as_read))]
+#[tactic(auto, using(crate::proofs::Refusing::as_once))]
 fn is_nothing<P: Pages, M: MergeOperator>(machine: &Machine<P, M>, tree: &Tree) -> Result<Answer>
     ensures ok { IfOk result (λ answer. ReadsMap P.store M.meant machine.now.db tree.now (λ map. answers_as map question.IsEmpty answer)) }
     ensures err { IfErr result (RefusesNow P.store M.meant machine.now (tree.now ∷ [])) }

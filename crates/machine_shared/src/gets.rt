@@ -141,7 +141,7 @@ fn note_value<L: Ledger>(
 }
 
 // The value at a key now.
-#[tactic(auto, using(crate::proofs::Valued::valued, crate::proofs::Refusing::as_read))]
+#[tactic(auto, using(crate::proofs::Valued::valued, crate::proofs::Refusing::as_once))]
 #[inline(always)]
 fn value_now<P: Pages, M: MergeOperator>(
     machine: &Machine<P, M>,

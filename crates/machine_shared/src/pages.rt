@@ -1,8 +1,7 @@
 //! Pages of a range: its first pairs, from either end.
 ghost use Rattle.std.specs.Prelude.{◌≡◌, take, IfErr, IfOk};
 ghost use Rattle.machine_shared.specs.Orders.{in_order};
-ghost use Rattle.machine_shared.specs.Reads.{stops_look};
-ghost use Rattle.machine_shared.specs.theory.Orders.{Begun, Gives};
+ghost use Rattle.machine_shared.specs.theory.Orders.{Begun, Gives, StopsWalk};
 
 use sled_nodes::{IVec, Result};
 use sled_store::Pages;
@@ -23,6 +22,7 @@ fn next_of<P: Pages>(pairs: &mut Iter<'_, P>, back: bool) -> Option<Result<(IVec
 }
 
 // The pairs that are still to come, in the order in which they are read, so many at the most.
+#[tactic(auto, using(crate::proofs::Paging::stops_before, crate::proofs::Paging::walk_lacks))]
 pub(crate) fn taken<P: Pages>(
     alloc: Global,
     pairs: &mut Iter<'_, P>,
@@ -31,7 +31,7 @@ pub(crate) fn taken<P: Pages>(
 ) -> Result<Vec<(IVec, IVec)>>
     requires { Begun pairs.old }
     ensures ok { IfOk result (λ page. page.items ≡ take most (in_order back pairs.old.pairs)) }
-    ensures err { IfErr result (stops_look (P.store pairs.old.pages)) }
+    ensures err { IfErr result (StopsWalk P.store pairs.old) }
 {
     let mut page = Vec::new(alloc);
     for _place in 0..most {

@@ -29,13 +29,9 @@ use tree_transactions::{
 /// that has no partner is left out. Refused with `NoMemory` alone. Our own.
 ///
 /// ```
-/// let ended: TransactionResult<Commit<(), Overlays>, ()> = db.run_transaction_all(&[&ready, &done], |both| {
-///     both.insert(1, b"ulm", b"21")?;
-///     Ok(())
-/// });
 /// if let Ok(commit) = ended {
 ///     let group = group_of(alloc, &[&ready, &done], commit.writes.into_batches())?;
-///     db.apply_group(group.as_slice())?; // All that the closure wrote is made, or nothing.
+///     db.apply_group(group.as_slice())?; // What `run_transaction_all` handed back is made, all or nothing.
 /// }
 /// ```
 pub fn group_of(alloc: Global, trees: &[&Tree], writes: Vec<Batch>) -> Result<Vec<(Tree, Batch)>>

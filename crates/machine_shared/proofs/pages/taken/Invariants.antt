@@ -8,5 +8,6 @@ invariant-loop-place g l = record {
   begun : Begun l.pairs;
   all : in_order l.back l.initial.pairs.pairs ≡ l.page.items ++ in_order l.back l.pairs.pairs;
   same : l.pairs.pages ≡ l.initial.pairs.pages;
+  root : l.pairs.root ≡ l.initial.pairs.root;
   count : length l.page.items ≡ l._place;
 }
