@@ -1,22 +1,29 @@
 -- A slot that a link changes where it lies.
-use Rattle.std.proofs.Common.{◌≡◌, ℕ, ◌-◌, ◌/◌, ◌%◌, ◌<◌, true, false, cond, nat_le, List, length, Option, Some, None, is_some, IfSome, Result, Ok, Err, IfOk, OnOk, OnErr, refl, sym, ap, subst, ◌∙◌, arith, slice_get, slice_set}
+use Rattle.std.proofs.Common.{◌≡◌, ℕ, ◌-◌, ◌/◌, ◌%◌, ◌<◌, ◌≤◌, true, false, cond, nat_le, List, length, Option, None, Result, Ok, Err, IfOk, OnOk, OnErr, refl, sym, ap, subst, ◌∙◌, arith, slice_get, slice_set}
+use Rattle.std.proofs.lemmas.Bool.{eqb-true}
 use Rattle.std.proofs.lemmas.Bool.Decides.{nat_tests}
+use lib.Dec.{eqb}
 use Rattle.std.specs.BTreeMap.{BTreeMap, get}
 use Rattle.std.specs.Global.{Vec}
 use Rattle.std.specs.Ordering.{nat_cmp}
 use Rattle.sled_nodes.specs.declared.error.Error.{Error}
 use Rattle.sled_nodes.specs.declared.link.Link.{Link}
 use Rattle.sled_store.specs.Update.{put_at}
+use Rattle.sled_store.specs.theory.Facts.{put_here, put_elsewhere}
 use Rattle.sled_pages.specs.Joined.{joined}
 use Rattle.sled_pages.specs.Rows.{rows_of, lies_in, has_in}
 use Rattle.sled_pages.specs.Slots.{slot_in}
 use Rattle.sled_pages.specs.theory.Table.{slot_linked}
 use Rattle.sled_pages.specs.Building.{IsUnused}
-use Rattle.sled_pages.specs.theory.Linking.{Relinked, undo_of}
+use Rattle.sled_pages.specs.theory.Linking.{link_answer, lies_at}
 use Rattle.sled_pages.specs.declared.memory.slots.Slot.{Slot}
 use Rattle.sled_pages.specs.declared.memory.undo.Undo.{Undo}
-use Rattle.sled_pages.proofs.Places.{one_place, own_put, unused_put, unused_same}
+use Rattle.sled_pages.proofs.Places.{one_place, own_put, unused_same}
 use Rattle.sled_pages.proofs.Rows.{rows_set, put_lies, put_has, set_lies}
+
+-- what a link of a slot returns
+abbrev Linking : Type 0
+Linking = Result (Result Undo (Option ℕ)) Error
 
 -- ---- in a list of blocks
 
@@ -31,35 +38,59 @@ module _ (blocks : List (Vec (Option Slot))) (i : ℕ) (old block : Vec (Option 
   pub lies_unchanged : block.items ≡ old.items → lies_in (rows_of (slice_set blocks (i / 64) block)) ≡ lies_in (rows_of blocks)
   lies_unchanged e = set_lies blocks i block within (λ j. ap (λ r. joined (slice_get r j)) (e ∙ sym row))
 
-  pub has_changed : (r : Result Undo Error) → OnOk r (block.items ≡ slice_set old.items (i % 64) (change (joined (slice_get old.items (i % 64))))) → OnErr r (block.items ≡ old.items) →
+  pub has_changed : (r : Linking) → OnOk r (block.items ≡ slice_set old.items (i % 64) (change (joined (slice_get old.items (i % 64))))) → OnErr r (block.items ≡ old.items) →
       has_in (rows_of (slice_set blocks (i / 64) block)) ≡ has_in (rows_of blocks)
-  has_changed (Ok undo) e k = put_has blocks i block within (change (lies_in (rows_of blocks) i)) (set_row e)
+  has_changed (Ok answer) e k = put_has blocks i block within (change (lies_in (rows_of blocks) i)) (set_row e)
   has_changed (Err x) e k = ap has_in (rows_set blocks (i / 64) block within ∙ (ap (put_at (rows_of blocks) (i / 64)) (k ∙ sym row) ∙ sym (one_place (rows_of blocks) (rows_of blocks) (i / 64) (rows_of blocks (i / 64)) refl (λ q h. refl))))
+
+-- what a link answers of the slot at a place
+pub told_in : (blocks : List (Vec (Option Slot))) (i : ℕ) (old : Vec (Option Slot)) → rows_of blocks (i / 64) ≡ old.items → (pid version : ℕ) (r : Linking) →
+    IfOk r (λ answer. answer ≡ link_answer pid version (joined (slice_get old.items (i % 64)))) → IfOk r (λ answer. answer ≡ link_answer pid version (lies_in (rows_of blocks) i))
+told_in blocks i old row pid version r told = subst (λ x. IfOk r (λ answer. answer ≡ link_answer pid version (joined (slice_get x (i % 64))))) (sym row) told
 
 -- ---- by number
 
-module _ (last : ℕ) (foreign : BTreeMap ℕ (Option Slot)) (own new : ℕ → Option Slot) (n p version : ℕ) (link : Link) (same : n ≡ p) (above : last < p) where
+linked_none : (link : Link) (version next : ℕ) (o : Option Slot) → o ≡ None → slot_linked link version next o ≡ None
+linked_none link version next o e = ap (slot_linked link version next) e
+
+-- a page that was added
+module _ (last : ℕ) (foreign : BTreeMap ℕ (Option Slot)) (own new : ℕ → Option Slot) (n p version next : ℕ) (link : Link) (same : n ≡ p) (above : last < p) where
   here : slot_in last foreign own p ≡ own (n - last - 1)
   here = ap (λ b. cond b (joined (get nat_cmp foreign p)) (own (p - last - 1))) later ∙ ap (λ q. own (q - last - 1)) (sym same)
     where
       later : nat_le p last ≡ false
       later = grind (arith, nat_tests)
 
-  relinked : (undo : Undo) (o : Option Slot) → slot_in last foreign own p ≡ o → is_some o ≡ true → slot_in last foreign new ≡ put_at (slot_in last foreign own) p (slot_linked link version o) →
-      IfSome o (λ was. undo ≡ undo_of p was.version was.page) → Relinked link p version (slot_in last foreign own) (slot_in last foreign new) undo
-  relinked undo None is there changed told = absurd (none there)
-    where
-      none : false ≡ true → ⊥
-      none e = cc
-  relinked undo (Some was) is there changed told = record { before = was.version; page = was.page; was = is; is = changed; told = told }
+  pub own_told : (r : Linking) → IfOk r (λ answer. answer ≡ link_answer p version (own (n - last - 1))) → IfOk r (λ answer. answer ≡ link_answer p version (slot_in last foreign own p))
+  own_told r told = subst (λ o. IfOk r (λ answer. answer ≡ link_answer p version o)) (sym here) told
 
-  pub own_relinked : is_some (slot_in last foreign own p) ≡ true → (r : Result Undo Error) → OnOk r (new ≡ put_at own (n - last - 1) (slot_linked link version (own (n - last - 1)))) →
-      IfOk r (λ undo. IfSome (own (n - last - 1)) (λ was. undo ≡ undo_of p was.version was.page)) → IfOk r (λ undo. Relinked link p version (slot_in last foreign own) (slot_in last foreign new) undo)
-  own_relinked there (Ok undo) e told =
-      relinked undo (own (n - last - 1)) here (ap is_some (sym here) ∙ there)
-      (own_put last foreign own new p (slot_linked link version (own (n - last - 1))) above (e ∙ ap (λ q. put_at own (q - last - 1) (slot_linked link version (own (n - last - 1)))) same)) told
-  own_relinked there (Err x) e told = tt
+  pub own_linked : new ≡ put_at own (n - last - 1) (slot_linked link version next (own (n - last - 1))) → slot_in last foreign new ≡ put_at (slot_in last foreign own) p (slot_linked link version next (slot_in last foreign own p))
+  own_linked e =
+      own_put last foreign own new p (slot_linked link version next (own (n - last - 1))) above (e ∙ ap (λ q. put_at own (q - last - 1) (slot_linked link version next (own (n - last - 1)))) same)
+      ∙ ap (λ o. put_at (slot_in last foreign own) p (slot_linked link version next o)) (sym here)
 
-  pub unused_linked : (given : ℕ) → p - last - 1 < given → (r : Result Undo Error) → OnOk r (new ≡ put_at own (n - last - 1) (slot_linked link version (own (n - last - 1)))) → OnErr r (new ≡ own) → IsUnused given own → IsUnused given new
-  unused_linked given h (Ok undo) e k u = unused_put given own new (n - last - 1) (slot_linked link version (own (n - last - 1))) (subst (λ q. q - last - 1 < given) (sym same) h) e u
-  unused_linked given h (Err x) e k u = unused_same given own new k u
+-- beyond the pages that were added there is none to be changed
+pub unused_linked : (own new : ℕ → Option Slot) (i version next : ℕ) (link : Link) (given : ℕ) (r : Linking) → OnOk r (new ≡ put_at own i (slot_linked link version next (own i))) → OnErr r (new ≡ own) → IsUnused given own → IsUnused given new
+unused_linked own new i version next link given (Ok answer) e k u = record {
+  none = λ q h. ap (λ f. f q) e ∙ elim (eqb q i) as (λ b. eqb q i ≡ b → cond b (slot_linked link version next (own i)) (own q) ≡ None) [
+    | true ↦ λ s. linked_none link version next (own i) (ap own (sym (eqb-true q i s)) ∙ u.none q h)
+    | false ↦ λ s. u.none q h
+  ] refl;
+}
+unused_linked own new i version next link given (Err x) e k u = unused_same given own new k u
+
+-- a page of an image
+module _ (last : ℕ) (foreign new : BTreeMap ℕ (Option Slot)) (own : ℕ → Option Slot) (p version next : ℕ) (link : Link) (within : p ≤ last) where
+  up_to : nat_le p last ≡ true
+  up_to = grind (arith, nat_tests)
+
+  there : slot_in last foreign own p ≡ lies_at foreign p
+  there = ap (λ b. cond b (lies_at foreign p) (own (p - last - 1))) up_to
+
+  pub image_told : (r : Linking) → IfOk r (λ answer. answer ≡ link_answer p version (lies_at foreign p)) → IfOk r (λ answer. answer ≡ link_answer p version (slot_in last foreign own p))
+  image_told r told = subst (λ o. IfOk r (λ answer. answer ≡ link_answer p version o)) (sym there) told
+
+  pub image_linked : ((q : ℕ) → lies_at new q ≡ put_at (lies_at foreign) p (slot_linked link version next (lies_at foreign p)) q) → slot_in last new own ≡ put_at (slot_in last foreign own) p (slot_linked link version next (slot_in last foreign own p))
+  image_linked e = one_place (slot_in last new own) (slot_in last foreign own) p (slot_linked link version next (slot_in last foreign own p))
+      (ap (λ b. cond b (lies_at new p) (own (p - last - 1))) up_to ∙ (e p ∙ (put_here (lies_at foreign) p (slot_linked link version next (lies_at foreign p)) ∙ ap (slot_linked link version next) (sym there))))
+      (λ q k. ap (λ o. cond (nat_le q last) o (own (q - last - 1))) (e q ∙ put_elsewhere (lies_at foreign) p q (slot_linked link version next (lies_at foreign p)) k))

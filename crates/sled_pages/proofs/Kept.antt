@@ -275,3 +275,7 @@ not_placed s p e = elim (places_of s p) as (λ b. places_of s p ≡ b → b ≡ 
 pub short : (slots slots' : ℕ → Option Slot) (roots : Key → Option ℕ) (g : Bool) (log : List Undo) (n f : ℕ) (un : List ℕ) (mk : ℕ) (rc : Bool) (given given' : ℕ → Bool) (nv : ℕ) (old : Store) (e : Error) → e ≡ NoMemory → meaning (with_slots roots g slots) log n f un mk rc given nv ≡ old → slots' ≡ slots → given' ≡ given →
     IsRefused e old (meaning (with_slots roots g slots') log n f un mk rc given' nv)
 short slots slots' roots g log n f un mk rc given given' nv old e no_memory same s p = rw (no_memory, s, p) (record { is = same })
+
+pub stays : (slots slots' : ℕ → Option Slot) (roots : Key → Option ℕ) (g : Bool) (log : List Undo) (n f : ℕ) (un : List ℕ) (mk : ℕ) (rc : Bool) (given given' : ℕ → Bool) (nv : ℕ) → slots' ≡ slots → given' ≡ given →
+    meaning (with_slots roots g slots') log n f un mk rc given' nv ≡ meaning (with_slots roots g slots) log n f un mk rc given nv
+stays slots slots' roots g log n f un mk rc given given' nv s p = rw (s, p) refl

@@ -28,8 +28,8 @@ pub parts_put : (slots new : ℕ → Option Slot) (pid : ℕ) (slot : Option Slo
 parts_put slots new pid slot e = fun_ext (λ q. ap (λ f. option_map page_in (f q)) e
     ∙ elim (eqb q pid) as (λ b. option_map page_in (cond b slot (slots q)) ≡ cond b (option_map page_in slot) (option_map page_in (slots q))) [ true ↦ refl | false ↦ refl ])
 
-pub link_parts : (link : Link) (pid version : ℕ) (slots new : ℕ → Option Slot) (undo : Undo) (old : ℕ → Option Parts) → parts_in slots ≡ old → Relinked link pid version slots new undo → parts_in new ≡ put_at old pid (option_map (linked link) (old pid))
-link_parts link pid version slots new undo old same h =
+pub link_parts : (link : Link) (pid version next : ℕ) (slots new : ℕ → Option Slot) (undo : Undo) (old : ℕ → Option Parts) → parts_in slots ≡ old → Relinked link pid version next slots new undo → parts_in new ≡ put_at old pid (option_map (linked link) (old pid))
+link_parts link pid version next slots new undo old same h =
     parts_put slots new pid _ h.is
     ∙ (ap (put_at (parts_in slots) pid) (ap (λ o. option_map (linked link) (option_map page_in o)) (sym h.was))
     ∙ ap (λ f. put_at f pid (option_map (linked link) (f pid))) same)

@@ -543,18 +543,15 @@ impl Pages for MemPages {
             drop(link);
             return Err(e);
         }
-        if let Err(present) = self.tested(pid, version) {
-            drop(link);
-            return Ok(Err(present));
-        }
-        let given = Version(self.next_version);
-        match self.slots.link(self.alloc, pid, given, link) {
-            Ok(undo) => {
+        let next = Version(self.next_version);
+        match self.slots.link(self.alloc, pid, version, next, link) {
+            Ok(Ok(undo)) => {
                 self.next_version += 1;
                 self.log.push_reserved(undo);
                 self.actions += 1;
-                Ok(Ok(given))
+                Ok(Ok(next))
             }
+            Ok(Err(present)) => Ok(Err(present)),
             Err(e) => Err(e),
         }
     }

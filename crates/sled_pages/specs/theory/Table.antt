@@ -1,5 +1,5 @@
 -- Of Table, for proofs. A store in memory as slots by number, and what its log of undone work says: the state before it, and the actions in it.
-use Rattle.std.specs.Prelude.{◌≡◌, ℕ, ◌<◌, ◌≤◌, true, false, Bool, List, length, take, Option, Some, None}
+use Rattle.std.specs.Prelude.{◌≡◌, ℕ, ◌<◌, ◌≤◌, true, false, Bool, List, length, take, nat_eq, Option, Some, None, if◌then◌else◌}
 use mathlib.Core.List.{reverse}
 use Rattle.sled_nodes.specs.Order.{Key}
 use Rattle.sled_nodes.specs.declared.link.Link.{Link}
@@ -10,10 +10,10 @@ use Rattle.sled_pages.specs.declared.memory.undo.Undo.{Undo}
 use Rattle.sled_store.specs.State.{State, after_all}
 use Rattle.sled_pages.specs.Table.{Table, state_of, base_of, recent_of}
 
--- the slot after a link, at this version
-abbrev pub slot_linked : Link → ℕ → Option Slot → Option Slot
-slot_linked link version None = None
-slot_linked link version (Some s) = Some (record { version = version; page = linked link s.page })
+-- the slot after a link at the next version, if it has this one
+abbrev pub slot_linked : Link → ℕ → ℕ → Option Slot → Option Slot
+slot_linked link version next None = None
+slot_linked link version next (Some s) = if nat_eq s.version version then Some (record { version = next; page = linked link s.page }) else Some s
 
 -- the slot after a link, at this version, without a link
 abbrev pub slot_settled : Link → ℕ → Option Slot → Option Slot

@@ -1,6 +1,6 @@
 //! Slots by place, in blocks of 64 places. A block without slots may be freed: then it takes no memory but for its entry in the list of
 //! blocks, and has no places.
-ghost use Rattle.std.specs.Prelude.{◌≡◌, ℕ, ◌≤◌, ◌<◌, Some, None, true, false, length, is_some, IfSome, IfOk, IfErr, OnOk, OnErr, slice_set};
+ghost use Rattle.std.specs.Prelude.{◌≡◌, ℕ, ◌≤◌, ◌<◌, Some, None, true, false, length, IfOk, IfErr, OnOk, OnErr, slice_set};
 ghost use Rattle.std.specs.List.{slice_get};
 ghost use Rattle.std.specs.Option.{option_copied};
 ghost use Rattle.sled_nodes.specs.declared.error.Error.TheVariants.{NoMemory};
@@ -8,7 +8,7 @@ ghost use Rattle.sled_store.specs.Update.{put_at};
 ghost use Rattle.sled_pages.specs.Joined.{joined};
 ghost use Rattle.sled_pages.specs.Rows.{rows_of};
 ghost use Rattle.sled_pages.specs.theory.Table.{slot_linked, slot_settled};
-ghost use Rattle.sled_pages.specs.theory.Linking.{undo_of};
+ghost use Rattle.sled_pages.specs.theory.Linking.{link_answer};
 
 use super::slots::{Slot, link_slot, settle_slot};
 use super::undo::Undo;
@@ -72,7 +72,7 @@ fn put_in(block: &mut Vec<Option<Slot>>, i: usize, slot: Option<Slot>) -> Option
     std::mem::replace(&mut block[i], slot)
 }
 
-// Changes the page of a slot at a place of a block by a link. Refused with `NoMemory` alone, and then unchanged.
+// Changes the page of a slot at a place of a block by a link, as `Slots::link` does. Refused with `NoMemory` alone, and then unchanged.
 #[inline(always)]
 fn link_in(
     alloc: Global,
@@ -80,15 +80,16 @@ fn link_in(
     i: usize,
     pid: Pid,
     version: Version,
+    next: Version,
     link: Link,
-) -> Result<Undo>
-    requires there { is_some (joined (slice_get block.old.items i)) ≡ true }
-    ensures told { IfOk result (λ undo. IfSome (joined (slice_get block.old.items i)) (λ was. undo ≡ undo_of pid was.version was.page)) }
-    ensures ok { OnOk result (block.new.items ≡ slice_set block.old.items i (slot_linked link version (joined (slice_get block.old.items i)))) }
+) -> Result<std::result::Result<Undo, Option<Version>>>
+    requires { i < length block.old.items }
+    ensures told { IfOk result (λ answer. answer ≡ link_answer pid version (joined (slice_get block.old.items i))) }
+    ensures ok { OnOk result (block.new.items ≡ slice_set block.old.items i (slot_linked link version next (joined (slice_get block.old.items i)))) }
     ensures err { OnErr result (block.new.items ≡ block.old.items) }
     ensures cause { IfErr result (λ e. e ≡ NoMemory) }
 {
-    link_slot(alloc, &mut block[i], pid, version, link)
+    link_slot(alloc, &mut block[i], pid, version, next, link)
 }
 
 // Changes the page of a slot at a place of a block by a link of which the node alone stays, if there is the slot. Refused with `NoMemory`
@@ -146,26 +147,28 @@ impl Blocks {
         put_in(&mut self.blocks[place / PLACES], place % PLACES, slot)
     }
 
-    /// Changes the page of a slot by a link in place, and gives it a version. Says how that is taken back, by the number of the page.
-    /// Refused with `NoMemory` alone, and then unchanged.
+    /// Changes the page of the slot at a place by a link, as `Slots::link` does. Refused with `NoMemory` alone, and then unchanged.
     pub fn link(
         &mut self,
         alloc: Global,
         place: usize,
         pid: Pid,
         version: Version,
+        next: Version,
         link: Link,
-    ) -> Result<Undo>
-        requires placed { has_of self.old place ≡ true }
-        requires there { is_some (lies_of self.old place) ≡ true }
-        ensures told { IfOk result (λ undo. IfSome (lies_of self.old place) (λ was. undo ≡ undo_of pid was.version was.page)) }
-        ensures ok { OnOk result (lies_of self.new ≡ put_at (lies_of self.old) place (slot_linked link version (lies_of self.old place))) }
+    ) -> Result<std::result::Result<Undo, Option<Version>>>
+        ensures told { IfOk result (λ answer. answer ≡ link_answer pid version (lies_of self.old place)) }
+        ensures ok { OnOk result (lies_of self.new ≡ put_at (lies_of self.old) place (slot_linked link version next (lies_of self.old place))) }
         ensures err { OnErr result (lies_of self.new ≡ lies_of self.old) }
         ensures places { has_of self.new ≡ has_of self.old }
         ensures cause { IfErr result (λ e. e ≡ NoMemory) }
     {
+        if !self.has(place) {
+            drop(link);
+            return Ok(Err(None));
+        }
         let block = &mut self.blocks[place / PLACES];
-        link_in(alloc, block, place % PLACES, pid, version, link)
+        link_in(alloc, block, place % PLACES, pid, version, next, link)
     }
 
     // Whether a place is there.

@@ -1,5 +1,5 @@
 //! Pages by number, as the store in memory keeps them.
-ghost use Rattle.std.specs.Prelude.{◌≡◌, ℕ, ◌+◌, ◌^◌, ◌<◌, ◌||◌, Some, None, true, false, nat_eq, nat_le, IfOk, IfErr, IfSome, OnOk, IsTrue, ◌↔◌, OnErr, is_some};
+ghost use Rattle.std.specs.Prelude.{◌≡◌, ℕ, ◌+◌, ◌^◌, ◌<◌, ◌||◌, Some, None, true, false, nat_eq, nat_le, IfOk, IfErr, OnOk, IsTrue, ◌↔◌, OnErr, is_some};
 ghost use Rattle.std.specs.Option.{option_copied};
 ghost use Rattle.std.specs.Vec.{vec_len, vec_capacity};
 ghost use Rattle.sled_nodes.specs.declared.error.Error.TheVariants.{NoMemory};
@@ -9,8 +9,7 @@ ghost use Rattle.sled_pages.specs.theory.Known.{IsKnown};
 ghost use Rattle.sled_pages.specs.Building.{IsUnused};
 ghost use Rattle.sled_pages.specs.theory.Table.{slot_linked, slot_settled};
 ghost use Rattle.sled_pages.specs.Table.{slot_unlinked};
-ghost use Rattle.sled_pages.specs.theory.Linking.{Relinked, undo_of};
-ghost use Rattle.sled_pages.specs.Parts.{linked};
+ghost use Rattle.sled_pages.specs.theory.Linking.{link_answer, lies_at};
 ghost use Rattle.std.specs.Ordering.{nat_cmp};
 ghost use Rattle.std.specs.BTreeMap.{get};
 ghost use Rattle.sled_pages.specs.Joined.{joined};
@@ -20,7 +19,7 @@ ghost use Rattle.sled_pages.specs.Numbered.{numbered};
 use super::blocks::Blocks;
 use super::linked::Linked;
 use super::undo::Undo;
-use sled_nodes::{Error, Link, Node, Pid, Result, Shared, Version};
+use sled_nodes::{Link, Node, Pid, Result, Shared, Version};
 use std::alloc::Global;
 use std::collections::BTreeMap;
 
@@ -32,42 +31,77 @@ pub struct Slot {
 }
 
 impl Slot {
-    // Changes the page by a link, and gives it a version. Says how that is taken back. Refused with `NoMemory` alone, and then unchanged.
-    fn link(&mut self, alloc: Global, pid: Pid, version: Version, link: Link) -> Result<Undo>
-        ensures told { IfOk result (λ undo. undo ≡ undo_of pid self.old.version self.old.page) }
-        ensures ok { OnOk result (self.new ≡ record { version = version; page = linked link self.old.page }) }
+    // Changes the page by a link if it has this version, as `Slots::link` does. Refused with `NoMemory` alone, and then unchanged.
+    fn link(
+        &mut self,
+        alloc: Global,
+        pid: Pid,
+        version: Version,
+        next: Version,
+        link: Link,
+    ) -> Result<std::result::Result<Undo, Option<Version>>>
+        ensures told { IfOk result (λ answer. answer ≡ link_answer pid version (Some self.old)) }
+        ensures ok { OnOk result (Some self.new ≡ slot_linked link version next (Some self.old)) }
         ensures err { OnErr result (self.new ≡ self.old) }
         ensures cause { IfErr result (λ e. e ≡ NoMemory) }
     {
+        if self.version != version {
+            drop(link);
+            return Ok(Err(Some(self.version)));
+        }
         let folded = self.page.link(alloc, link)?;
-        let before = self.version;
-        self.version = version;
+        self.version = next;
         match folded {
-            None => Ok(Undo::UndoLink(pid, before)),
-            Some(under) => Ok(Undo::UndoFold(pid, before, under)),
+            None => Ok(Ok(Undo::UndoLink(pid, version))),
+            Some(under) => Ok(Ok(Undo::UndoFold(pid, version, under))),
         }
     }
 }
 
-/// Changes the page of a slot that is there by a link, as `Slots::link` does. Refused with `NoMemory` alone, and then unchanged.
+/// Changes the page of a slot by a link if it has this version, as `Slots::link` does. Refused with `NoMemory` alone, and then unchanged.
 pub fn link_slot(
     alloc: Global,
     slot: &mut Option<Slot>,
     pid: Pid,
     version: Version,
+    next: Version,
     link: Link,
-) -> Result<Undo>
-    requires { is_some slot.old ≡ true }
-    ensures told { IfOk result (λ undo. IfSome slot.old (λ was. undo ≡ undo_of pid was.version was.page)) }
-    ensures ok { OnOk result (slot.new ≡ slot_linked link version slot.old) }
+) -> Result<std::result::Result<Undo, Option<Version>>>
+    ensures told { IfOk result (λ answer. answer ≡ link_answer pid version slot.old) }
+    ensures ok { OnOk result (slot.new ≡ slot_linked link version next slot.old) }
     ensures err { OnErr result (slot.new ≡ slot.old) }
     ensures cause { IfErr result (λ e. e ≡ NoMemory) }
 {
     match slot {
-        Some(slot) => slot.link(alloc, pid, version, link),
+        Some(slot) => slot.link(alloc, pid, version, next, link),
         None => {
             drop(link);
-            Err(Error::NoMemory)
+            Ok(Err(None))
+        }
+    }
+}
+
+// Changes the page of an image by a link, as `Slots::link` does. Out of line, so that a link of a later page stays short.
+#[inline(never)]
+fn link_of_image(
+    alloc: Global,
+    foreign: &mut BTreeMap<u64, Option<Slot>>,
+    pid: Pid,
+    version: Version,
+    next: Version,
+    link: Link,
+) -> Result<std::result::Result<Undo, Option<Version>>>
+    ensures told { IfOk result (λ answer. answer ≡ link_answer pid version (lies_at foreign.old pid)) }
+    ensures ok { OnOk result ((p : ℕ) → lies_at foreign.new p ≡ put_at (lies_at foreign.old) pid (slot_linked link version next (lies_at foreign.old pid)) p) }
+    ensures err { OnErr result ((p : ℕ) → lies_at foreign.new p ≡ lies_at foreign.old p) }
+    ensures places { (p : ℕ) → is_some (get nat_cmp foreign.new p) ≡ is_some (get nat_cmp foreign.old p) }
+    ensures cause { IfErr result (λ e. e ≡ NoMemory) }
+{
+    match foreign.get_mut(&pid.0) {
+        Some(slot) => link_slot(alloc, slot, pid, version, next, link),
+        None => {
+            drop(link);
+            Ok(Err(None))
         }
     }
 }
@@ -231,69 +265,28 @@ impl Slots {
         }
     }
 
-    /// Changes a page by a link, and gives it a version. Says how that is taken back. Refused with `NoMemory` alone, and then unchanged.
-    pub fn link(&mut self, alloc: Global, pid: Pid, version: Version, link: Link) -> Result<Undo>
-        requires placed { places_of self.old pid ≡ true }
-        requires there { is_some (slots_of self.old pid) ≡ true }
-        ensures ok { IfOk result (λ undo. Relinked link pid version (slots_of self.old) (slots_of self.new) undo) }
+    /// Changes a page by a link if it has this version, and gives it the next one. Says how that is taken back, or else which version the
+    /// page has, if there is the page. Refused with `NoMemory` alone, and then unchanged.
+    pub fn link(
+        &mut self,
+        alloc: Global,
+        pid: Pid,
+        version: Version,
+        next: Version,
+        link: Link,
+    ) -> Result<std::result::Result<Undo, Option<Version>>>
+        ensures told { IfOk result (λ answer. answer ≡ link_answer pid version (slots_of self.old pid)) }
+        ensures ok { OnOk result (slots_of self.new ≡ put_at (slots_of self.old) pid (slot_linked link version next (slots_of self.old pid))) }
         ensures err { OnErr result (slots_of self.new ≡ slots_of self.old) }
         ensures places { places_of self.new ≡ places_of self.old }
         ensures given { given_of self.new ≡ given_of self.old }
         ensures cause { IfErr result (λ e. e ≡ NoMemory) }
     {
         if pid.0 <= self.last {
-            return self.link_of_image(alloc, pid, version, link);
-        }
-        let place = (pid.0 - self.last - 1) as usize;
-        self.own.link(alloc, place, pid, version, link)
-    }
-
-    // The same of a number up to the last one of the image.
-    #[inline(never)]
-    fn link_of_image(
-        &mut self,
-        alloc: Global,
-        pid: Pid,
-        version: Version,
-        link: Link,
-    ) -> Result<Undo>
-        requires placed { places_of self.old pid ≡ true }
-        requires there { is_some (slots_of self.old pid) ≡ true }
-        ensures ok { IfOk result (λ undo. Relinked link pid version (slots_of self.old) (slots_of self.new) undo) }
-        ensures err { OnErr result (slots_of self.new ≡ slots_of self.old) }
-        ensures places { places_of self.new ≡ places_of self.old }
-        ensures given { given_of self.new ≡ given_of self.old }
-        ensures cause { IfErr result (λ e. e ≡ NoMemory) }
-    {
-        match self.put(pid, None) {
-            Some(slot) => {
-                let Slot {
-                    version: before,
-                    mut page,
-                } = slot;
-                match page.link(alloc, link) {
-                    Ok(folded) => {
-                        let none = self.put(pid, Some(Slot { version, page }));
-                        drop(none);
-                        match folded {
-                            None => Ok(Undo::UndoLink(pid, before)),
-                            Some(under) => Ok(Undo::UndoFold(pid, before, under)),
-                        }
-                    }
-                    Err(e) => {
-                        let none = self.put(
-                            pid,
-                            Some(Slot {
-                                version: before,
-                                page,
-                            }),
-                        );
-                        drop(none);
-                        Err(e)
-                    }
-                }
-            }
-            None => Err(Error::NoMemory),
+            link_of_image(alloc, &mut self.foreign, pid, version, next, link)
+        } else {
+            let place = (pid.0 - self.last - 1) as usize;
+            self.own.link(alloc, place, pid, version, next, link)
         }
     }
 

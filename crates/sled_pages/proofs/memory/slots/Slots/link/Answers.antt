@@ -1,27 +1,38 @@
-use Rattle.std.proofs.Common.{rules, ◌<◌, ap}
-use Rattle.sled_pages.specs.Blocks.{lies_of, has_of}
+use Rattle.std.proofs.Common.{rules, ◌<◌, ◌≤◌, ap}
+use Rattle.std.proofs.lemmas.Result.{on_ok_weaker}
+use Rattle.sled_pages.specs.Blocks.{lies_of}
 use Rattle.sled_pages.specs.Slots.{place_in, own_places}
-use Rattle.sled_pages.proofs.InPlace.{own_relinked, unused_linked}
-use Rattle.sled_pages.proofs.Places.{own_place}
+use Rattle.sled_pages.proofs.InPlace.{own_told, own_linked, unused_linked, image_told, image_linked}
 use Rattle.sled_pages.proofs.memory.slots.Slots.link.Goals as goal
 
-pub invariant_of-self : goal.invariant_of-self
-invariant_of-self c =
+pub returns-then-pid-self-clause-told : goal.returns-then-pid-self-clause-told
+returns-then-pid-self-clause-told c =
+    let m = c.args.self.now in
+    let h : c.args.pid ≤ m.last = search rules in
+    image_told m.last m.foreign c.link_of_image.new.foreign (lies_of m.own) c.args.pid c.args.version c.args.next c.args.link h c.link_of_image.result c.link_of_image.ensures.told
+
+pub returns-then-pid-self-clause-ok : goal.returns-then-pid-self-clause-ok
+returns-then-pid-self-clause-ok c =
+    let m = c.args.self.now in
+    let h : c.args.pid ≤ m.last = search rules in
+    on_ok_weaker c.link_of_image.result (image_linked m.last m.foreign c.link_of_image.new.foreign (lies_of m.own) c.args.pid c.args.version c.args.next c.args.link h) c.link_of_image.ensures.ok
+
+pub returns-else-pid-self-clause-told : goal.returns-else-pid-self-clause-told
+returns-else-pid-self-clause-told c =
     let m = c.args.self.now in
     let h : m.last < c.args.pid = search rules in
-    record {
-      known = m.known;
-      numbered = m.numbered;
-      first = m.first;
-      unused = unused_linked m.last m.foreign (lies_of m.own) (lies_of c.link.new.self) _ c.args.pid c.args.version c.args.link c.pid.view_is h m.given
-          (own_place m.last m.foreign m.given (has_of m.own) c.args.pid h c.requires.placed).0 c.link.result c.link.ensures.ok c.link.ensures.err m.unused;
-    }
+    own_told m.last m.foreign (lies_of m.own) (lies_of c.link.new.self) _ c.args.pid c.args.version c.args.next c.args.link c.pid.view_is h c.link.result c.link.ensures.told
 
-pub returns-clause-ok : goal.returns-clause-ok
-returns-clause-ok c =
+pub returns-else-pid-self-clause-ok : goal.returns-else-pid-self-clause-ok
+returns-else-pid-self-clause-ok c =
     let m = c.args.self.now in
     let h : m.last < c.args.pid = search rules in
-    own_relinked m.last m.foreign (lies_of m.own) (lies_of c.link.new.self) _ c.args.pid c.args.version c.args.link c.pid.view_is h c.requires.there c.link.result c.link.ensures.ok c.link.ensures.told
+    on_ok_weaker c.link.result (own_linked m.last m.foreign (lies_of m.own) (lies_of c.link.new.self) _ c.args.pid c.args.version c.args.next c.args.link c.pid.view_is h) c.link.ensures.ok
 
-pub returns-clause-places : goal.returns-clause-places
-returns-clause-places c = let m = c.args.self.now in ap (λ h. place_in m.last m.foreign (own_places m.given h)) c.link.ensures.places
+pub returns-else-pid-self-clause-places : goal.returns-else-pid-self-clause-places
+returns-else-pid-self-clause-places c = let m = c.args.self.now in ap (λ h. place_in m.last m.foreign (own_places m.given h)) c.link.ensures.places
+
+pub invariant_of-self-else-pid-self-clause-unused : goal.invariant_of-self-else-pid-self-clause-unused
+invariant_of-self-else-pid-self-clause-unused c =
+    let m = c.args.self.now in
+    unused_linked (lies_of m.own) (lies_of c.link.new.self) _ c.args.version c.args.next c.args.link m.given c.link.result c.link.ensures.ok c.link.ensures.err m.unused
