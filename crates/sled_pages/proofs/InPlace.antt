@@ -1,7 +1,8 @@
 -- A slot that a link changes where it lies.
-use Rattle.std.proofs.Common.{◌≡◌, ℕ, ◌-◌, ◌/◌, ◌%◌, ◌<◌, ◌≤◌, true, false, cond, nat_le, List, length, Option, None, Result, Ok, Err, IfOk, OnOk, OnErr, refl, sym, ap, subst, ◌∙◌, arith, slice_get, slice_set}
+use Rattle.std.proofs.Common.{◌≡◌, ℕ, ◌-◌, ◌/◌, ◌%◌, ◌<◌, ◌≤◌, true, false, cond, nat_le, List, length, get_or, Option, Some, None, Result, Ok, Err, IfOk, OnOk, OnErr, refl, sym, ap, subst, ◌∙◌, arith, slice_get, slice_set}
 use Rattle.std.proofs.lemmas.Bool.{eqb-true}
 use Rattle.std.proofs.lemmas.Bool.Decides.{nat_tests}
+use Rattle.std.proofs.lemmas.Option.{slice_get-get_or}
 use lib.Dec.{eqb}
 use Rattle.std.specs.BTreeMap.{BTreeMap, get}
 use Rattle.std.specs.Global.{Vec}
@@ -19,7 +20,7 @@ use Rattle.sled_pages.specs.theory.Linking.{link_answer, lies_at}
 use Rattle.sled_pages.specs.declared.memory.slots.Slot.{Slot}
 use Rattle.sled_pages.specs.declared.memory.undo.Undo.{Undo}
 use Rattle.sled_pages.proofs.Places.{one_place, own_put, unused_same}
-use Rattle.sled_pages.proofs.Rows.{rows_set, put_lies, put_has, set_lies}
+use Rattle.sled_pages.proofs.Rows.{row_is, place_within, in_place, put_lies, put_has, set_lies}
 
 -- what a link of a slot returns
 abbrev Linking : Type 0
@@ -38,15 +39,30 @@ module _ (blocks : List (Vec (Option Slot))) (i : ℕ) (old block : Vec (Option 
   pub lies_unchanged : block.items ≡ old.items → lies_in (rows_of (slice_set blocks (i / 64) block)) ≡ lies_in (rows_of blocks)
   lies_unchanged e = set_lies blocks i block within (λ j. ap (λ r. joined (slice_get r j)) (e ∙ sym row))
 
-  pub has_changed : (r : Linking) → OnOk r (block.items ≡ slice_set old.items (i % 64) (change (joined (slice_get old.items (i % 64))))) → OnErr r (block.items ≡ old.items) →
-      has_in (rows_of (slice_set blocks (i / 64) block)) ≡ has_in (rows_of blocks)
-  has_changed (Ok answer) e k = put_has blocks i block within (change (lies_in (rows_of blocks) i)) (set_row e)
-  has_changed (Err x) e k = ap has_in (rows_set blocks (i / 64) block within ∙ (ap (put_at (rows_of blocks) (i / 64)) (k ∙ sym row) ∙ sym (one_place (rows_of blocks) (rows_of blocks) (i / 64) (rows_of blocks (i / 64)) refl (λ q h. refl))))
+-- a slot in a block
+module _ (blocks : List (Vec (Option Slot))) (i : ℕ) (block : Vec (Option Slot)) (o : Option Slot) (has : has_in (rows_of blocks) i ≡ true) (block_is : block ≡ get_or blocks (i / 64) block) (o_is : o ≡ get_or block.items (i % 64) o) where
+  within : i / 64 < length blocks
+  within = place_within blocks i has
 
--- what a link answers of the slot at a place
-pub told_in : (blocks : List (Vec (Option Slot))) (i : ℕ) (old : Vec (Option Slot)) → rows_of blocks (i / 64) ≡ old.items → (pid version : ℕ) (r : Linking) →
-    IfOk r (λ answer. answer ≡ link_answer pid version (joined (slice_get old.items (i % 64)))) → IfOk r (λ answer. answer ≡ link_answer pid version (lies_in (rows_of blocks) i))
-told_in blocks i old row pid version r told = subst (λ x. IfOk r (λ answer. answer ≡ link_answer pid version (joined (slice_get x (i % 64))))) (sym row) told
+  row : rows_of blocks (i / 64) ≡ block.items
+  row = row_is blocks (i / 64) block block within (sym block_is)
+
+  pub lies_here : lies_in (rows_of blocks) i ≡ o
+  lies_here = ap (λ r. joined (slice_get r (i % 64))) row ∙ (ap joined (slice_get-get_or block.items (i % 64) o (subst (λ r. i % 64 < length r) row (in_place blocks i has))) ∙ sym o_is)
+
+  -- another in its place
+  pub lies_over : (new : Vec (Option Slot)) (x : Option Slot) → new.items ≡ slice_set block.items (i % 64) x → lies_in (rows_of (slice_set blocks (i / 64) new)) ≡ put_at (lies_in (rows_of blocks)) i x
+  lies_over new x e = put_lies blocks i new within x (in_place blocks i has) (e ∙ ap (λ r. slice_set r (i % 64) x) (sym row))
+
+  pub has_over : (new : Vec (Option Slot)) (x : Option Slot) → new.items ≡ slice_set block.items (i % 64) x → has_in (rows_of (slice_set blocks (i / 64) new)) ≡ has_in (rows_of blocks)
+  has_over new x e = put_has blocks i new within x (e ∙ ap (λ r. slice_set r (i % 64) x) (sym row))
+
+  pub lies_become : (new : Vec (Option Slot)) (x : Option Slot) (change : Option Slot → Option Slot) → new.items ≡ slice_set block.items (i % 64) x → x ≡ change o →
+      lies_in (rows_of (slice_set blocks (i / 64) new)) ≡ put_at (lies_in (rows_of blocks)) i (change (lies_in (rows_of blocks) i))
+  lies_become new x change e k = lies_over new x e ∙ ap (put_at (lies_in (rows_of blocks)) i) (k ∙ ap change (sym lies_here))
+
+  pub lies_stay : (new : Vec (Option Slot)) (x : Option Slot) → new.items ≡ slice_set block.items (i % 64) x → x ≡ o → lies_in (rows_of (slice_set blocks (i / 64) new)) ≡ lies_in (rows_of blocks)
+  lies_stay new x e k = lies_over new x e ∙ sym (one_place (lies_in (rows_of blocks)) (lies_in (rows_of blocks)) i x (lies_here ∙ sym k) (λ q h. refl))
 
 -- ---- by number
 

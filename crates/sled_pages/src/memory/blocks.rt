@@ -10,7 +10,7 @@ ghost use Rattle.sled_pages.specs.Rows.{rows_of};
 ghost use Rattle.sled_pages.specs.theory.Table.{slot_linked, slot_settled};
 ghost use Rattle.sled_pages.specs.theory.Linking.{link_answer};
 
-use super::slots::{Slot, link_slot, settle_slot};
+use super::slots::{Slot, settle_slot};
 use super::undo::Undo;
 use sled_nodes::{Link, Pid, Result, Version};
 use std::alloc::Global;
@@ -70,26 +70,6 @@ fn put_in(block: &mut Vec<Option<Slot>>, i: usize, slot: Option<Slot>) -> Option
     ensures set { block.new.items ≡ slice_set block.old.items i slot }
 {
     std::mem::replace(&mut block[i], slot)
-}
-
-// Changes the page of a slot at a place of a block by a link, as `Slots::link` does. Refused with `NoMemory` alone, and then unchanged.
-#[inline(always)]
-fn link_in(
-    alloc: Global,
-    block: &mut Vec<Option<Slot>>,
-    i: usize,
-    pid: Pid,
-    version: Version,
-    next: Version,
-    link: Link,
-) -> Result<std::result::Result<Undo, Option<Version>>>
-    requires { i < length block.old.items }
-    ensures told { IfOk result (λ answer. answer ≡ link_answer pid version (joined (slice_get block.old.items i))) }
-    ensures ok { OnOk result (block.new.items ≡ slice_set block.old.items i (slot_linked link version next (joined (slice_get block.old.items i)))) }
-    ensures err { OnErr result (block.new.items ≡ block.old.items) }
-    ensures cause { IfErr result (λ e. e ≡ NoMemory) }
-{
-    link_slot(alloc, &mut block[i], pid, version, next, link)
 }
 
 // Changes the page of a slot at a place of a block by a link of which the node alone stays, if there is the slot. Refused with `NoMemory`
@@ -168,7 +148,13 @@ impl Blocks {
             return Ok(Err(None));
         }
         let block = &mut self.blocks[place / PLACES];
-        link_in(alloc, block, place % PLACES, pid, version, next, link)
+        match &mut block[place % PLACES] {
+            Some(slot) => slot.link(alloc, pid, version, next, link),
+            None => {
+                drop(link);
+                Ok(Err(None))
+            }
+        }
     }
 
     // Whether a place is there.

@@ -31,8 +31,8 @@ pub struct Slot {
 }
 
 impl Slot {
-    // Changes the page by a link if it has this version, as `Slots::link` does. Refused with `NoMemory` alone, and then unchanged.
-    fn link(
+    /// Changes the page by a link if it has this version, as `Slots::link` does. Refused with `NoMemory` alone, and then unchanged.
+    pub fn link(
         &mut self,
         alloc: Global,
         pid: Pid,
@@ -58,8 +58,8 @@ impl Slot {
     }
 }
 
-/// Changes the page of a slot by a link if it has this version, as `Slots::link` does. Refused with `NoMemory` alone, and then unchanged.
-pub fn link_slot(
+// Changes the page of a slot by a link if it has this version, as `Slots::link` does. Refused with `NoMemory` alone, and then unchanged.
+fn link_slot(
     alloc: Global,
     slot: &mut Option<Slot>,
     pid: Pid,
