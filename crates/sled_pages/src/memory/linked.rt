@@ -1,6 +1,5 @@
 //! A page as it is kept: a node, and below it the base and the links that it came from.
 ghost use Rattle.std.specs.Prelude.{◌≡◌, ◌<◌, ◌≤◌, ◌++◌, ◌∷◌, [], length, Some, None, true, IfOk, IfErr, OnOk, OnErr, if◌then◌else◌};
-ghost use Rattle.std.specs.Vec.{vec_len, vec_capacity};
 ghost use Rattle.sled_nodes.specs.declared.error.Error.TheVariants.{NoMemory};
 ghost use Rattle.sled_pages.specs.declared.memory.linked.Below.TheVariants.{Nothing};
 ghost use Rattle.sled_pages.specs.Parts.{node_of, alone, linked, unlinked, is_full};
@@ -55,18 +54,6 @@ fn share(node: &Shared) -> std::result::Result<Shared, AllocError>
     ensures { IfOk result (λ more. more ≡ node.now) }
 {
     node.share().map_err(|_| AllocError)
-}
-
-// Room for one link more. Refused with `NoMemory` alone.
-fn make_room(links: &mut Vec<Link>) -> Result<()>
-    ensures same { links.new.items ≡ links.old.items }
-    ensures room { OnOk result (vec_len links.new < vec_capacity links.new) }
-    ensures err { IfErr result (λ e. e ≡ NoMemory) }
-{
-    if links.len() == links.capacity() {
-        links.reserve_exact(MORE)?;
-    }
-    Ok(())
 }
 
 impl Under {
@@ -128,7 +115,9 @@ fn link_more(alloc: Global, node: &mut Shared, under: &mut Under, link: Link) ->
     ensures kept { OnErr result (under.new ≡ under.old) }
     ensures cause { IfErr result (λ e. e ≡ NoMemory) }
 {
-    make_room(&mut under.since.links)?;
+    if under.since.links.len() == under.since.links.capacity() {
+        under.since.links.reserve_exact(MORE)?;
+    }
     node.apply(alloc, &link)?;
     under.since.links.push_reserved(link);
     Ok(())
@@ -232,34 +221,6 @@ fn fold(alloc: Global, node: &mut Shared, below: &mut Below, ninth: &Link) -> Re
         Below::Joined(under) => Ok(Some(under)),
         Below::Apart(under) => Ok(Some(under)),
     }
-}
-
-// One link more of a page that is joined. Returns what was below its node if it folds. Refused with `NoMemory` alone, and then unchanged.
-fn link_ready(
-    alloc: Global,
-    node: &mut Shared,
-    below: &mut Below,
-    link: Link,
-) -> Result<Option<Under>>
-    requires { IsReady node.old below.old }
-    ensures ok { OnOk result (parts_under node.new below.new ≡ linked link (parts_under node.old below.old)) }
-    ensures folded { IfOk result (λ folded. folded ≡ (if is_full (parts_under node.old below.old) then Some (parts_under node.old below.old) else None)) }
-    ensures err { OnErr result (parts_under node.new below.new ≡ parts_under node.old below.old) }
-    ensures joined { IsJoined node.new below.new }
-    ensures cause { IfErr result (λ e. e ≡ NoMemory) }
-{
-    if let Below::Joined(under) = below {
-        if under.len() < MOST {
-            link_more(alloc, node, under, link)?;
-            return Ok(None);
-        }
-        let folded = fold(alloc, node, below, &link);
-        drop(link);
-        return folded;
-    }
-    let under = link_first(alloc, node, link)?;
-    *below = Below::Joined(under);
-    Ok(None)
 }
 
 // A link of a page that is joined, of which the node alone stays. Refused with `NoMemory` alone, and then unchanged.
@@ -383,7 +344,18 @@ impl Linked {
         ensures cause { IfErr result (λ e. e ≡ NoMemory) }
     {
         make_ready(alloc, &mut self.node, &mut self.below)?;
-        link_ready(alloc, &mut self.node, &mut self.below, link)
+        if let Below::Joined(under) = &mut self.below {
+            if under.len() < MOST {
+                link_more(alloc, &mut self.node, under, link)?;
+                return Ok(None);
+            }
+            let folded = fold(alloc, &mut self.node, &mut self.below, &link);
+            drop(link);
+            return folded;
+        }
+        let under = link_first(alloc, &mut self.node, link)?;
+        self.below = Below::Joined(under);
+        Ok(None)
     }
 
     /// The base becomes the node after all links and this one, and no link is left. Refused with `NoMemory` alone, and then unchanged.
