@@ -1,5 +1,5 @@
 -- Steps that keep copies of a reply: where a page that was read decides a call, the call may be refused for want of memory too.
-use Rattle.std.proofs.Common.{◌≡◌, ◌⊎◌, ℕ, Bool, true, false, Option, Some, None, is_none, MatchOption, Result, Ok, Err, sym, refl, ap, ◌∙◌, subst, inl, inr}
+use Rattle.std.proofs.Common.{◌≡◌, ℕ, Bool, false, Option, Some, None, is_none, MatchOption, Result, Ok, Err, sym, refl, ap, ◌∙◌, subst, inl, inr}
 use Rattle.sled_nodes.proofs.Basics.{none_some, true_false}
 use Rattle.sled_nodes.specs.Order.{Key}
 use Rattle.sled_nodes.specs.Ranges.{Range}
@@ -206,16 +206,15 @@ module _ (operator : Option Operator) (a b : Store) (f g : InFlight) where
         follows = record { is = record { is = t.1 } };
       }
 
-  -- a call on a key that links nothing, or whose link is neither told nor kept
-  pub kept_alone : IsOnKey f.job.call → (queues : QueuesValue) → IsCalm (queue_at queues) → links_watched_as queues f false → (copies : Bool) → (copies ≡ false) ⊎ (IsAtLink f.stage → ⊥) → (w kept : Went) → StepsBy operator a f w b g → ComesOut w kept → (copies ≡ false → kept ≡ w) → StepsOver operator a queues f kept b queues g
-  kept_alone on_key queues calm unwatched copies unlinked w kept steps out same = record {
-    is = subst (λ o. steps_over_as o operator a queues f kept b queues g) (sym on_key) (alone operator a b f g queues calm unwatched kept (kept_steps unlinked out));
+  -- a call on a key that links nothing
+  pub kept_alone : IsOnKey f.job.call → (queues : QueuesValue) → IsCalm (queue_at queues) → ((v : View) → f.stage ≡ stage.Act v → ⊥) → (w kept : Went) → StepsBy operator a f w b g → ComesOut w kept → StepsOver operator a queues f kept b queues g
+  kept_alone on_key queues calm off w kept steps out = record {
+    is = subst (λ o. steps_over_as o operator a queues f kept b queues g) (sym on_key) (alone operator a b f g queues calm (λ v here. absurd (off v here)) kept (kept_steps out));
   }
     where
-      kept_steps : (copies ≡ false) ⊎ (IsAtLink f.stage → ⊥) → ComesOut w kept → StepsBy operator a f kept b g
-      kept_steps (inl plain) o = subst (λ z. StepsBy operator a f z b g) (sym (same plain)) steps
-      kept_steps (inr off) (inl e) = subst (λ z. StepsBy operator a f z b g) (sym e) steps
-      kept_steps (inr off) (inr t) = subst (λ z. StepsBy operator a f z b g) (sym t.3) (lacks t.0 (λ v here. absurd (off (subst IsAtLink (sym here) tt))) (subst (λ z. StepsBy operator a f z b g) t.1 steps))
+      kept_steps : ComesOut w kept → StepsBy operator a f kept b g
+      kept_steps (inl e) = subst (λ z. StepsBy operator a f z b g) (sym e) steps
+      kept_steps (inr t) = subst (λ z. StepsBy operator a f z b g) (sym t.3) (lacks t.0 (λ v here. absurd (off v here)) (subst (λ z. StepsBy operator a f z b g) t.1 steps))
 
 -- a scan links nothing
 scan_links : (c : Call) (r : Range) → range_of c ≡ Some r → (o : Option Operator) (d : Data) → link_of (decision_at o c d).effect (key_of c) ≡ None

@@ -1,5 +1,5 @@
 -- One step of a call in flight, over the pages and the queues of subscribers.
-use Rattle.std.proofs.Common.{◌≡◌, ℕ, Bool, false, cond, [], ◌∷◌, ◌++◌, Option, Some, None, option_map, sym, refl, ap, ◌∙◌, subst}
+use Rattle.std.proofs.Common.{◌≡◌, ℕ, Bool, true, false, cond, [], ◌∷◌, ◌++◌, Option, Some, None, option_map, sym, refl, ap, ◌∙◌, subst}
 use Rattle.std.proofs.Math.Path.{fun_ext}
 use Rattle.sled_nodes.proofs.Basics.{none_some, some_is}
 use Rattle.sled_nodes.specs.Order.{Key}
@@ -17,7 +17,7 @@ use Rattle.sled_model.specs.declared.event.Event.{Event}
 use Rattle.sled_model.specs.declared.reply.Reply.{Reply}
 use Rattle.sled_queues.specs.Values.{WaitingValue, QueuesValue, queue_at}
 use Rattle.sled_queues.specs.Queues.{Becomes, IsCalm, prepared_in, prepared, committed_in, committed, cancelled}
-use Rattle.sled_queues.specs.Tells.{waits_for, IsUnwatched}
+use Rattle.sled_queues.specs.Tells.{waits_for, is_watched_as, IsUnwatched}
 use Rattle.sled_queues.proofs.Lawful.{cancels_law}
 use Rattle.tree_laws.specs.declared.flight.Stage.{Stage}
 use Rattle.tree_laws.specs.declared.flight.Stage.TheVariants as stage
@@ -90,6 +90,11 @@ module _ (operator : Option Merge) (a : Store) (f : InFlight) (at_link : IsAtLin
         go (Refused e) off = as_before
 
 -- ---- a call that links nothing, or a change that nobody waits for
+
+-- whether some queue waits for the key of a call that is to link its change
+pub links_watched : (queues : QueuesValue) (f : InFlight) → IsAtLink f.stage → (watched : Bool) → is_watched_as f.job.tree.number (key_of f.job.call) (queue_at queues) watched → links_watched_as queues f watched
+links_watched queues f at_link true is = at_link
+links_watched queues f at_link false is = λ view here. is
 
 -- where nothing is prepared and no queue waits for its key, an event changes nothing
 untold : (queues : QueuesValue) → IsCalm (queue_at queues) → (tree : ℕ) (event : Event) → IsUnwatched tree (key_of_event event) (queue_at queues) → queue_at queues ≡ committed (prepared tree event (queue_at queues))

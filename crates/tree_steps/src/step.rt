@@ -3,7 +3,7 @@
 //! If the step is to link a change, and some queue waits for the key, the event is prepared in the queues before the page is touched, which
 //! is refused for memory alone. Once the link is made the event waits there, and if it is not made the event is dropped. Every other step
 //! is one over the pages alone, and one that links nothing does not look at the queues.
-ghost use Rattle.std.specs.Prelude.{◌≡◌, ◌<◌, ◌⊎◌, false, IfSome, IfNone};
+ghost use Rattle.std.specs.Prelude.{◌≡◌, ◌<◌, false};
 ghost use Rattle.std.specs.Option.{option_map};
 ghost use Rattle.sled_queues.specs.Values.{queue_at};
 ghost use Rattle.sled_queues.specs.Queues.{IsCalm};
@@ -23,28 +23,6 @@ use sled_tree::{
     Change, InFlight, Stage, Went, advance, begin_again, event_of, link_change, prepare_change,
 };
 use std::alloc::Global;
-
-// Whether the event of a call that is to link its change is sent. `None` where `advance` does the whole step: where nothing is to be
-// linked, or what is linked is neither told nor kept.
-#[inline(always)]
-fn linked_apart<K: Keep>(queues: &Queues, flight: &InFlight) -> Option<bool>
-    ensures here { IfSome result (λ watched. IsAtLink flight.now.stage) }
-    ensures apart { IfSome result (λ watched. links_watched_as queues.now flight.now watched) }
-    ensures alone { IfNone result (links_watched_as queues.now flight.now false) }
-    ensures unkept { IfNone result ((K.COPIES ≡ false) ⊎ (IsAtLink flight.now.stage → ⊥)) }
-{
-    match &flight.stage {
-        Stage::Act(_) => {
-            let watched = queues.is_watched(flight.job.tree.number, flight.job.call.key());
-            if watched || K::COPIES {
-                Some(watched)
-            } else {
-                None
-            }
-        }
-        _ => None,
-    }
-}
 
 // Keeps the reply of a step that is to be refused if there is no memory for it.
 #[inline(always)]
@@ -68,20 +46,26 @@ fn keep<K: Keep>(went: Went) -> (Went, K)
     }
 }
 
-// Links a change that was prepared for a call, and sends its event. All that may be refused is before the link.
+// Links a change that was prepared for a call, and sends its event if some queue waits for the key. All that may be refused is before
+// the link.
 #[inline(always)]
-fn link_told<P: Pages>(
+fn link_prepared<P: Pages>(
     pages: &mut P,
     queues: &mut Queues,
     flight: &mut InFlight,
     change: Change,
+    watched: bool,
 ) -> Went
     requires room { flight.old.turns < MAX_LOOPS }
     requires here { IsAtLink flight.old.stage }
+    requires watched { links_watched_as queues.old flight.old watched }
     requires pair { IsOfPair change.link }
     requires calm { IsCalm (queue_at queues.old) }
     ensures { TellsPrepared change (P.store pages.old) queues.old flight.old result (P.store pages.new) queues.new flight.new }
 {
+    if !watched {
+        return link_change(pages, flight, change);
+    }
     let event = match event_of(&change.link) {
         Ok(event) => event,
         Err(e) => {
@@ -107,46 +91,30 @@ fn link_told<P: Pages>(
     }
 }
 
-// The same, but that its event is sent only if some queue waits for the key.
-#[inline(always)]
-fn link_prepared<P: Pages>(
+// The step of a call that is to link its change. Whether a queue waits for the key is asked before anything changes, and what is kept
+// of the reply is made before the link, after which nothing is refused.
+fn link_over<P: Pages, M: MergeOperator, K: Keep>(
     pages: &mut P,
     queues: &mut Queues,
+    alloc: Global,
+    operator: Option<&M>,
     flight: &mut InFlight,
-    change: Change,
-    watched: bool,
-) -> Went
-    requires room { flight.old.turns < MAX_LOOPS }
-    requires here { IsAtLink flight.old.stage }
-    requires watched { links_watched_as queues.old flight.old watched }
-    requires pair { IsOfPair change.link }
-    requires calm { IsCalm (queue_at queues.old) }
-    ensures { TellsPrepared change (P.store pages.old) queues.old flight.old result (P.store pages.new) queues.new flight.new }
-{
-    if watched {
-        link_told(pages, queues, flight, change)
-    } else {
-        link_change(pages, flight, change)
-    }
-}
-
-// The same, and keeps the reply. What it takes is made before the link.
-#[inline(always)]
-fn link_keeping<P: Pages, K: Keep>(
-    pages: &mut P,
-    queues: &mut Queues,
-    flight: &mut InFlight,
-    change: Change,
-    watched: bool,
 ) -> (Went, K)
     requires room { flight.old.turns < MAX_LOOPS }
     requires here { IsAtLink flight.old.stage }
-    requires watched { links_watched_as queues.old flight.old watched }
-    requires pair { IsOfPair change.link }
     requires calm { IsCalm (queue_at queues.old) }
-    ensures links { TellsPrepared change (P.store pages.old) queues.old flight.old result.0 (P.store pages.new) queues.new flight.new }
+    ensures steps { AdvancesOver (option_map (λ o. M.meant o.now) operator.entry) (P.store pages.old) queues.old flight.old result.0 (P.store pages.new) queues.new flight.new }
     ensures kept { result.1 ≡ K.kept (outcome_of result.0) }
 {
+    let watched = queues.is_watched(flight.job.tree.number, flight.job.call.key());
+    let change = match prepare_change(alloc, flight, operator) {
+        Err(e) => return (Went::Refused(e), K::nothing()),
+        Ok(None) => {
+            begin_again(flight);
+            return (Went::Moved, K::nothing());
+        }
+        Ok(Some(change)) => change,
+    };
     let kept = match K::of(&change.reply) {
         Ok(kept) => kept,
         Err(e) => {
@@ -160,32 +128,6 @@ fn link_keeping<P: Pages, K: Keep>(
             drop(kept);
             (went, K::nothing())
         }
-    }
-}
-
-// The step of a call that is to link its change, in two halves.
-fn link_over<P: Pages, M: MergeOperator, K: Keep>(
-    pages: &mut P,
-    queues: &mut Queues,
-    alloc: Global,
-    operator: Option<&M>,
-    flight: &mut InFlight,
-    watched: bool,
-) -> (Went, K)
-    requires room { flight.old.turns < MAX_LOOPS }
-    requires here { IsAtLink flight.old.stage }
-    requires watched { links_watched_as queues.old flight.old watched }
-    requires calm { IsCalm (queue_at queues.old) }
-    ensures steps { AdvancesOver (option_map (λ o. M.meant o.now) operator.entry) (P.store pages.old) queues.old flight.old result.0 (P.store pages.new) queues.new flight.new }
-    ensures kept { result.1 ≡ K.kept (outcome_of result.0) }
-{
-    match prepare_change(alloc, flight, operator) {
-        Err(e) => (Went::Refused(e), K::nothing()),
-        Ok(None) => {
-            begin_again(flight);
-            (Went::Moved, K::nothing())
-        }
-        Ok(Some(change)) => link_keeping(pages, queues, flight, change, watched),
     }
 }
 
@@ -207,8 +149,8 @@ pub fn step_over<P: Pages, M: MergeOperator, K: Keep>(
     if !flight.job.call.is_on_key() {
         return keep(tree_scans::advance(pages, alloc, flight));
     }
-    match linked_apart::<K>(queues, flight) {
-        Some(watched) => link_over(pages, queues, alloc, operator, flight, watched),
-        None => keep(advance(pages, alloc, operator, flight)),
+    match &flight.stage {
+        Stage::Act(_) => link_over(pages, queues, alloc, operator, flight),
+        _ => keep(advance(pages, alloc, operator, flight)),
     }
 }
