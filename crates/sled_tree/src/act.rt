@@ -3,9 +3,8 @@ ghost use Rattle.std.specs.Prelude.{◌≡◌, ◌<◌, IfOk, IfErr, Some};
 ghost use Rattle.std.specs.Option.{option_map};
 ghost use Rattle.sled_nodes.specs.declared.error.Error.TheVariants.{NoMemory};
 ghost use Rattle.sled_model.specs.Answer.{key_of};
-ghost use Rattle.sled_tree.specs.Change.{link_of};
 ghost use Rattle.sled_tree.specs.theory.Change.{IsChangeBy, IsChangeOf, IsOfPair, event_of_link};
-ghost use Rattle.sled_tree.specs.theory.Linking.{IsAtLink, PreparesChange, LinksAtLeaf, LinksPrepared, StepsBy, begun_again};
+ghost use Rattle.sled_tree.specs.theory.Linking.{IsAtLink, PreparesChange, LinksPrepared, StepsBy, begun_again};
 
 use crate::flight::{InFlight, Job, Went};
 use sled_model::{Call, Decision, Effect, Event, MAX_LOOPS, MergeOperator, Reply};
@@ -21,42 +20,39 @@ pub struct Change {
     pub reply: Reply,
 }
 
-// The link that has an effect at the key of a call; without an effect there is none.
-#[inline(always)]
-fn link_for(alloc: Global, call: &Call, effect: Effect) -> Result<Option<Link>>
-    ensures ok { IfOk result (λ link. link_of effect (key_of call.now) ≡ link) }
-    ensures err { IfErr result (λ e. e ≡ NoMemory) }
-{
-    match effect {
-        Effect::Nothing => Ok(None),
-        Effect::Set(value) => match call.clone_key(alloc) {
-            Ok(key) => Ok(Some(Link::Set(key, value))),
-            Err(e) => {
-                drop(value);
-                Err(e)
-            }
-        },
-        Effect::Remove => Ok(Some(Link::Del(call.clone_key(alloc)?))),
-    }
-}
-
-// The change by a decision at the key of a call.
+// The change by a decision at the key of a call; without an effect there is none.
 #[inline(always)]
 fn change_by(alloc: Global, call: &Call, decision: Decision) -> Result<Option<Change>>
     ensures ok { IfOk result (IsChangeBy decision (key_of call.now)) }
     ensures err { IfErr result (λ e. e ≡ NoMemory) }
 {
     let Decision { effect, reply } = decision;
-    match link_for(alloc, call, effect) {
-        Ok(Some(link)) => Ok(Some(Change { link, reply })),
-        Ok(None) => {
+    match effect {
+        Effect::Nothing => {
             drop(reply);
             Ok(None)
         }
-        Err(e) => {
-            drop(reply);
-            Err(e)
-        }
+        Effect::Set(value) => match call.clone_key(alloc) {
+            Ok(key) => Ok(Some(Change {
+                link: Link::Set(key, value),
+                reply,
+            })),
+            Err(e) => {
+                drop(value);
+                drop(reply);
+                Err(e)
+            }
+        },
+        Effect::Remove => match call.clone_key(alloc) {
+            Ok(key) => Ok(Some(Change {
+                link: Link::Del(key),
+                reply,
+            })),
+            Err(e) => {
+                drop(reply);
+                Err(e)
+            }
+        },
     }
 }
 
@@ -121,30 +117,6 @@ pub fn begin_again(flight: &mut InFlight)
     flight.turns += 1;
 }
 
-// Links a change that a call makes of its leaf, at the version that the call has read. Answers whether it was linked; if the leaf has
-// another version by now the call begins again at the root. It drops the leaf before it links, so that a store may change it in place.
-#[inline(always)]
-fn link_at_leaf<P: Pages>(pages: &mut P, flight: &mut InFlight, link: Link) -> Result<bool>
-    requires room { flight.old.turns < MAX_LOOPS }
-    requires here { IsAtLink flight.old.stage }
-    ensures { LinksAtLeaf link (P.store pages.old) flight.old result (P.store pages.new) flight.new }
-{
-    let leaf = match std::mem::replace(&mut flight.stage, Stage::Root) {
-        Stage::Act(leaf) => leaf,
-        _ => unreachable!(),
-    };
-    let (pid, version) = (leaf.pid, leaf.version);
-    drop(leaf);
-    match pages.link(pid, version, link) {
-        Err(e) => Err(e),
-        Ok(Err(_)) => {
-            flight.turns += 1;
-            Ok(false)
-        }
-        Ok(Ok(_)) => Ok(true),
-    }
-}
-
 /// Links the change that was prepared for a call, at the version of the leaf that the call has read. It is the rest of the step that
 /// `advance` makes of such a call.
 #[inline(always)]
@@ -154,16 +126,24 @@ pub fn link_change<P: Pages>(pages: &mut P, flight: &mut InFlight, change: Chang
     ensures { LinksPrepared change (P.store pages.old) flight.old result (P.store pages.new) flight.new }
 {
     let Change { link, reply } = change;
-    match link_at_leaf(pages, flight, link) {
+    let leaf = match std::mem::replace(&mut flight.stage, Stage::Root) {
+        Stage::Act(leaf) => leaf,
+        _ => unreachable!(),
+    };
+    let (pid, version) = (leaf.pid, leaf.version);
+    // The leaf goes before the link, so that a store may change it in place.
+    drop(leaf);
+    match pages.link(pid, version, link) {
         Err(e) => {
             drop(reply);
             Went::Refused(e)
         }
-        Ok(false) => {
+        Ok(Err(_)) => {
+            flight.turns += 1;
             drop(reply);
             Went::Moved
         }
-        Ok(true) => Went::Decided(reply),
+        Ok(Ok(_)) => Went::Decided(reply),
     }
 }
 

@@ -1,13 +1,12 @@
-use Rattle.std.proofs.Common.{sym, ap, ◌∙◌, Ok}
-use Rattle.sled_tree.specs.theory.Linking.{went_with}
-use Rattle.sled_tree.proofs.Linking.{prepared_so}
+use Rattle.std.proofs.Common.{true, false, Ok, Err, sym, refl, ◌∙◌}
+use Rattle.sled_tree.proofs.Linking.{link_refused, link_late, link_done, prepared_so}
 use Rattle.sled_tree.proofs.act.link_change.Goals as goal
 
 pub returns-in-Err : goal.returns-in-Err
-returns-in-Err g c = prepared_so c.args.change _ _ _ _ _ c.link_at_leaf.ensures _ (ap (went_with c.args.change.reply) (sym c.in-Err.is))
+returns-in-Err g c = prepared_so c.args.change _ _ _ _ (Err c.in-Err.e) (link_refused c.args.change.link _ _ c.args.flight.now c.in-Act.leaf (sym c.replace.ensures.value ∙ c.in-Act.is) _ _ c.in-Err.ensures.err) _ refl
 
-pub returns-in-Ok-true : goal.returns-in-Ok-true
-returns-in-Ok-true g c = prepared_so c.args.change _ _ _ _ _ c.link_at_leaf.ensures _ (ap (λ linked. went_with c.args.change.reply (Ok linked)) (sym c.in-Ok-true.field-0-test) ∙ ap (went_with c.args.change.reply) (sym c.in-Ok-true.is))
+pub returns-in-Ok-Err : goal.returns-in-Ok-Err
+returns-in-Ok-Err g c = rw c.replace.ensures.after (prepared_so c.args.change _ _ _ _ (Ok false) (link_late c.args.change.link _ _ c.args.flight.now c.in-Act.leaf (sym c.replace.ensures.value ∙ c.in-Act.is) _ (rw c.in-Ok-Err.field-0-is at c.in-Ok-Err.ensures.ok)) _ refl)
 
-pub returns-in-Ok-false : goal.returns-in-Ok-false
-returns-in-Ok-false g c = prepared_so c.args.change _ _ _ _ _ c.link_at_leaf.ensures _ (ap (λ linked. went_with c.args.change.reply (Ok linked)) (sym c.in-Ok-false.field-0-test) ∙ ap (went_with c.args.change.reply) (sym c.in-Ok-false.is))
+pub returns-in-Ok-Ok : goal.returns-in-Ok-Ok
+returns-in-Ok-Ok g c = prepared_so c.args.change _ _ _ _ (Ok true) (link_done c.args.change.link _ _ c.args.flight.now c.in-Act.leaf (sym c.replace.ensures.value ∙ c.in-Act.is) _ _ (rw c.in-Ok-Ok.field-0-is at c.in-Ok-Ok.ensures.ok)) _ refl
