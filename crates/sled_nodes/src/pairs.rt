@@ -83,21 +83,6 @@ pub fn growth(len: usize) -> usize {
     FULL.saturating_sub(len).min(4)
 }
 
-// Puts a pair in at a place.
-fn insert<V: Drop>(pairs: &mut Vec<(IVec, V)>, i: usize, key: IVec, value: V) -> Result<()>
-    requires { i ≤ length pairs.old.items }
-    ensures ok { OnOk result (pairs.new.items ≡ insert_at pairs.old.items i (key, value)) }
-    ensures err { OnErr result (pairs.new.items ≡ pairs.old.items) }
-    ensures cause { IfErr result (λ e. e ≡ NoMemory) }
-{
-    let len = pairs.len();
-    if len == pairs.capacity() && len < FULL {
-        pairs.reserve_exact(growth(len))?;
-    }
-    pairs.insert(i, (key, value))?;
-    Ok(())
-}
-
 /// Puts a pair in its place. `ascends` may be true only if the keys ascend. Refused with `NoMemory` alone, and then unchanged.
 ///
 /// ```
@@ -121,7 +106,13 @@ pub fn put_pair<V: Drop>(
             drop(old);
             Ok(())
         }
-        Err(i) => insert(pairs, i, key, value),
+        Err(i) => {
+            if pairs.len() == pairs.capacity() {
+                pairs.reserve_exact(growth(pairs.len()))?;
+            }
+            pairs.insert(i, (key, value))?;
+            Ok(())
+        }
     }
 }
 
