@@ -431,33 +431,6 @@ module _ {P M : Type 0} (store : P → Store) (number : P → ℕ) (meant : M �
       (subst (λ k. MachineStepContract store number meant old (step.Step k) (outcome_of went) (record inside { db = db; flights = gs })) same
       (subst (λ z. MachineStepContract store number meant z (step.Step n) (outcome_of went) (record inside { db = db; flights = gs })) e (stepped_as store number meant inside im n db gs f next went there flies are).0))
 
-  pub job_as : (r : Option (Bor Job)) (o : Option InFlight) → option_copied r ≡ option_map (λ (f : InFlight). f.job) o → kept_at inside.flights n ≡ o → option_map job_lent r ≡ option_map job_of_call (slots_of old.flights slot)
-  job_as r o shown there =
-      subst (λ s. option_map job_lent r ≡ option_map job_of_call (slots_of old.flights s)) same
-      (subst (λ (m : MachineValue P M). option_map job_lent r ≡ option_map job_of_call (slots_of m.flights n)) e
-      (of_copy r ∙ ap (option_map kept_job) shown ∙ as_flying o ∙ sym (ap (λ x. option_map job_of_call (option_map call_in_flight_of x)) there)))
-    where
-      kept_job : Job → Tree × Call
-      kept_job job = (job.tree, job.call)
-
-      of_copy : (r : Option (Bor Job)) → option_map job_lent r ≡ option_map kept_job (option_copied r)
-      of_copy None = refl
-      of_copy (Some job) = refl
-
-      as_flying : (o : Option InFlight) → option_map kept_job (option_map (λ (f : InFlight). f.job) o) ≡ option_map job_of_call (option_map call_in_flight_of o)
-      as_flying None = refl
-      as_flying (Some f) = refl
-
-  pub turns_as : (o : Option InFlight) → kept_at inside.flights n ≡ o → option_map (λ (f : InFlight). f.turns) o ≡ option_map (λ (z : CallInFlight). z.turns) (slots_of old.flights slot)
-  turns_as o there =
-      subst (λ s. option_map (λ (f : InFlight). f.turns) o ≡ option_map (λ (z : CallInFlight). z.turns) (slots_of old.flights s)) same
-      (subst (λ (m : MachineValue P M). option_map (λ (f : InFlight). f.turns) o ≡ option_map (λ (z : CallInFlight). z.turns) (slots_of m.flights n)) e
-      (as_flying o ∙ sym (ap (λ x. option_map (λ (z : CallInFlight). z.turns) (option_map call_in_flight_of x)) there)))
-    where
-      as_flying : (o : Option InFlight) → option_map (λ (f : InFlight). f.turns) o ≡ option_map (λ (z : CallInFlight). z.turns) (option_map call_in_flight_of o)
-      as_flying None = refl
-      as_flying (Some f) = refl
-
 module _ {P M : Type 0} (store : P → Store) (number : P → ℕ) (meant : M → Merge) (inside old : MachineValue P M) (e : inside ≡ old) (im : IsMachine (snapshot_of_db store inside.db) inside.flights inside.slots_given) where
   pub untested_as : (tree : Tree) (call : Call) (r : Error) → MustBeRefused (must_refuse (db_state store meant inside.db) (ToBegin tree call)) r → MachineStepContract store number meant old (step.Begin tree call) (outcome.Refused r) old
   untested_as tree call r t = subst (λ z. MachineStepContract store number meant z (step.Begin tree call) (outcome.Refused r) z) e (begin_untested store number meant inside im tree call r t)

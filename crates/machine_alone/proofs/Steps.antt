@@ -11,7 +11,6 @@ use Rattle.sled_tree.specs.declared.flight.Went.TheVariants.{Moved, Yielded, Dec
 use Rattle.sled.specs.Values.{DbValue}
 use Rattle.tree_steps.specs.Outcomes.{outcome_of}
 use Rattle.machine_alone.specs.StepsInSlot.{flight_after}
-use Rattle.machine_alone.specs.theory.StepsInSlot.{FliesInSlot, StepsInSlot}
 
 module _ {X : Type 0} where
   pub put_same : (f g : ℕ → Option X) (n : ℕ) (o : Option X) (q : ℕ) → f q ≡ g q → put_at f n o q ≡ put_at g n o q
@@ -31,22 +30,7 @@ module _ {X : Type 0} where
 pub stays_after : (flights : ℕ → Option InFlight) (slot : ℕ) (went was : Went) (g : InFlight) → went ≡ was → flight_after was g ≡ Some g → flights slot ≡ Some g → (q : ℕ) → flights q ≡ put_at flights slot (flight_after went g) q
 stays_after flights slot went was g is stays there q = sym (put_itself flights slot (flight_after went g) q (there ∙ sym (ap (λ w. flight_after w g) is ∙ stays)))
 
--- a call that has neither gone on nor given a pair has ended
-pub ended_after : (went : Went) (g : InFlight) → went ≢ Moved → ((key value : Key) → went ≡ Yielded key value → ⊥) → flight_after went g ≡ None
-ended_after Moved g off none = absurd (off refl)
-ended_after (Yielded key value) g off none = absurd (none key value refl)
-ended_after (Decided reply) g off none = refl
-ended_after (Refused e) g off none = refl
-
--- the call flew, and its slot keeps what it is to keep then
-pub settled_in : {P M : Type 0} (Flew : DbValue P M → InFlight → Went → DbValue P M → InFlight → Type 0) (old new : DbValue P M) (flights mid after : ℕ → Option InFlight) (slot : ℕ) (went : Went) → FliesInSlot Flew old flights slot went new mid
-    → (o : Outcome) → o ≡ outcome_of went → ((flight : InFlight) → mid slot ≡ Some flight → (q : ℕ) → after q ≡ put_at mid slot (flight_after went flight) q) → StepsInSlot Flew old flights slot o new after
-settled_in Flew old new flights mid after slot went f o is stays = record {
-  flight = f.flight;
-  next = f.next;
-  went = went;
-  outcome = is;
-  there = f.there;
-  flew = f.flew;
-  is = λ q. stays f.next (f.is slot ∙ put_here flights slot (Some f.next)) q ∙ put_same mid (put_at flights slot (Some f.next)) slot (flight_after went f.next) q (f.is q) ∙ put_again flights slot (Some f.next) (flight_after went f.next) q;
-}
+-- a call went on where it stands, and its slot keeps what it is to keep then
+pub settled : (flights mid after : ℕ → Option InFlight) (slot : ℕ) (went : Went) (next : InFlight) → ((q : ℕ) → mid q ≡ put_at flights slot (Some next) q) → ((flight : InFlight) → mid slot ≡ Some flight → (q : ℕ) → after q ≡ put_at mid slot (flight_after went flight) q) → (q : ℕ) → after q ≡ put_at flights slot (flight_after went next) q
+settled flights mid after slot went next is stays q =
+    stays next (is slot ∙ put_here flights slot (Some next)) q ∙ put_same mid (put_at flights slot (Some next)) slot (flight_after went next) q (is q) ∙ put_again flights slot (Some next) (flight_after went next) q

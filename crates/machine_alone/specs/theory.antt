@@ -1,2 +1,1 @@
-pub mod StepsInSlot
 pub mod Kept

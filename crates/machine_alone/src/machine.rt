@@ -11,9 +11,7 @@ ghost use Rattle.sled_model.specs.declared.outcome.Outcome.TheVariants as outcom
 ghost use Rattle.sled_model.specs.declared.outcome.Step.TheVariants as step;
 ghost use Rattle.tree_steps.specs.Outcomes.{kept_of};
 
-use crate::flights::{
-    add, finish_in, job_in, outcome_at_once, outcome_of, remove, step_in, turns_in,
-};
+use crate::flights::{add, outcome_at_once, outcome_of, remove, settle};
 use sled::{
     Commit, Db, Overlays, TransactionAnswer, TransactionResult, TransactionalTree,
     TransactionalTrees,
@@ -413,10 +411,11 @@ impl<P: Pages, M: MergeOperator> Machine<P, M> {
         ensures leaves { MachineLeaksNoPage P.store self.old (step.Step slot) result.0 self.new }
         ensures kept { result.1 ≡ K.kept result.0 }
     {
-        let Some(told) = step_in(&mut self.db, &mut self.flights, slot.0) else {
+        let Some(flight) = self.flights.get_mut(&slot.0) else {
             return (Outcome::NoSuchSlot, K::nothing());
         };
-        told
+        let (went, kept) = self.db.advance_keeping(flight);
+        (settle(&mut self.flights, slot.0, went), kept)
     }
 
     /// Abandons the call in the slot. What it did to the pages stays, and no map changes.
@@ -456,7 +455,10 @@ impl<P: Pages, M: MergeOperator> Machine<P, M> {
     pub fn job(&self, slot: Slot) -> Option<&Job>
         ensures { option_map job_lent result ≡ option_map job_of_call (slots_of self.now.flights slot) }
     {
-        job_in(&self.flights, slot.0)
+        match self.flights.get(&slot.0) {
+            Some(flight) => Some(&flight.job),
+            None => None,
+        }
     }
 
     /// How often the call in the slot went on so far, if there is one; of a scan since it gave its last pair.
@@ -467,7 +469,10 @@ impl<P: Pages, M: MergeOperator> Machine<P, M> {
     pub fn turns(&self, slot: Slot) -> Option<u64>
         ensures { result ≡ option_map (λ f. f.turns) (slots_of self.now.flights slot) }
     {
-        turns_in(&self.flights, slot.0)
+        match self.flights.get(&slot.0) {
+            Some(flight) => Some(flight.turns),
+            None => None,
+        }
     }
 
     /// Does steps of the call in the slot until it ends; of a scan until it gives its next pair, or ends. There are no more than its
@@ -489,10 +494,11 @@ impl<P: Pages, M: MergeOperator> Machine<P, M> {
     pub fn finish(&mut self, slot: Slot) -> Outcome
         ensures { RunsToEnd P.store P.flush_number M.meant self.old slot result self.new }
     {
-        let Some(outcome) = finish_in(&mut self.db, &mut self.flights, slot.0) else {
+        let Some(flight) = self.flights.get_mut(&slot.0) else {
             return Outcome::NoSuchSlot;
         };
-        outcome
+        let went = self.db.advance_to_end(flight);
+        settle(&mut self.flights, slot.0, went)
     }
 
     /// Does a call on a key from its begin to its end: what `begin` does, and then `finish` of the slot. The slot is given, but
