@@ -443,6 +443,17 @@ class Opening:
                 ended = slot.end.before < event.after if slot and slot.end else not slot
                 require(event.call[0] in ("step", "abandon") and ended, "the slot is there:", event)
 
+    def interleaved(self):
+        """How many calls in slots had another caller's whole call or step between their begin and their last step."""
+        by_begin = sorted(self.events, key=lambda event: event.before)
+        begins = [event.before for event in by_begin]
+        count = 0
+        for slot in self.slots.values():
+            last = max((event.before for event in slot.steps), default=slot.begun.after)
+            between = by_begin[bisect.bisect_right(begins, slot.begun.after) : bisect.bisect_left(begins, last)]
+            count += any(event.by != slot.begun.by and event.after < last for event in between)
+        return count
+
     # Lists of callers.
 
     def made_by(self, event):
@@ -666,7 +677,7 @@ class Checker:
     """Reads the lines one after the other."""
 
     def __init__(self):
-        self.last_id, self.opening, self.by, self.left, self.counts = 0, None, None, None, {"openings": 0, "calls": 0, "entries": 0, "pairs": 0, "events": 0, "missed": 0}
+        self.last_id, self.opening, self.by, self.left, self.counts = 0, None, None, None, {"openings": 0, "calls": 0, "entries": 0, "interleaved": 0, "pairs": 0, "events": 0, "missed": 0}
 
     def read(self, line):
         words = line.split(" ")
@@ -703,7 +714,7 @@ class Checker:
         given = sum(event.answer[0] == "pair" for slot in opening.slots.values() for event in slot.steps if slot.call[0] == "scan")
         heard = [event.answer for event in opening.events if event.call[0] == "next" and event.answer != NOTHING]
         missed = sum(int(answer[2]) for answer in heard if answer[1] == "missed")
-        for name, more in (("openings", 1), ("calls", len(opening.events)), ("entries", len(opening.history)), ("pairs", given), ("events", len(heard)), ("missed", missed)):
+        for name, more in (("openings", 1), ("calls", len(opening.events)), ("entries", len(opening.history)), ("interleaved", opening.interleaved()), ("pairs", given), ("events", len(heard)), ("missed", missed)):
             self.counts[name] += more
 
     def open(self, image):

@@ -155,8 +155,8 @@ fn run_alone_at_both(
     Ok((count, second, db.contains_key(to, b"alone")?))
 }
 
-// The same by a machine: how many writes of the tree, and how many batches of a list of one.
-fn run_by_machine(machine: &mut Machine<MemPages>, tree: &Tree) -> Result<(usize, usize)> {
+// The same by a machine: how many writes of the tree, how many batches of a list of one, and how many of these are in a group of no trees.
+fn run_by_machine(machine: &mut Machine<MemPages>, tree: &Tree) -> Result<(usize, usize, usize)> {
     let ended: Wrote = machine.run_transaction(tree, |inside| {
         inside.remove(b"alone")?;
         Ok(())
@@ -175,8 +175,10 @@ fn run_by_machine(machine: &mut Machine<MemPages>, tree: &Tree) -> Result<(usize
     };
     let batches = commit.writes.into_batches();
     let count = batches.len();
-    drop(batches);
-    Ok((writes, count))
+    let group = group_of(machine.db().allocator(), &[], batches)?;
+    let paired = group.len();
+    drop(group);
+    Ok((writes, count, paired))
 }
 
 // Prints what closures hand back that are run alone.
