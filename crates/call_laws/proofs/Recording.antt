@@ -58,7 +58,7 @@ use Rattle.machine_shared.specs.Wholes as value
 use Rattle.machine_shared.proofs.Fetching.{point_made}
 use Rattle.machine_shared.proofs.Ids.{longer_rises, none_risen, step_risen, begun_risen, abandoned_risen, came_risen, parts_ids}
 use Rattle.machine_shared.proofs.Legal.{maps_same}
-use Rattle.machine_shared.proofs.Opening.{opened}
+use Rattle.machine_shared.proofs.OpeningMaps.{opened}
 use Rattle.machine_shared.proofs.Moments.{GoesOn}
 use Rattle.machine_shared.proofs.Leading.{Ends, tested, adds, goes, matched, led, ends, still, rests, none_added, step_leaves, begun_leaves, unbegun_leaves, abandon_leaves, entry, decided_whole, group_stops, import_refused, refused_whole, legal_of}
 use Rattle.machine_shared.proofs.WholeMakes.{have_maps, writes, parts}

@@ -123,7 +123,7 @@ above_same a b c e l = omega arith
 
 module _ {P M : Type 0} (store : P → Store) (s : StateValue P M) (tree : Tree) (key : Key) (by raised found : ℕ) where
   abbrev first : ℕ
-  first = number_under (maps_from s.opening) tree.name key
+  first = number_under (maps_from s.opening.contents) tree.name key
 
   pub survives : (flushes : Bool) (new : Store) → IsDb store s.machine.db → raised ≡ number_stored (store s.machine.db.pages) tree.name key → LeavesNumber flushes (store s.machine.db.pages) new tree.name key raised → MayLeave new tree.name key found
       → IsRaised store tree key by s → Survives flushes first by raised found

@@ -6,7 +6,6 @@ pub use Rattle.sled_store.specs as sled_store
 pub use Rattle.sled_pages.specs as sled_pages
 pub use Rattle.sled_model.specs as sled_model
 pub use Rattle.tree_laws.specs as tree_laws
-pub use Rattle.tree_pages.specs as tree_pages
 pub use Rattle.sled.specs as sled
 pub use Rattle.machine_alone.specs as machine_alone
 pub use Rattle.machine_shared.specs as machine_shared

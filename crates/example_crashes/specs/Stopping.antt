@@ -1,11 +1,10 @@
 -- What is handed back where the way ends before the number is found again.
-use Rattle.std.specs.Prelude.{◌≡◌, IfSome}
-use Rattle.sled_store.specs.Store.{now}
+use Rattle.std.specs.Prelude.{◌≡◌, IfSome, true}
 use Rattle.sled_pages.specs.Memory.{store_of}
 use Rattle.sled_pages.specs.declared.memory.MemPages.{MemPages}
-use Rattle.tree_laws.specs.Contents.{trees_of}
-use Rattle.tree_pages.specs.Export.{collections}
+use Rattle.sled_model.specs.Maps.{Merge}
 use Rattle.sled.specs.Values.{DbValue}
+use Rattle.machine_shared.specs.Shared.{RefusesFlushed, opening_of}
 use Rattle.example_crashes.specs.Crashing.{CanOpen}
 use Rattle.example_crashes.specs.declared.crash.Left.{Left}
 use Rattle.example_crashes.specs.declared.crash.Left.TheVariants.{Unopened, Unread, Nothing}
@@ -18,9 +17,10 @@ is_left (Unopened pages e) = CanOpen (store_of pages)
 is_left (Unread db e) = Unit {0}
 is_left Nothing = Unit {0}
 
--- A database that was not shared is as it was, a state has the opening that the database had when it was shared, and pages can be opened
-abbrev pub stopped_as : {L M : Type 0} → DbValue MemPages M → Stopped L M → Type 0
-stopped_as db (Unshared same e) = same ≡ db
-stopped_as db (Unraised left) = IfSome left (λ s. s.opening ≡ collections (trees_of (now (store_of db.pages))) db.trees)
-stopped_as db (Uncrashed same e) = Unit {0}
-stopped_as db (Unfound left) = is_left left
+-- A database that was not shared is as it was, or its flush was refused; a state has the opening that the database had when it was shared; and
+-- pages can be opened
+abbrev pub stopped_as : {L M : Type 0} → (M → Merge) → DbValue MemPages M → Stopped L M → Type 0
+stopped_as meant db (Unshared left e) = RefusesFlushed store_of meant db left e
+stopped_as meant db (Unraised left) = IfSome left (λ s. s.opening ≡ opening_of store_of true db)
+stopped_as meant db (Uncrashed left e) = Unit {0}
+stopped_as meant db (Unfound left) = is_left left

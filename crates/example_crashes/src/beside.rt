@@ -1,11 +1,10 @@
-//! Threads raise a number of a database that they share, after one flush of it.
-ghost use Rattle.std.specs.Prelude.{◌≡◌, ◌+◌, ◌*◌, ℕ, List, [], ◌∷◌, ◌++◌, All, IfOk, IfErr, IfSome, true};
+//! Threads raise a number of a database that they share.
+ghost use Rattle.std.specs.Prelude.{◌≡◌, ◌+◌, ◌*◌, ℕ, [], All, IfOk, IfErr, IfSome, true};
 ghost use Rattle.sled_nodes.specs.Order.{Key};
 ghost use Rattle.sled_pages.specs.Memory.{store_of};
 ghost use Rattle.sled_model.specs.declared.tree.Tree.{Tree};
 ghost use Rattle.machine_shared.specs.Sound.{IsOpen};
-ghost use Rattle.machine_shared.specs.Values.{CallerValue};
-ghost use Rattle.example_crashes.specs.theory.Raised.{HasFlushed, HasRaised, IsRaised};
+ghost use Rattle.example_crashes.specs.theory.Raised.{HasRaised, IsRaised};
 
 use example_shared::raise_at_once;
 use sled::MemPages;
@@ -80,29 +79,6 @@ fn handles_of<L: Ledger, M: MergeOperator>(
     Ok(handles)
 }
 
-// A handle that has made all durable that is there.
-fn flushed<L: Ledger, M: MergeOperator>(
-    rt: &impl Wait,
-    alloc: Global,
-    shared: &mut shared::Db<MemPages, L, M>,
-) -> Option<Handle<MemPages, L, M>>
-    ensures flushed { IfSome result HasFlushed }
-    ensures given { IfSome result (λ h. shared.new.given ≡ shared.old.given + 1) }
-    ensures before { shared.new.before ≡ shared.old.before }
-    ensures opening { shared.new.opening ≡ shared.old.opening }
-{
-    let Ok(handle) = shared.handle(alloc) else {
-        return None;
-    };
-    let mut handle = handle;
-    if handle.flush(rt).is_ok() {
-        Some(handle)
-    } else {
-        drop(handle);
-        None
-    }
-}
-
 // Adds a handle, if it was kept.
 fn add_kept<L: Ledger, M: MergeOperator>(
     handles: &mut Vec<Handle<MemPages, L, M>>,
@@ -165,32 +141,17 @@ fn is_open<L: Ledger, M: MergeOperator>(state: &State<MemPages, L, M>) -> bool
     !state.machine().db().pages().in_group()
 }
 
-// These handles, and one more behind them.
-fn with_one<L: Ledger, M: MergeOperator>(
-    handles: Vec<Handle<MemPages, L, M>>,
-    one: Handle<MemPages, L, M>,
-) -> Option<Vec<Handle<MemPages, L, M>>>
-    ensures { IfSome result (λ hs. hs.items ≡ handles.items ++ one ∷ []) }
-{
-    let mut handles = handles;
-    if handles.push(one).is_ok() {
-        Some(handles)
-    } else {
-        drop(handles);
-        None
-    }
-}
-
-// Takes the state back, from all handles: those that raised the number, and one that flushed before. It is `Ok` if its database is open.
+// Takes the state back, from all handles. It is `Ok` if its database is open.
 fn taken<L: Ledger, M: MergeOperator>(
     rt: &impl Wait,
     shared: shared::Db<MemPages, L, M>,
     handles: Vec<Handle<MemPages, L, M>>,
 ) -> Result<State<MemPages, L, M>, Option<State<MemPages, L, M>>>
-    requires { shared.before ≡ 0 }
+    requires before { shared.before ≡ 0 }
+    requires flushed { shared.opening.flushed ≡ true }
     ensures opening { IfOk result (λ s. s.opening ≡ shared.opening) }
     ensures left { IfErr result (λ left. IfSome left (λ s. s.opening ≡ shared.opening)) }
-    ensures raised { IfOk result (λ s. (tree : Tree) (key : Key) (callers times : ℕ) (raised : List CallerValue) (one : CallerValue) → handles.items ≡ raised ++ one ∷ [] → shared.given ≡ callers + 1 → HasFlushed one → All (HasRaised tree key times) raised → IsRaised store_of tree key (callers * times) s) }
+    ensures raised { IfOk result (λ s. (tree : Tree) (key : Key) (callers times : ℕ) → shared.given ≡ callers → All (HasRaised tree key times) handles.items → IsRaised store_of tree key (callers * times) s) }
 {
     match shared.gather(rt, handles) {
         Ok(state) => {
@@ -234,8 +195,8 @@ fn worked<L: Ledger + Send + Sync, M: MergeOperator + Send, R: Threads + Wait + 
     }
 }
 
-// Lets so many callers raise the number so often each, beside each other in threads, after a flush, and takes the state back. If it is `Ok`
-// all raises succeeded.
+// Lets so many callers raise the number so often each, beside each other in threads, and takes the state back. If it is `Ok` all raises
+// succeeded.
 pub(crate) fn raised_beside<
     L: Ledger + Send + Sync,
     M: MergeOperator + Send,
@@ -251,20 +212,14 @@ pub(crate) fn raised_beside<
 ) -> Result<State<MemPages, L, M>, Option<State<MemPages, L, M>>>
     requires none { shared.given ≡ 0 }
     requires before { shared.before ≡ 0 }
+    requires flushed { shared.opening.flushed ≡ true }
     ensures opening { IfOk result (λ s. s.opening ≡ shared.opening) }
     ensures left { IfErr result (λ left. IfSome left (λ s. s.opening ≡ shared.opening)) }
     ensures raised { IfOk result (IsRaised store_of tree.now key.now (callers * times)) }
 {
     let mut shared = shared;
-    let Some(settler) = flushed(rt, alloc, &mut shared) else {
-        return Err(shared.reclaim(rt).ok());
-    };
-    let Some(handles) = worked(rt, alloc, &mut shared, callers, tree, key, times) else {
-        drop(settler);
-        return Err(shared.reclaim(rt).ok());
-    };
-    let Some(all) = with_one(handles, settler) else {
-        return Err(shared.reclaim(rt).ok());
-    };
-    taken(rt, shared, all)
+    match worked(rt, alloc, &mut shared, callers, tree, key, times) {
+        Some(handles) => taken(rt, shared, handles),
+        None => Err(shared.reclaim(rt).ok()),
+    }
 }

@@ -80,6 +80,10 @@ module _ (tree : Tree) (key : Key) where
   goes_on low (LeadsOneMore {a = a} {m = m} {left = left} {e = e} through made led more) all l w =
       goes_on low more all.1 (up_to low (at a) (at m) l (rises a m e.made made all.0)) (after_one low a m e.made through left made led all.0 l w)
 
+  -- where a crash leaves nothing of before the beginning
+  pub from_start : {a b : Maps} {last : List Maps} {es : List EntryValue} → LeadsThrough a (a ∷ []) es b last → AllByRecursion (IsPartOrFlush tree key) (made_in es) → AllByRecursion (StandsBetween tree key (at a) (at b)) last
+  from_start {a = a} leads all = goes_on (at a) leads all (by_same (at a) (at a) refl) (stands (at a) a (by_same (at a) (at a) refl))
+
   -- by how much one entry raises it
   raised_by : (a m : Maps) (v : MadeValue) → makes_as a v m → IsPartOrFlush tree key v → at m ≡ at a + length (swapped_by tree.name key v)
   raised_by a m v made (inl part) =

@@ -79,5 +79,5 @@ pub stands_higher : {P M : Type 0} (store : P → Store) (s : StateValue P M) (g
     → All (IsMadeIn s.history) callers → EachOnce given callers → All (IsOfGiven given) s.history → All (HasWritten times) callers
     → (tree : Tree) (key : Key) → All (OnlyRaises tree key) callers → StandsHigher store tree key (given * times) s
 stands_higher store s given times callers legal opens many made once all count tree key raise =
-    raised_law (maps_from s.opening) (maps_now store s.machine) tree key s.history given callers (legal opens) made once all raise
-    ∙ ap (λ n. number_in (value_at (maps_from s.opening) tree.name key) + n) (all_counted tree key times callers raise count ∙ ap (λ n. n * times) many)
+    raised_law (maps_from s.opening.contents) (maps_now store s.machine) tree key s.history given callers (legal opens) made once all raise
+    ∙ ap (λ n. number_in (value_at (maps_from s.opening.contents) tree.name key) + n) (all_counted tree key times callers raise count ∙ ap (λ n. n * times) many)

@@ -10,7 +10,6 @@ pub use Rattle.sled_model.specs as sled_model
 pub use Rattle.sled_batch.specs as sled_batch
 pub use Rattle.tree_transactions.specs as tree_transactions
 pub use Rattle.tree_laws.specs as tree_laws
-pub use Rattle.tree_pages.specs as tree_pages
 pub use Rattle.tree_steps.specs as tree_steps
 pub use Rattle.sled.specs as sled
 pub use Rattle.machine_shared.specs as machine_shared

@@ -149,7 +149,7 @@ pub record HasWritten (times : ℕ) (c : CallerValue) : Type 0 where
 
 -- the number at a key of a state's database is by so much higher than it was when the database was shared
 abbrev pub StandsHigher : {P M : Type 0} → (P → Store) → Tree → Key → ℕ → StateValue P M → Type 0
-StandsHigher store tree key n s = number_in (value_at (maps_now store s.machine) tree.name key) ≡ number_in (value_at (maps_from s.opening) tree.name key) + n
+StandsHigher store tree key n s = number_in (value_at (maps_now store s.machine) tree.name key) ≡ number_in (value_at (maps_from s.opening.contents) tree.name key) + n
 
 -- a flush
 abbrev pub IsFlush : MadeValue → Type 0

@@ -1,13 +1,11 @@
 //! The whole way: a database is shared, threads raise a number of it, each by a handle of its own, and the database is taken back. What the
 //! number is then is proved, from public contracts alone.
-ghost use Rattle.std.specs.Prelude.{◌≡◌, ◌+◌, ◌*◌, [], All, IfOk, IfErr, IfSome, true, count_by};
-ghost use Rattle.sled_store.specs.Store.{now};
+ghost use Rattle.std.specs.Prelude.{◌≡◌, ◌+◌, ◌*◌, [], All, IfOk, IfErr, IfSome, false, true, count_by};
 ghost use Rattle.sled_pages.specs.Memory.{store_of};
-ghost use Rattle.tree_laws.specs.Contents.{trees_of};
-ghost use Rattle.tree_pages.specs.Export.{collections};
 ghost use Rattle.sled_nodes.specs.Order.{Key};
 ghost use Rattle.sled_model.specs.declared.tree.Tree.{Tree};
 ghost use Rattle.machine_shared.specs.Made.{made_value, made_values};
+ghost use Rattle.machine_shared.specs.Shared.{opening_of};
 ghost use Rattle.machine_shared.specs.Sound.{IsOpen};
 ghost use Rattle.example_shared.specs.Raising.{HasWritten, OnlyRaises, Raises, RaisesOn, StandsHigher, has_written, raised_to};
 
@@ -267,8 +265,8 @@ pub fn raise_together<L: Ledger + Send + Sync, M: MergeOperator + Send, R: Threa
     requires name { blank.name ≡ L.name }
     requires parts { blank.parts ≡ L.parts }
     requires each { blank.parts ≡ callers + 1 }
-    ensures opening { IfOk result (λ s. s.opening ≡ collections (trees_of (now (store_of db.pages))) db.trees) }
-    ensures left { IfErr result (λ left. IfSome left (λ s. s.opening ≡ collections (trees_of (now (store_of db.pages))) db.trees)) }
+    ensures opening { IfOk result (λ s. s.opening ≡ opening_of store_of false db) }
+    ensures left { IfErr result (λ left. IfSome left (λ s. s.opening ≡ opening_of store_of false db)) }
     ensures raised { IfOk result (StandsHigher store_of tree.now key.now (callers * times)) }
 {
     match shared::Db::<MemPages, L, M>::new(rt, alloc, db, blank, callers) {

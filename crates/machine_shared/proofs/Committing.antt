@@ -26,7 +26,7 @@ use Rattle.machine_shared.specs.Scans.{ScansValue}
 use Rattle.machine_shared.specs.Transacted.{DoesNothing, CannotNote, LacksMemory, CannotRead, MakesGroup, CommitsGroup, RefusesCommit, ByNoting, ByGroup, ByFlush, ByTest, ByClosure, ByCommit, OnlyRuns, flushes_as, transacts_as, with_db}
 use Rattle.machine_shared.specs.Transactions.{transaction_made}
 use Rattle.machine_shared.specs.UnderLock.{MakesWhole}
-use Rattle.machine_shared.specs.Values.{CallerValue, StateValue}
+use Rattle.machine_shared.specs.Values.{CallerValue, OpeningValue, StateValue}
 use Rattle.machine_shared.specs.theory.Transacting.{GroupMade, GroupUnmade, StopsGroup, is_decided, is_refused_as, ran_as}
 
 -- nothing was done where nothing changed
@@ -49,7 +49,7 @@ module _ {P M : Type 0} (store : P → Store) (meant : M → Merge) (d : DbValue
 
 -- ---- a group, told by the parts of two states
 
-module _ {P M : Type 0} (store : P → Store) (flush_number : P → ℕ) (meant : M → Merge) (machine after : MachineValue P M) (opening : List Content) (scans : ScansValue) (history longer : List EntryValue) (number : ℕ) (list more : List MadeValue)
+module _ {P M : Type 0} (store : P → Store) (flush_number : P → ℕ) (meant : M → Merge) (machine after : MachineValue P M) (opening : OpeningValue) (scans : ScansValue) (history longer : List EntryValue) (number : ℕ) (list more : List MadeValue)
     (group : Vec (Tree × Writes)) (noted : List MadeValue) (s : StateValue P M) (at_s : record { machine = machine; opening = opening; history = history; scans = scans } ≡ s) (m : CallerValue) (at_m : record { number = number; made = list } ≡ m)
     (grows : longer ≡ history ++ entries_of number noted) (grows_there : more ≡ list ++ noted) where
   abbrev was : StateValue P M

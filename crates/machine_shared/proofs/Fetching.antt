@@ -27,6 +27,7 @@ use Rattle.machine_shared.specs.Made.{EntryValue, MadeValue, PointMade}
 use Rattle.machine_shared.specs.Notes.{entries_of}
 use Rattle.machine_shared.specs.Sound.{CrashLeaves, IsState}
 use Rattle.machine_shared.specs.Fetches.{ByRead, BySwap, ForMemory, RefusesFetch, SwapsNow, StaysStill, swap_made}
+use Rattle.machine_shared.specs.Values.{OpeningValue}
 use Rattle.machine_alone.proofs.Rising.{at_most}
 use Rattle.machine_shared.proofs.Ids.{longer_rises}
 use Rattle.machine_shared.proofs.Moments.{GoesOn}
@@ -60,14 +61,14 @@ point_made old tree call reply new d = record {
   is = ap maps_of d.is ∙ after_maps old tree.name d.named (answer_of d.named.merge call d.named.map);
 }
 
-module _ {P M : Type 0} (store : P → Store) (number : P → ℕ) (meant : M → Merge) (a b : MachineValue P M) (opening : List Content) (history longer : List EntryValue) (before after : ℕ) (h : IsState store a opening history before) (counted : length longer ≡ after) where
+module _ {P M : Type 0} (store : P → Store) (number : P → ℕ) (meant : M → Merge) (a b : MachineValue P M) (opening : OpeningValue) (history longer : List EntryValue) (before after : ℕ) (h : IsState store a opening history before) (counted : length longer ≡ after) where
   -- after a value was swapped for another
   pub swapped_state : (n : ℕ) (tree : Tree) (call : Call) (reply : Reply) → PointDecided store meant a.db tree call reply b.db → longer ≡ history ++ entries_of n (PointMade tree call reply ∷ []) → GoesTo h b longer after
-  swapped_state n tree call reply d e = (record { legal = legal_of crashes.0; leads = leads_of crashes.0; crashes = crashes.0; ids = ids; counted = counted }, crashes.2)
+  swapped_state n tree call reply d e = (record { legal = legal_of crashes.0; leads = leads_of crashes.0; crashes = crashes.0; covers = λ f. crashes.1 ∙ h.covers f; ids = ids; counted = counted }, crashes.2)
     where
-      crashes : (c : CrashLeaves store b opening longer) × (c.earlier ≡ h.crashes.earlier) × GoesOn h.crashes.moments c.moments
-      crashes = adds store number meant a b opening history h.crashes longer n (PointMade tree call reply) (maps_of (db_state store meant b.db)) (maps_of (db_state store meant b.db) ∷ []) e
-          (subst (λ m. MakesPoint m tree call reply (maps_of (db_state store meant b.db))) (sym (led store number meant a b opening history h.crashes (tested (db_state store meant a.db) (ToPoint tree call) d.decides.free)))
+      crashes : (c : CrashLeaves store b opening.contents longer) × (c.earlier ≡ h.crashes.earlier) × GoesOn h.crashes.moments c.moments
+      crashes = adds store number meant a b opening.contents history h.crashes longer n (PointMade tree call reply) (maps_of (db_state store meant b.db)) (maps_of (db_state store meant b.db) ∷ []) e
+          (subst (λ m. MakesPoint m tree call reply (maps_of (db_state store meant b.db))) (sym (led store number meant a b opening.contents history h.crashes (tested (db_state store meant a.db) (ToPoint tree call) d.decides.free)))
           (point_made (db_state store meant a.db) tree call reply (db_state store meant b.db) d.decides))
           refl
           (λ o. maps_same store meant b number)
@@ -78,11 +79,11 @@ module _ {P M : Type 0} (store : P → Store) (number : P → ℕ) (meant : M �
 
   -- and after nothing was
   pub still_state : StaysStill store meant a b → longer ≡ history ++ [] → GoesTo h b longer after
-  still_state s e = (record { legal = legal_of crashes.0; leads = leads_of crashes.0; crashes = crashes.0; ids = ids; counted = counted }, crashes.2)
+  still_state s e = (record { legal = legal_of crashes.0; leads = leads_of crashes.0; crashes = crashes.0; covers = λ f. crashes.1 ∙ h.covers f; ids = ids; counted = counted }, crashes.2)
     where
-      crashes : (c : CrashLeaves store b opening longer) × (c.earlier ≡ h.crashes.earlier) × GoesOn h.crashes.moments c.moments
-      crashes = rests store number meant a b opening history h.crashes longer e (still store number meant a b opening history h.crashes (ap (λ (x : State). x.is_open) s.state) (ap maps_of s.state))
-          (none_added store number meant a b opening history h.crashes [] refl (extended [] (store a.db.pages) (store b.db.pages) s.extends h.crashes.left h.crashes.leaves))
+      crashes : (c : CrashLeaves store b opening.contents longer) × (c.earlier ≡ h.crashes.earlier) × GoesOn h.crashes.moments c.moments
+      crashes = rests store number meant a b opening.contents history h.crashes longer e (still store number meant a b opening.contents history h.crashes (ap (λ (x : State). x.is_open) s.state) (ap maps_of s.state))
+          (none_added store number meant a b opening.contents history h.crashes [] refl (extended [] (store a.db.pages) (store b.db.pages) s.extends h.crashes.left h.crashes.leaves))
 
       ids : RiseBetween 0 (ids_made longer) b.db.greatest_id
       ids = longer_rises 0 a.db.greatest_id b.db.greatest_id history [] longer e h.ids (at_most _ _ s.ids)

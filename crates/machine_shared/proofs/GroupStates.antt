@@ -27,6 +27,7 @@ use Rattle.machine_shared.specs.Sound.{CrashLeaves, IsState}
 use Rattle.machine_shared.specs.Transactions.{transaction_made}
 use Rattle.machine_shared.specs.WholeNotes.{NotesWhole}
 use Rattle.machine_shared.specs.theory.Transacting.{is_decided, is_refused_as, GroupMade, GroupRefused, GroupUnmade}
+use Rattle.machine_shared.specs.Values.{OpeningValue}
 use Rattle.machine_shared.proofs.Ids.{came_risen, longer_rises, whole_risen}
 use Rattle.machine_shared.proofs.Moments.{GoesOn}
 use Rattle.machine_shared.proofs.Leading.{GoesTo, adds, led, whole_leaves, legal_of, leads_of}
@@ -55,10 +56,10 @@ module _ {P M : Type 0} (store : P → Store) (number : P → ℕ) (meant : M �
 
 -- ---- states
 
-module _ {P M : Type 0} (store : P → Store) (number : P → ℕ) (meant : M → Merge) (a b : MachineValue P M) (opening : List Content) (history longer : List EntryValue) (before after : ℕ) (h : IsState store a opening history before) (counted : length longer ≡ after) (n : ℕ) (group : Vec (Tree × Writes)) where
+module _ {P M : Type 0} (store : P → Store) (number : P → ℕ) (meant : M → Merge) (a b : MachineValue P M) (opening : OpeningValue) (history longer : List EntryValue) (before after : ℕ) (h : IsState store a opening history before) (counted : length longer ≡ after) (n : ℕ) (group : Vec (Tree × Writes)) where
   -- where it was made
   made_state : GroupMade store number meant a group b → longer ≡ history ++ entries_of n (transaction_made (maps_of (db_state store meant a.db)) group.items ∷ []) → GoesTo h b longer after
-  made_state g e = (record { legal = legal_of crashes.0; leads = leads_of crashes.0; crashes = crashes.0; ids = ids; counted = counted }, crashes.2)
+  made_state g e = (record { legal = legal_of crashes.0; leads = leads_of crashes.0; crashes = crashes.0; covers = λ f. crashes.1 ∙ h.covers f; ids = ids; counted = counted }, crashes.2)
     where
       A : State
       A = (configuration_of store number meant a).state
@@ -73,14 +74,14 @@ module _ {P M : Type 0} (store : P → Store) (number : P → ℕ) (meant : M �
       decides = g.step.step.step.is
 
       made : makes_as h.crashes.last v (maps_of B)
-      made = subst (λ m. makes_as m v (maps_of B)) (sym (led store number meant a b opening history h.crashes (tested_open A (trees_of_batches group.items) decides.free)))
+      made = subst (λ m. makes_as m v (maps_of B)) (sym (led store number meant a b opening.contents history h.crashes (tested_open A (trees_of_batches group.items) decides.free)))
           (let m = makes (configuration_of store number meant a) (Group group) g.reply B g.step.step.maps decides in (refl, (refl, m.1, m.2)))
 
       left : AreCrashMaps (store b.db.pages) (h.crashes.left ++ maps_of B ∷ [])
       left = subst (λ x. AreCrashMaps (store b.db.pages) (h.crashes.left ++ x)) decides.added (g.step.step.keeps h.crashes.left h.crashes.leaves)
 
-      crashes : (c : CrashLeaves store b opening longer) × (c.earlier ≡ h.crashes.earlier) × GoesOn h.crashes.moments c.moments
-      crashes = adds store number meant a b opening history h.crashes longer n v (maps_of B) (maps_of B ∷ []) e made refl (λ o. maps_same store meant b number) left
+      crashes : (c : CrashLeaves store b opening.contents longer) × (c.earlier ≡ h.crashes.earlier) × GoesOn h.crashes.moments c.moments
+      crashes = adds store number meant a b opening.contents history h.crashes longer n v (maps_of B) (maps_of B ∷ []) e made refl (λ o. maps_same store meant b number) left
 
       ids : RiseBetween 0 (ids_made longer) b.db.greatest_id
       ids = longer_rises 0 a.db.greatest_id b.db.greatest_id history (entries_of n (v ∷ [])) longer e h.ids (came_risen store number meant a b n (Group group) (outcome.Decided g.reply) g.step.step.maps 0 decides)
@@ -91,11 +92,11 @@ module _ {P M : Type 0} (store : P → Store) (number : P → ℕ) (meant : M �
 
   refused_state : (o : Outcome) → NotesWhole store number meant a history n [] (Group group) o b longer [] → GoesTo h b longer after
   refused_state o notes =
-      let crashes = whole_leaves store number meant a b opening history h.crashes n longer [] [] (Group group) o notes in
-      (record { legal = legal_of crashes.0; leads = leads_of crashes.0; crashes = crashes.0; ids = whole_risen store number meant a b n history longer [] [] (Group group) o notes h.ids; counted = counted }, crashes.2)
+      let crashes = whole_leaves store number meant a b opening.contents history h.crashes n longer [] [] (Group group) o notes in
+      (record { legal = legal_of crashes.0; leads = leads_of crashes.0; crashes = crashes.0; covers = λ f. crashes.1 ∙ h.covers f; ids = whole_risen store number meant a b n history longer [] [] (Group group) o notes h.ids; counted = counted }, crashes.2)
 
   unmade_state : (x : Error) → GroupUnmade store number meant a group b x → longer ≡ history ++ [] → GoesTo h b longer after
-  unmade_state x (inl (same, why)) e = (record { legal = m.0.legal; leads = m.0.leads; crashes = m.0.crashes; ids = m.0.ids; counted = counted }, m.1)
+  unmade_state x (inl (same, why)) e = (record { legal = m.0.legal; leads = m.0.leads; crashes = m.0.crashes; covers = m.0.covers; ids = m.0.ids; counted = counted }, m.1)
     where
       m : GoesTo h b longer before
       m = subst (λ l. GoesTo h b l before) (sym (e ∙ append-nil history)) (subst (λ (x : MachineValue P M). GoesTo h x history before) (sym same) (h, λ i m there. there))

@@ -1,7 +1,7 @@
 -- What a history leads to, and what a crash may leave on its way, at every step.
 use Rattle.std.proofs.Common.{◌≡◌, ◌∙◌, ℕ, zero, suc, Bool, true, false, not, cond, List, [], ◌∷◌, ◌++◌, append-nil, append_assoc, length, map, Option, Some, None, Result, Ok, Err, IfOk, IfErr, is_some, is_eq, sym, refl, ap, subst, ◌⊎◌, inl, inr, arith}
 use Rattle.std.specs.Prelude.{is_none}
-use Rattle.std.proofs.lemmas.List.{map-append}
+use Rattle.std.proofs.lemmas.List.{length-append, map-append}
 use Rattle.std.proofs.lemmas.Cmp.{tied_itself}
 use Rattle.std.specs.FinMap.Entries.{find, find-where_key}
 use Rattle.std.specs.Ordering.{eq_by_cmp}
@@ -10,6 +10,7 @@ use Rattle.sled_nodes.specs.Node.{without}
 use Rattle.sled_nodes.specs.Order.{Key, key_cmp}
 use Rattle.sled_nodes.specs.Ranges.{Range}
 use Rattle.sled_nodes.specs.declared.error.Error.{Error}
+use Rattle.sled_store.specs.Crash.{crash_states}
 use Rattle.sled_store.specs.Store.{Store, now}
 use Rattle.sled_store.specs.Update.{put_name}
 use Rattle.sled_store.specs.theory.Facts.{now_left, put_name_here}
@@ -59,8 +60,9 @@ use Rattle.machine_shared.specs.WholeMade.{map_with, TakesLeast, TakesNone, Take
 use Rattle.machine_shared.specs.WholeNotes.{noted_with, noted_whole, ComesToWhole, NotesWhole}
 use Rattle.machine_shared.specs.Wholes.{WholeValue}
 use Rattle.machine_shared.specs.Wholes as value
+use Rattle.machine_shared.specs.Values.{OpeningValue}
 use Rattle.machine_shared.proofs.Ids.{begun_risen, abandoned_risen, none_risen}
-use Rattle.machine_shared.proofs.Opening.{opened}
+use Rattle.machine_shared.proofs.OpeningMaps.{opened}
 use Rattle.machine_shared.proofs.Moments.{GoesOn, moments_more, more_goes_on}
 use Rattle.machine_shared.proofs.Legal.{point, scan_keeps, put_same, maps_same}
 use Rattle.machine_shared.proofs.WholeMakes.{after_maps, there_map, makes, removes, removes_open, part, parts}
@@ -531,54 +533,64 @@ pub leads_of : {P M : Type 0} {store : P → Store} {m : MachineValue P M} {open
 leads_of c = record { last = c.last; legal = leads_legal c.leads }
 
 -- it holds of the state after, whose moments go on from those before
-abbrev pub GoesTo : {P M : Type 0} {store : P → Store} {a : MachineValue P M} {opening : List Content} {history : List EntryValue} {before : ℕ} → IsState store a opening history before → MachineValue P M → List EntryValue → ℕ → Type 0
+abbrev pub GoesTo : {P M : Type 0} {store : P → Store} {a : MachineValue P M} {opening : OpeningValue} {history : List EntryValue} {before : ℕ} → IsState store a opening history before → MachineValue P M → List EntryValue → ℕ → Type 0
 GoesTo {store = store} {opening = opening} h b longer after = (n : IsState store b opening longer after) × GoesOn h.crashes.moments n.crashes.moments
 
 -- what holds of a state after a begin, and after a call was given up
 module _ {P M : Type 0} (store : P → Store) (number : P → ℕ) (meant : M → Merge) (a b : MachineValue P M) where
-  pub begin_state : (opening : List Content) (history : List EntryValue) (total : ℕ) (tree : Tree) (call : Call) (r : Result ℕ Error)
+  pub begin_state : (opening : OpeningValue) (history : List EntryValue) (total : ℕ) (tree : Tree) (call : Call) (r : Result ℕ Error)
       → IfOk r (λ slot. MachineStepContract store number meant a (step.Begin tree call) (outcome.Begun slot) b) → IfErr r (λ e. MachineStepContract store number meant a (step.Begin tree call) (outcome.Refused e) b)
       → (h : IsState store a opening history total) → GoesTo h b history total
   begin_state opening history total tree call (Ok slot) ok err h =
-      let c = begun_leaves store number meant a b opening history h.crashes tree call slot ok.step in
-      (record { legal = legal_of c.0; leads = leads_of c.0; crashes = c.0; ids = begun_risen store number meant a b tree call (outcome.Begun slot) ok.step.maps history ok.step.step.is h.ids; counted = h.counted }, c.2)
+      let c = begun_leaves store number meant a b opening.contents history h.crashes tree call slot ok.step in
+      (record { legal = legal_of c.0; leads = leads_of c.0; crashes = c.0; covers = λ f. c.1 ∙ h.covers f; ids = begun_risen store number meant a b tree call (outcome.Begun slot) ok.step.maps history ok.step.step.is h.ids; counted = h.counted }, c.2)
   begin_state opening history total tree call (Err x) ok err h =
-      let c = unbegun_leaves store number meant a b opening history h.crashes tree call x err.step in
-      (record { legal = legal_of c.0; leads = leads_of c.0; crashes = c.0; ids = begun_risen store number meant a b tree call (outcome.Refused x) err.step.maps history err.step.step.is h.ids; counted = h.counted }, c.2)
+      let c = unbegun_leaves store number meant a b opening.contents history h.crashes tree call x err.step in
+      (record { legal = legal_of c.0; leads = leads_of c.0; crashes = c.0; covers = λ f. c.1 ∙ h.covers f; ids = begun_risen store number meant a b tree call (outcome.Refused x) err.step.maps history err.step.step.is h.ids; counted = h.counted }, c.2)
 
-  pub abandon_state : (opening : List Content) (history : List EntryValue) (total slot : ℕ) (o : Outcome)
+  pub abandon_state : (opening : OpeningValue) (history : List EntryValue) (total slot : ℕ) (o : Outcome)
       → MachineStepContract store number meant a (step.Abandon slot) o b → (h : IsState store a opening history total) → GoesTo h b history total
   abandon_state opening history total slot o c h =
-      let l = abandon_leaves store number meant a b opening history h.crashes slot o c.step in
-      (record { legal = legal_of l.0; leads = leads_of l.0; crashes = l.0; ids = abandoned_risen store number meant a b slot o c.step.maps history c.step.step.is h.ids; counted = h.counted }, l.2)
+      let l = abandon_leaves store number meant a b opening.contents history h.crashes slot o c.step in
+      (record { legal = legal_of l.0; leads = leads_of l.0; crashes = l.0; covers = λ f. l.1 ∙ h.covers f; ids = abandoned_risen store number meant a b slot o c.step.maps history c.step.step.is h.ids; counted = h.counted }, l.2)
 
 -- ---- the beginning
 
--- what a crash might leave of a store that is outside every group: the last is what it has now
+-- a list that ends with its only element has none before it
+none_before : {A : Type 0} (before : List A) (x : A) → before ++ x ∷ [] ≡ x ∷ [] → before ≡ []
+none_before [] x e = refl
+none_before (a ∷ before) x e =
+    let long = ap length e in
+    let sum = length-append before (x ∷ []) in
+    absurd (omega (arith, long, sum))
+
+-- what a crash might leave of a store that is outside every group: the last is what it has now, and there are no others if it was flushed
 first_leaves : {P M : Type 0} (store : P → Store) (m : MachineValue P M) (opening : List Content) (history : List EntryValue) → (now (store m.db.pages)).in_group ≡ false → maps_from opening ≡ maps_now store m → maps_from opening ≡ trees_of (now (store m.db.pages))
-    → history ≡ [] → CrashLeaves store m opening history
+    → history ≡ [] → (c : CrashLeaves store m opening history) × (crash_states (store m.db.pages) ≡ now (store m.db.pages) ∷ [] → c.earlier ≡ [])
 first_leaves store m opening history opens same pages none =
-    let before = now_left (store m.db.pages) opens in
-    record {
-      earlier = map trees_of before.0;
-      last = maps_from opening;
-      left = map trees_of before.0 ++ maps_from opening ∷ [];
-      leads = subst (λ es. LeadsThrough (maps_from opening) (map trees_of before.0 ++ maps_from opening ∷ []) es (maps_from opening) (map trees_of before.0 ++ maps_from opening ∷ [])) (sym none) LeadsNoMore;
-      moments = maps_from opening ∷ [];
-      are = subst (λ es. AreMoments (maps_from opening) es (maps_from opening) (maps_from opening ∷ [])) (sym none) LastMoment;
-      now = λ o. same;
-      leaves = record {
-        is = subst (λ x. StutterEquivalent x (map trees_of before.0 ++ maps_from opening ∷ []))
-            (sym (ap (map trees_of) before.1 ∙ map-append trees_of before.0 (now (store m.db.pages) ∷ []) ∙ ap (λ x. map trees_of before.0 ++ x ∷ []) (sym pages)))
-            (matches_same (map trees_of before.0 ++ maps_from opening ∷ []));
-      };
-    }
+    let before = now_left (store m.db.pages) opens in (
+      record {
+        earlier = map trees_of before.0;
+        last = maps_from opening;
+        left = map trees_of before.0 ++ maps_from opening ∷ [];
+        leads = subst (λ es. LeadsThrough (maps_from opening) (map trees_of before.0 ++ maps_from opening ∷ []) es (maps_from opening) (map trees_of before.0 ++ maps_from opening ∷ [])) (sym none) LeadsNoMore;
+        moments = maps_from opening ∷ [];
+        are = subst (λ es. AreMoments (maps_from opening) es (maps_from opening) (maps_from opening ∷ [])) (sym none) LastMoment;
+        now = λ o. same;
+        leaves = record {
+          is = subst (λ x. StutterEquivalent x (map trees_of before.0 ++ maps_from opening ∷ []))
+              (sym (ap (map trees_of) before.1 ∙ map-append trees_of before.0 (now (store m.db.pages) ∷ []) ∙ ap (λ x. map trees_of before.0 ++ x ∷ []) (sym pages)))
+              (matches_same (map trees_of before.0 ++ maps_from opening ∷ []));
+        };
+      },
+      λ alone. ap (map trees_of) (none_before before.0 (now (store m.db.pages)) (sym before.1 ∙ alone)),
+    )
 
 -- what holds of a state before anything was made
-pub first_is : {P M : Type 0} (store : P → Store) (d : DbValue P M) (m : MachineValue P M) (opening : List Content) (history : List EntryValue) (total : ℕ) → IsDb store d → (now (store d.pages)).in_group ≡ false
-    → opening ≡ collections (trees_of (now (store d.pages))) d.trees → m.db ≡ d → history ≡ [] → total ≡ 0 → IsState store m opening history total
-first_is {P = P} {M = M} store d m opening history total sound opens is same none uncounted =
-    let begins = opened store d sound opening is m same in
+pub first_is : {P M : Type 0} (store : P → Store) (d : DbValue P M) (m : MachineValue P M) (opening : OpeningValue) (history : List EntryValue) (total : ℕ) → IsDb store d → (now (store d.pages)).in_group ≡ false
+    → opening.contents ≡ collections (trees_of (now (store d.pages))) d.trees → (opening.flushed ≡ true → crash_states (store d.pages) ≡ now (store d.pages) ∷ []) → m.db ≡ d → history ≡ [] → total ≡ 0 → IsState store m opening history total
+first_is {P = P} {M = M} store d m opening history total sound opens is flushed same none uncounted =
+    let begins = opened store d sound opening.contents is m same in
     let pages = begins ∙ ap (λ (x : DbValue P M). maps_now store (record m { db = x })) same ∙ maps_are store (λ (o : M) k value bytes. None) d sound.forest sound.is ∙ ap (λ (x : DbValue P M). trees_of (now (store x.pages))) (sym same) in
-    let crashes = first_leaves store m opening history (ap (λ (x : DbValue P M). (now (store x.pages)).in_group) same ∙ opens) begins pages none in
-    record { legal = legal_of crashes; leads = leads_of crashes; crashes = crashes; ids = none_risen m.db.greatest_id history none; counted = ap length none ∙ sym uncounted }
+    let crashes = first_leaves store m opening.contents history (ap (λ (x : DbValue P M). (now (store x.pages)).in_group) same ∙ opens) begins pages none in
+    record { legal = legal_of crashes.0; leads = leads_of crashes.0; crashes = crashes.0; covers = λ f. crashes.1 (subst (λ (x : DbValue P M). crash_states (store x.pages) ≡ now (store x.pages) ∷ []) (sym same) (flushed f)); ids = none_risen m.db.greatest_id history none; counted = ap length none ∙ sym uncounted }

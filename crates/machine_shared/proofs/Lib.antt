@@ -1,7 +1,7 @@
 pub mod Ids
 pub mod Legal
 pub mod Noted
-pub mod Opening
+pub mod OpeningMaps
 pub mod Once
 pub mod Refusing
 pub mod Equal

@@ -32,11 +32,12 @@ use Rattle.machine_shared.specs.declared.read.Read.{Read}
 use Rattle.machine_shared.specs.declared.read.Read.TheVariants as read
 use Rattle.machine_shared.specs.UnderLock.{ReadsNow, read_made}
 use Rattle.machine_shared.specs.theory.Reading.{NotesRead}
+use Rattle.machine_shared.specs.Values.{OpeningValue}
 use Rattle.machine_shared.proofs.Ids.{longer_rises}
 use Rattle.machine_shared.proofs.Moments.{GoesOn}
 use Rattle.machine_shared.proofs.Leading.{GoesTo, adds, rests, once_more, legal_of, leads_of}
 use Rattle.machine_shared.proofs.Legal.{maps_same}
-use Rattle.machine_shared.proofs.Opening.{opened}
+use Rattle.machine_shared.proofs.OpeningMaps.{opened}
 use Rattle.machine_shared.proofs.Parts.{page_part}
 use Rattle.machine_shared.proofs.WholeMakes.{there_map}
 use Rattle.machine_shared.proofs.WholeTests.{open_passes}
@@ -128,18 +129,18 @@ module _ {P M A : Type 0} (store : P → Store) (meant : M → Merge) (m : Machi
 
 -- ---- states
 
-module _ {P M : Type 0} (store : P → Store) (number : P → ℕ) (meant : M → Merge) (m : MachineValue P M) (opening : List Content) (history longer : List EntryValue) (before after : ℕ) (h : IsState store m opening history before) (counted : length longer ≡ after) where
-  crashes_read : (n : ℕ) (trees : List Tree) (it : Read) → ReadsNow store meant m trees it → longer ≡ history ++ entries_of n (ReadMade it ∷ []) → (c : CrashLeaves store m opening longer) × (c.earlier ≡ h.crashes.earlier) × GoesOn h.crashes.moments c.moments
+module _ {P M : Type 0} (store : P → Store) (number : P → ℕ) (meant : M → Merge) (m : MachineValue P M) (opening : OpeningValue) (history longer : List EntryValue) (before after : ℕ) (h : IsState store m opening history before) (counted : length longer ≡ after) where
+  crashes_read : (n : ℕ) (trees : List Tree) (it : Read) → ReadsNow store meant m trees it → longer ≡ history ++ entries_of n (ReadMade it ∷ []) → (c : CrashLeaves store m opening.contents longer) × (c.earlier ≡ h.crashes.earlier) × GoesOn h.crashes.moments c.moments
   crashes_read n trees it r e =
       let l = h.crashes in
-      adds store number meant m m opening history l longer n (ReadMade it) l.last (l.last ∷ []) e
+      adds store number meant m m opening.contents history l longer n (ReadMade it) l.last (l.last ∷ []) e
       (subst (λ maps. reads_as maps it) (sym (l.now (opens store meant m trees it r))) r.tells, refl)
       refl
       l.now
-      (once_more store number meant m m opening history l l.last refl l.leaves)
+      (once_more store number meant m m opening.contents history l l.last refl l.leaves)
 
-  crashes_none : longer ≡ history ++ [] → (c : CrashLeaves store m opening longer) × (c.earlier ≡ h.crashes.earlier) × GoesOn h.crashes.moments c.moments
-  crashes_none e = rests store number meant m m opening history h.crashes longer e h.crashes.now h.crashes.leaves
+  crashes_none : longer ≡ history ++ [] → (c : CrashLeaves store m opening.contents longer) × (c.earlier ≡ h.crashes.earlier) × GoesOn h.crashes.moments c.moments
+  crashes_none e = rests store number meant m m opening.contents history h.crashes longer e h.crashes.now h.crashes.leaves
 
   -- after a read, whether it was noted or not
   pub read_state : (n : ℕ) (noted : List MadeValue) → NotesRead store meant m noted → longer ≡ history ++ entries_of n noted → GoesTo h m longer after
@@ -149,6 +150,7 @@ module _ {P M : Type 0} (store : P → Store) (number : P → ℕ) (meant : M �
           legal = legal_of crashes.0;
           leads = leads_of crashes.0;
           crashes = crashes.0;
+          covers = λ f. crashes.1 ∙ h.covers f;
           ids = longer_rises 0 m.db.greatest_id m.db.greatest_id history [] longer (e ∙ ap (λ l. history ++ entries_of n l) none) h.ids (at_most _ _ refl);
           counted = counted;
         },
@@ -161,6 +163,7 @@ module _ {P M : Type 0} (store : P → Store) (number : P → ℕ) (meant : M �
           legal = legal_of crashes.0;
           leads = leads_of crashes.0;
           crashes = crashes.0;
+          covers = λ f. crashes.1 ∙ h.covers f;
           ids = longer_rises 0 m.db.greatest_id m.db.greatest_id history (entries_of n (ReadMade r.1 ∷ [])) longer longer_is h.ids (at_most _ _ refl);
           counted = counted;
         },

@@ -123,7 +123,7 @@ no_shorter history longer more e =
     omega (arith, sum, same)
 
 -- what a state tells of its scans
-pub has_scans : {P M : Type 0} (store : P → Store) (s : StateValue P M) (c : CrashLeaves store s.machine s.opening s.history) (to : ℕ) → MachineScans store s.machine c.moments to s.scans → HasScans store s
+pub has_scans : {P M : Type 0} (store : P → Store) (s : StateValue P M) (c : CrashLeaves store s.machine s.opening.contents s.history) (to : ℕ) → MachineScans store s.machine c.moments to s.scans → HasScans store s
 has_scans store s c to h = record { moments = c.moments; last = c.last; are = c.are; now = c.now; gave = h.gave; of_scans = h.of_scans; going = h.going }
 
 -- before anything was noted

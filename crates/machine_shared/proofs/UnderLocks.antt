@@ -39,7 +39,7 @@ use Rattle.machine_shared.specs.Scans.{ScansValue, NotesScan, AreNoted, AreNotKe
 use Rattle.machine_shared.specs.Sound.{IsState}
 use Rattle.machine_shared.specs.UnderLock.{AddsMade, IsHeld, AbandonsSlot, BeginsCall, BeginsUnderLock, EndsUnderLock, GroupsUnderLock, IsDone, IsTakenOut, Looks, ReadsNow, ReadsUnderLock, RefusesNow, UnderLock, WholesUnderLock, read_made}
 use Rattle.machine_shared.specs.UnderWay.{MachineScans}
-use Rattle.machine_shared.specs.Values.{CallerValue, StateValue}
+use Rattle.machine_shared.specs.Values.{CallerValue, OpeningValue, StateValue}
 use Rattle.machine_shared.proofs.ScanStates.{has_scans}
 
 ok_err : {A X : Type 0} (a : A) (e : Error) (r : Result A Error) → r ≡ Ok a → r ≡ Err e → X
@@ -56,7 +56,7 @@ held_of store s total is order scans pages calls = record {
   calls = calls;
   legal = is.legal;
   leads = is.leads;
-  crashes = is.crashes;
+  crashes = record { follow = is.crashes; covers = is.covers };
   gave = has_scans store s is.crashes (length s.history) scans;
   order = order;
   ids = is.ids;
@@ -113,7 +113,7 @@ read_noted read_of (Ok a) noted ok err = ok
 read_noted read_of (Err e) noted ok err = err
 
 -- a read, with nothing else that changed
-pub looked : {P M A : Type 0} (store : P → Store) (meant : M → Merge) (trees : List Tree) (read_of : A → Read) (r : Result A Error) (machine : MachineValue P M) (opening : List Content) (scans : ScansValue) (history longer : List EntryValue) (number : ℕ) (list more : List MadeValue)
+pub looked : {P M A : Type 0} (store : P → Store) (meant : M → Merge) (trees : List Tree) (read_of : A → Read) (r : Result A Error) (machine : MachineValue P M) (opening : OpeningValue) (scans : ScansValue) (history longer : List EntryValue) (number : ℕ) (list more : List MadeValue)
     (s : StateValue P M) → record { machine = machine; opening = opening; history = history; scans = scans } ≡ s → (m : CallerValue) → record { number = number; made = list } ≡ m
     → IfOk r (λ a. ReadsNow store meant machine trees (read_of a)) → IfErr r (RefusesNow store meant machine trees) → longer ≡ history ++ entries_of number (read_made read_of r) → more ≡ list ++ read_made read_of r
     → Looks store meant trees read_of r m (record { number = number; made = more }) s (record { machine = machine; opening = opening; history = longer; scans = scans })
@@ -155,7 +155,7 @@ pub unread : {P M A : Type 0} (store : P → Store) (meant : M → Merge) (trees
 unread store meant trees read_of r e cause me is same lacks = inl (record { cause = NoMemory; unmade = tt; refused = is ∙ ap (λ c. Err c) (same ∙ lacks); same = refl })
 
 -- a fetch, by how it came out
-pub fetched : {P M : Type 0} (store : P → Store) (meant : M → Merge) (machine after : MachineValue P M) (opening : List Content) (scans : ScansValue) (history longer : List EntryValue) (number : ℕ) (list more : List MadeValue)
+pub fetched : {P M : Type 0} (store : P → Store) (meant : M → Merge) (machine after : MachineValue P M) (opening : OpeningValue) (scans : ScansValue) (history longer : List EntryValue) (number : ℕ) (list more : List MadeValue)
     (tree : Tree) (key : Key) (r : Result (Option Key × Option Key) Error) (noted : List MadeValue) (s : StateValue P M) → record { machine = machine; opening = opening; history = history; scans = scans } ≡ s → (m : CallerValue) → record { number = number; made = list } ≡ m
     → IfOk r (λ both. SwapsNow store meant machine tree key both.0 both.1 after) → OnErr r (StaysStill store meant machine after) → IfErr r (λ e. RefusesFetch store meant machine.db tree key e after.db) → IfOk r (λ both. noted ≡ swap_made tree key both.0 both.1 ∷ []) → OnErr r (noted ≡ [])
     → after ≡ record machine { db = after.db } → longer ≡ history ++ entries_of number noted → more ≡ list ++ noted

@@ -13,6 +13,7 @@ pub mod Scanned
 pub mod UnderWay
 pub mod Crashes
 pub mod Sound
+pub mod Shared
 pub mod Steps
 pub mod UnderLock
 pub mod Notes

@@ -14,7 +14,7 @@ use Rattle.machine_shared.specs.History.{IsLegal, maps_from, ids_made}
 use Rattle.machine_shared.specs.Moments.{AreMoments}
 use Rattle.machine_shared.specs.Scanned.{AreOfScans, AreScanned}
 use Rattle.machine_shared.specs.UnderWay.{AreGoing}
-use Rattle.machine_shared.specs.Values.{StateValue}
+use Rattle.machine_shared.specs.Values.{OpeningValue, StateValue}
 
 -- the database is open
 abbrev pub IsOpen : {P M : Type 0} → (P → Store) → MachineValue P M → Type 0
@@ -44,32 +44,36 @@ pub record CrashLeaves {P M : Type 0} (store : P → Store) (m : MachineValue P 
   pub leaves : AreCrashMaps (store m.db.pages) left
 
 -- While the database is open the history is legal, from the opening to the maps now; open or closed, it is legal to some maps, and so is
--- what a crash may leave. The ids in it rise, up to the greatest that was given; and each entry is counted
-pub record IsState {P M : Type 0} (store : P → Store) (m : MachineValue P M) (opening : List Content) (history : List EntryValue) (total : ℕ) : Type 0 where
-  pub legal : IsOpen store m → IsLegal (maps_from opening) history (maps_now store m)
-  pub leads : Leads opening history
-  pub crashes : CrashLeaves store m opening history
+-- what a crash may leave, which is nothing of before an opening that was flushed. The ids in it rise, up to the greatest that was given; and
+-- each entry is counted
+pub record IsState {P M : Type 0} (store : P → Store) (m : MachineValue P M) (opening : OpeningValue) (history : List EntryValue) (total : ℕ) : Type 0 where
+  pub legal : IsOpen store m → IsLegal (maps_from opening.contents) history (maps_now store m)
+  pub leads : Leads opening.contents history
+  pub crashes : CrashLeaves store m opening.contents history
+  pub covers : opening.flushed ≡ true → crashes.earlier ≡ []
   pub ids : RiseBetween 0 (ids_made history) m.db.greatest_id
   pub counted : length history ≡ total
 
 -- while the database of a state is open its history is legal, from the opening to the maps now
 abbrev pub HasLegalHistory : {P M : Type 0} → (P → Store) → StateValue P M → Type 0
-HasLegalHistory store s = IsOpen store s.machine → IsLegal (maps_from s.opening) s.history (maps_now store s.machine)
+HasLegalHistory store s = IsOpen store s.machine → IsLegal (maps_from s.opening.contents) s.history (maps_now store s.machine)
 
 -- open or closed, its history is legal, from the opening to some maps
 abbrev pub HasHistory : {P M : Type 0} → StateValue P M → Type 0
-HasHistory s = Leads s.opening s.history
+HasHistory s = Leads s.opening.contents s.history
 
--- .. and what a crash may leave of its database follows it
-abbrev pub HasCrashMaps : {P M : Type 0} → (P → Store) → StateValue P M → Type 0
-HasCrashMaps store s = CrashLeaves store s.machine s.opening s.history
+-- .. and what a crash may leave of its database follows it. If the database was flushed when it was shared, a crash leaves nothing of before
+-- then: what it may leave begins with the opening
+pub record HasCrashMaps {P M : Type 0} (store : P → Store) (s : StateValue P M) : Type 0 where
+  pub follow : CrashLeaves store s.machine s.opening.contents s.history
+  pub covers : s.opening.flushed ≡ true → follow.earlier ≡ []
 
 -- .. and by the maps at each moment of its history, the last of which are the maps now while the database is open, each scan whose begin
 -- was noted gave what scans give. Nothing else is noted, and while notes are kept the begin of each scan in flight is
 pub record HasScans {P M : Type 0} (store : P → Store) (s : StateValue P M) : Type 0 where
   pub moments : List Maps
   pub last : Maps
-  pub are : AreMoments (maps_from s.opening) s.history last moments
+  pub are : AreMoments (maps_from s.opening.contents) s.history last moments
   pub now : IsOpen store s.machine → last ≡ maps_now store s.machine
   pub gave : AreScanned moments s.scans.notes
   pub of_scans : AreOfScans [] s.scans.notes

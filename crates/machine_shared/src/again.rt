@@ -1,24 +1,17 @@
 //! A state that is shared again, with its history and its calls in flight.
-ghost use Rattle.std.specs.Prelude.{◌≡◌, ℕ, ◌+◌, ◌≤◌, All, IfOk, IfErr, IfSome};
-ghost use Rattle.sled_model.specs.Collections.{contents_of};
+ghost use Rattle.std.specs.Prelude.{◌≡◌, ℕ, ◌+◌, ◌≤◌, All, IfOk, IfErr};
 ghost use Rattle.machine_shared.specs.Again.{RefusesAgain, SharesAgain};
 
-use crate::db::{Db, fill};
+use crate::db::{Db, fill, opening_and_lock};
 use crate::entry::Entry;
 use crate::state::State;
-use sled_model::{Collection, MergeOperator};
+use sled_model::MergeOperator;
 use sled_nodes::Error;
 use sled_nodes::texts::NUMBERS_USED_UP;
 use sled_store::Pages;
 use std::alloc::Global;
+use std::sync::Wait;
 use std::sync::ledger::{Blank, Ledger};
-use std::sync::{Arc, Mutex, Wait};
-
-// The collections that a database began with.
-type Opening = Arc<Vec<Collection>>;
-
-// The lock of a state.
-type Lock<P, L, M> = Arc<Mutex<Option<State<P, L, M>>>>;
 
 // The greater of two numbers.
 fn greater(a: u64, b: u64) -> u64
@@ -39,24 +32,6 @@ fn greatest_in(history: &[Entry]) -> u64
         greatest = greater(greatest, entry.by);
     }
     greatest
-}
-
-// The same collections, for one owner more, and a lock with nothing under it.
-fn opening_and_lock<P: Pages, L: Ledger, M: MergeOperator>(
-    alloc: Global,
-    opening: &Opening,
-) -> Option<(Opening, Lock<P, L, M>)>
-    ensures { IfSome result (λ both. contents_of both.0.value.items ≡ contents_of opening.now.value.items) }
-{
-    let opening = Arc::try_clone(opening).ok()?;
-    match Arc::new(alloc, Mutex::new(None)) {
-        Ok(lock) => Some((opening, lock)),
-        Err(failed) => {
-            drop(failed);
-            drop(opening);
-            None
-        }
-    }
 }
 
 impl<P: Pages, L: Ledger, M: MergeOperator> Db<P, L, M> {

@@ -1,20 +1,22 @@
 //! A database that is shared.
-ghost use Rattle.std.specs.Prelude.{◌≡◌, ◌+◌, ◌<◌, false, [], IfOk, IfErr, OnOk, OnErr};
+ghost use Rattle.std.specs.Prelude.{◌≡◌, ◌+◌, ◌<◌, true, false, [], ◌∷◌, IfOk, IfErr, IfSome, OnOk, OnErr};
+ghost use Rattle.sled_store.specs.Crash.{crash_states};
 ghost use Rattle.sled_store.specs.Store.{now};
 ghost use Rattle.tree_laws.specs.Contents.{trees_of};
 ghost use Rattle.tree_pages.specs.Export.{collections};
 ghost use Rattle.sled.specs.Export.{RefusesExport};
-ghost use Rattle.sled_model.specs.Collections.{contents_of};
 ghost use Rattle.sled.specs.Sound.{IsDb};
 ghost use Rattle.machine_shared.specs.Gathered.{RefusesHandle};
+ghost use Rattle.machine_shared.specs.Shared.{RefusesFlushed, opening_of};
 
 use crate::caller::Caller;
 use crate::handle::Handle;
+use crate::opening::Opening;
 use crate::scans::Scans;
 use crate::state::State;
 use machine_alone::Machine;
 use sled::Db as Owned;
-use sled_model::{Collection, MergeOperator};
+use sled_model::MergeOperator;
 use sled_nodes::texts::NUMBERS_USED_UP;
 use sled_nodes::{Error, Result};
 use sled_store::Pages;
@@ -34,7 +36,7 @@ pub struct Db<P: Pages, L: Ledger, M = Box<dyn MergeOperator + Send>> {
     // the parts of the callers that have no handle, and one more
     pub(crate) rest: Share<L>,
     // what the state has as its own
-    pub(crate) opening: Arc<Vec<Collection>>,
+    pub(crate) opening: Opening,
 }
 
 impl<P: Pages, L: Ledger, M> Model for Db<P, L, M> {
@@ -42,70 +44,70 @@ impl<P: Pages, L: Ledger, M> Model for Db<P, L, M> {
 
     ghost Value = { SharedValue };
 
-    ghost use Rattle.sled_model.specs.Collections.{contents_of};
     ghost use Rattle.machine_shared.specs.Sound.{HasParts};
 
-    ghost view = { λ d. record { callers = d.callers; given = d.given; before = d.before; opening = contents_of d.opening.value.items } };
+    ghost view = { λ d. record { callers = d.callers; given = d.given; before = d.before; opening = d.opening } };
 
     ghost invariant = { λ d. HasParts d.callers d.given d.before d.rest.parts };
 }
 
-// The same collections, for two owners.
-fn share_opening(
+// The lock of a state.
+type Lock<P, L, M> = Arc<Mutex<Option<State<P, L, M>>>>;
+
+// The same opening, for one owner more, and a lock with nothing under it.
+pub(crate) fn opening_and_lock<P: Pages, L: Ledger, M: MergeOperator>(
     alloc: Global,
-    opening: Vec<Collection>,
-) -> Result<(Arc<Vec<Collection>>, Arc<Vec<Collection>>)>
-    ensures first { IfOk result (λ both. contents_of both.0.value.items ≡ contents_of opening.items) }
-    ensures second { IfOk result (λ both. contents_of both.1.value.items ≡ contents_of opening.items) }
+    opening: &Opening,
+) -> Option<(Opening, Lock<P, L, M>)>
+    ensures { IfSome result (λ both. both.0 ≡ opening.now) }
 {
-    let one = match Arc::new(alloc, opening) {
-        Ok(one) => one,
+    let opening = opening.again().ok()?;
+    match Arc::new(alloc, Mutex::new(None)) {
+        Ok(lock) => Some((opening, lock)),
         Err(failed) => {
             drop(failed);
-            return Err(Error::NoMemory);
-        }
-    };
-    match Arc::try_clone(&one) {
-        Ok(other) => Ok((one, other)),
-        Err(failed) => {
-            drop(failed);
-            drop(one);
-            Err(Error::NoMemory)
+            drop(opening);
+            None
         }
     }
 }
 
-// The collections of a database, for two owners.
-fn export_of<P: Pages, M: MergeOperator>(
+// What a database has, flushed or not, for two owners, and a lock with nothing under it.
+fn openings_and_lock<P: Pages, L: Ledger, M: MergeOperator>(
     alloc: Global,
     db: &Owned<P, M>,
-) -> Result<(Arc<Vec<Collection>>, Arc<Vec<Collection>>)>
-    ensures first { IfOk result (λ both. contents_of both.0.value.items ≡ collections (trees_of (now (P.store db.now.pages))) db.now.trees) }
-    ensures second { IfOk result (λ both. contents_of both.1.value.items ≡ collections (trees_of (now (P.store db.now.pages))) db.now.trees) }
+    flushed: bool,
+) -> Result<(Opening, Opening, Lock<P, L, M>)>
+    ensures opening { IfOk result (λ parts. parts.0 ≡ opening_of P.store flushed db.now) }
+    ensures other { IfOk result (λ parts. parts.1 ≡ parts.0) }
     ensures open { OnOk result ((now (P.store db.now.pages)).in_group ≡ false) }
     ensures err { IfErr result (RefusesExport (P.store db.now.pages)) }
 {
-    let opening = db.export()?;
-    match share_opening(alloc, opening) {
-        Ok(both) => Ok(both),
-        Err(e) => {
-            drop(e);
+    let collections = db.export()?;
+    let Ok(opening) = Opening::new(alloc, collections, flushed) else {
+        return Err(Error::NoMemory);
+    };
+    match opening_and_lock(alloc, &opening) {
+        Some((other, lock)) => Ok((opening, other, lock)),
+        None => {
+            drop(opening);
             Err(Error::NoMemory)
         }
     }
 }
 
-// The first state of a database, which began with these collections.
+// The first state of a database, which began so.
 fn first_state<P: Pages, L: Ledger, M: MergeOperator>(
     alloc: Global,
     db: Owned<P, M>,
-    opening: Arc<Vec<Collection>>,
+    opening: Opening,
     calls: Book<L>,
     scans: Scans,
 ) -> State<P, L, M>
     requires sound { IsDb P.store db }
     requires open { (now (P.store db.pages)).in_group ≡ false }
-    requires opening { contents_of opening.value.items ≡ collections (trees_of (now (P.store db.pages))) db.trees }
+    requires opening { opening.contents ≡ collections (trees_of (now (P.store db.pages))) db.trees }
+    requires flushed { opening.flushed ≡ true → crash_states (P.store db.pages) ≡ now (P.store db.pages) ∷ [] }
     requires none { calls.total ≡ 0 }
     requires no_scans { scans.notes ≡ [] }
 {
@@ -138,7 +140,7 @@ impl<P: Pages, L: Ledger, M: MergeOperator> Db<P, L, M> {
         requires name { blank.name ≡ L.name }
         requires parts { blank.parts ≡ L.parts }
         requires each { blank.parts ≡ callers + 1 }
-        ensures ok { IfOk result (λ shared. shared ≡ record { callers = callers; given = 0; before = 0; opening = collections (trees_of (now (P.store db.pages))) db.trees }) }
+        ensures ok { IfOk result (λ shared. shared ≡ record { callers = callers; given = 0; before = 0; opening = opening_of P.store false db }) }
         ensures open { OnOk result ((now (P.store db.pages)).in_group ≡ false) }
         ensures same { IfErr result (λ e. e.0 ≡ db) }
         ensures err { IfErr result (λ e. RefusesExport (P.store db.pages) e.1) }
@@ -162,7 +164,7 @@ impl<P: Pages, L: Ledger, M: MergeOperator> Db<P, L, M> {
         requires name { blank.name ≡ L.name }
         requires parts { blank.parts ≡ L.parts }
         requires each { blank.parts ≡ callers + 1 }
-        ensures ok { IfOk result (λ shared. shared ≡ record { callers = callers; given = 0; before = 0; opening = collections (trees_of (now (P.store db.pages))) db.trees }) }
+        ensures ok { IfOk result (λ shared. shared ≡ record { callers = callers; given = 0; before = 0; opening = opening_of P.store false db }) }
         ensures open { OnOk result ((now (P.store db.pages)).in_group ≡ false) }
         ensures same { IfErr result (λ e. e.0 ≡ db) }
         ensures err { IfErr result (λ e. RefusesExport (P.store db.pages) e.1) }
@@ -182,27 +184,16 @@ impl<P: Pages, L: Ledger, M: MergeOperator> Db<P, L, M> {
         requires name { blank.name ≡ L.name }
         requires parts { blank.parts ≡ L.parts }
         requires each { blank.parts ≡ callers + 1 }
-        ensures ok { IfOk result (λ shared. shared ≡ record { callers = callers; given = 0; before = 0; opening = collections (trees_of (now (P.store db.pages))) db.trees }) }
+        ensures ok { IfOk result (λ shared. shared ≡ record { callers = callers; given = 0; before = 0; opening = opening_of P.store false db }) }
         ensures open { OnOk result ((now (P.store db.pages)).in_group ≡ false) }
         ensures same { IfErr result (λ e. e.0 ≡ db) }
         ensures err { IfErr result (λ e. RefusesExport (P.store db.pages) e.1) }
     {
-        let both = match export_of(alloc, &db) {
-            Ok(both) => both,
+        let (opening, other, lock) = match openings_and_lock(alloc, &db, false) {
+            Ok(parts) => parts,
             Err(e) => {
                 drop(blank);
                 return Err((db, e));
-            }
-        };
-        let (opening, kept) = both;
-        let lock = match Arc::new(alloc, Mutex::new(None)) {
-            Ok(lock) => lock,
-            Err(failed) => {
-                drop(failed);
-                drop(opening);
-                drop(kept);
-                drop(blank);
-                return Err((db, Error::NoMemory));
             }
         };
         db.audit();
@@ -215,7 +206,59 @@ impl<P: Pages, L: Ledger, M: MergeOperator> Db<P, L, M> {
             given: 0,
             before: 0,
             rest,
-            opening: kept,
+            opening: other,
+        })
+    }
+
+    /// Flushes a database and shares it, as `new` does, noting what scans do if `notes_scans` is true, as `new_noting_scans`. So a crash
+    /// leaves nothing of before: what it may leave begins with what the database has now, and goes on as the history does, from the last
+    /// flush on. Refused as an export is, with the database given back as it was, and then as a flush is.
+    ///
+    /// ```text
+    /// let blank = machine_shared::Blank::new(3); // For two callers.
+    /// let shared = machine_shared::Db::<MemPages, std::marker::Brand>::new_flushed(rt, alloc, db, blank, 2, false);
+    /// ```
+    pub fn new_flushed(
+        rt: &impl Wait,
+        alloc: Global,
+        db: Owned<P, M>,
+        blank: Blank,
+        callers: u64,
+        notes_scans: bool,
+    ) -> std::result::Result<Db<P, L, M>, (Owned<P, M>, Error)>
+        requires name { blank.name ≡ L.name }
+        requires parts { blank.parts ≡ L.parts }
+        requires each { blank.parts ≡ callers + 1 }
+        ensures ok { IfOk result (λ shared. shared ≡ record { callers = callers; given = 0; before = 0; opening = opening_of P.store true db }) }
+        ensures open { OnOk result ((now (P.store db.pages)).in_group ≡ false) }
+        ensures err { IfErr result (λ e. RefusesFlushed P.store M.meant db e.0 e.1) }
+    {
+        let mut db = db;
+        let (opening, other, lock) = match openings_and_lock(alloc, &db, true) {
+            Ok(parts) => parts,
+            Err(e) => {
+                drop(blank);
+                return Err((db, e));
+            }
+        };
+        db.audit();
+        if let Err(e) = db.flush() {
+            drop(opening);
+            drop(other);
+            drop(lock);
+            drop(blank);
+            return Err((db, e));
+        }
+        let (calls, rest) = blank.open::<L>();
+        let scans = Scans::new(alloc, notes_scans);
+        fill(rt, &lock, first_state(alloc, db, opening, calls, scans));
+        Ok(Db {
+            lock,
+            callers,
+            given: 0,
+            before: 0,
+            rest,
+            opening: other,
         })
     }
 

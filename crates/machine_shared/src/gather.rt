@@ -1,16 +1,16 @@
 //! The state, out of its lock.
 ghost use Rattle.std.specs.Prelude.{◌≡◌, ◌+◌, true, All, IfOk, IfErr, IfSome, length, vec_len};
-ghost use Rattle.sled_model.specs.Collections.{contents_of};
 ghost use Rattle.machine_shared.specs.Sound.{HasCrashMaps, HasHistory, HasLegalHistory, HasRisingIds, HasScans};
 ghost use Rattle.machine_shared.specs.Gathered.{EachOnceBehind, IsMadeIn, IsOfGiven};
 ghost use Rattle.machine_shared.specs.UnderLock.{IsHeld};
 
-use crate::compare::{all_agree, are_all, are_same_collections, has_no_others};
+use crate::compare::{all_agree, are_all, has_no_others};
 use crate::db::Db;
 use crate::handle::Handle;
 use crate::locked::locked;
+use crate::opening::Opening;
 use crate::state::State;
-use sled_model::{Collection, MergeOperator};
+use sled_model::MergeOperator;
 use sled_store::Pages;
 use std::sync::ledger::Ledger;
 use std::sync::{Arc, Wait};
@@ -26,16 +26,6 @@ fn agrees_with<P: Pages, L: Ledger, M: MergeOperator>(
 {
     let history = state.history();
     has_no_others(history, given) && all_agree(history, handles)
-}
-
-// Whether the state began with these collections.
-fn began_with<P: Pages, L: Ledger, M: MergeOperator>(
-    state: &State<P, L, M>,
-    opening: &[Collection],
-) -> bool
-    ensures { result ≡ true → state.now.opening ≡ contents_of opening.now }
-{
-    are_same_collections(state.opening(), opening)
 }
 
 impl<P: Pages, L: Ledger, M: MergeOperator> Db<P, L, M> {
@@ -120,7 +110,7 @@ impl<P: Pages, L: Ledger, M: MergeOperator> Db<P, L, M> {
             return None;
         }
         let mut guard = locked(rt, &self.lock);
-        take_begun(&mut *guard, self.opening.as_slice())
+        take_begun(&mut *guard, &self.opening)
     }
 
     // The state, if all handles are there and agree with it; else it stays.
@@ -136,7 +126,7 @@ impl<P: Pages, L: Ledger, M: MergeOperator> Db<P, L, M> {
         }
         let mut guard = locked(rt, &self.lock);
         let last = self.before + self.given;
-        take_agreeing(&mut *guard, handles, last, self.opening.as_slice())
+        take_agreeing(&mut *guard, handles, last, &self.opening)
     }
 }
 
@@ -145,28 +135,28 @@ fn take_agreeing<P: Pages, L: Ledger, M: MergeOperator>(
     slot: &mut Option<State<P, L, M>>,
     handles: &[Handle<P, L, M>],
     given: u64,
-    opening: &[Collection],
+    opening: &Opening,
 ) -> Option<State<P, L, M>>
     ensures made { IfSome result (λ s. All (IsMadeIn s.history) handles.now) }
     ensures others { IfSome result (λ s. All (IsOfGiven given) s.history) }
-    ensures opening { IfSome result (λ s. s.opening ≡ contents_of opening.now) }
+    ensures opening { IfSome result (λ s. s.opening ≡ opening.now) }
 {
     let agrees = match slot {
-        Some(state) => began_with(state, opening) && agrees_with(state, handles, given),
+        Some(state) => state.opening.is(opening) && agrees_with(state, handles, given),
         None => false,
     };
     if agrees { slot.take() } else { None }
 }
 
-// The state, if it began with these collections; else it stays.
+// The state, if it began with this; else it stays.
 fn take_begun<P: Pages, L: Ledger, M: MergeOperator>(
     slot: &mut Option<State<P, L, M>>,
-    opening: &[Collection],
+    opening: &Opening,
 ) -> Option<State<P, L, M>>
-    ensures { IfSome result (λ s. s.opening ≡ contents_of opening.now) }
+    ensures { IfSome result (λ s. s.opening ≡ opening.now) }
 {
     let begun = match slot {
-        Some(state) => began_with(state, opening),
+        Some(state) => state.opening.is(opening),
         None => false,
     };
     if begun { slot.take() } else { None }

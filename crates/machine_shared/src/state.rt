@@ -1,19 +1,19 @@
 //! What is under the lock.
 use crate::entry::Entry;
+use crate::opening::Opening;
 use crate::scans::Scans;
 use machine_alone::Machine;
-use sled_model::{Collection, MergeOperator};
+use sled_model::MergeOperator;
 use sled_store::Pages;
 use std::marker::Model;
-use std::sync::Arc;
 use std::sync::ledger::{Book, Ledger, Share};
 
-/// A machine, the collections that its database had when it was shared, and what callers made since, in order. This history is legal, which
+/// A machine, what its database had when it was shared, and what callers made since, in order. This history is legal, which
 /// `audit` says. Scans make no entry there; what they did is in a list of its own, if that was asked for.
 pub struct State<P: Pages, L: Ledger, M = Box<dyn MergeOperator + Send>> {
     pub(crate) machine: Machine<P, M>,
-    // shared with the database, which compares at the end
-    pub(crate) opening: Arc<Vec<Collection>>,
+    // the database has it too, and compares at the end
+    pub(crate) opening: Opening,
     pub(crate) history: Vec<Entry>,
     // as many as the history has entries
     pub(crate) calls: Book<L>,
@@ -26,17 +26,16 @@ impl<P: Pages, L: Ledger, M> Model for State<P, L, M> {
 
     ghost Value = { StateValue P M };
 
-    ghost use Rattle.sled_model.specs.Collections.{contents_of};
     ghost use Rattle.machine_shared.specs.Made.{entry_values};
     ghost use Rattle.machine_shared.specs.Sound.{IsState};
 
-    ghost view = { λ s. record { machine = s.machine; opening = contents_of s.opening.value.items; history = entry_values s.history.items; scans = s.scans } };
+    ghost view = { λ s. record { machine = s.machine; opening = s.opening; history = entry_values s.history.items; scans = s.scans } };
 
     ghost use Rattle.std.specs.Prelude.{length};
     ghost use Rattle.machine_shared.specs.Scans.{AreInOrder};
     ghost use Rattle.machine_shared.specs.UnderWay.{MachineScans};
 
-    ghost invariant = { λ s. (is : IsState P.store s.machine (contents_of s.opening.value.items) (entry_values s.history.items) s.calls.total) × AreInOrder 0 s.scans.notes (length s.history.items) × MachineScans P.store s.machine is.crashes.moments (length (entry_values s.history.items)) s.scans };
+    ghost invariant = { λ s. (is : IsState P.store s.machine s.opening (entry_values s.history.items) s.calls.total) × AreInOrder 0 s.scans.notes (length s.history.items) × MachineScans P.store s.machine is.crashes.moments (length (entry_values s.history.items)) s.scans };
 }
 
 impl<P: Pages, L: Ledger, M: MergeOperator> State<P, L, M> {

@@ -217,9 +217,9 @@ impl<P: Pages, L: Ledger, M: MergeOperator> State<P, L, M> {
     /// let collections = state.opening(); // Of each tree its name and its pairs.
     /// ```
     pub fn opening(&self) -> &[Collection]
-        ensures { contents_of result.now ≡ self.now.opening }
+        ensures { contents_of result.now ≡ self.now.opening.contents }
     {
-        self.opening.as_slice()
+        self.opening.collections()
     }
 
     /// What callers made, in the order of the steps that decided it. It is legal, as `audit` says.

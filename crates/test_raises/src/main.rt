@@ -1,11 +1,13 @@
 //! Runs `raise_and_crash` of `example_crashes`: threads raise a number of a database that they share, its store crashes, and the number is
-//! found again. How much a crash keeps of it is read off how many actions a raise takes.
+//! found again. How much a crash keeps of it is read off how many actions a raise takes. At the end it tells whether a database that is
+//! flushed and shared notes what scans do.
 #![tactic(auto)]
 
 ghost use Rattle.std.specs.Prelude.{◌≡◌};
 
 use example_crashes::raise_and_crash;
 use sled::{Db, Error, empty_pages};
+use sled_machine::shared;
 use sled_machine::shared::Blank;
 use std::alloc::Global;
 use std::marker::Brand;
@@ -34,7 +36,7 @@ fn go<L: Ledger + Send + Sync, R: Threads + Wait + Sync>(
 where
     requires name { blank.name ≡ L.name }
     requires parts { blank.parts ≡ L.parts }
-    requires each { blank.parts ≡ 5 }
+    requires each { blank.parts ≡ 4 }
 {
     let db = Db::open(alloc, empty_pages(alloc), b"hits").map_err(|(_, e)| e)?;
     let tree = db.default_tree()?;
@@ -61,7 +63,41 @@ fn go_on<R: Threads + Wait + Sync>(
     flushes: bool,
     keep: usize,
 ) -> sled::Result<(u64, u64)> {
-    go::<Brand, R>(rt, alloc, Blank::new(5), flushes, keep)
+    go::<Brand, R>(rt, alloc, Blank::new(4), flushes, keep)
+}
+
+// Whether a database that is flushed and shared notes what scans do.
+fn keeps<L: Ledger, R: Wait>(
+    rt: &R,
+    alloc: Global,
+    blank: Blank,
+    notes_scans: bool,
+) -> sled::Result<bool>
+where
+    requires name { blank.name ≡ L.name }
+    requires parts { blank.parts ≡ L.parts }
+    requires each { blank.parts ≡ 1 }
+{
+    let db = Db::open(alloc, empty_pages(alloc), b"hits").map_err(|(_, e)| e)?;
+    let shared = shared::Db::<_, L>::new_flushed(rt, alloc, db, blank, 0, notes_scans).map_err(|(
+        _,
+        e,
+    )| e)?;
+    match shared.reclaim(rt) {
+        Ok(state) => {
+            let keeps = state.keeps_scans();
+            drop(state);
+            Ok(keeps)
+        }
+        Err(shared) => {
+            drop(shared);
+            Err(Error::NoMemory)
+        }
+    }
+}
+
+fn keeps_on<R: Wait>(rt: &R, alloc: Global, notes_scans: bool) -> sled::Result<bool> {
+    keeps::<Brand, R>(rt, alloc, Blank::new(1), notes_scans)
 }
 
 fn main(rt: HostRuntime) -> sled::Result<()> {
@@ -82,5 +118,8 @@ fn main(rt: HostRuntime) -> sled::Result<()> {
         go_on(&rt, alloc, false, 0)?,
     );
     tell(&rt, "a crash after a flush", go_on(&rt, alloc, true, 0)?);
+    let noted = keeps_on(&rt, alloc, true)?;
+    let unnoted = keeps_on(&rt, alloc, false)?;
+    let _ = println!(&rt; "scans are noted: {noted}, and without asking: {unnoted}");
     Ok(())
 }

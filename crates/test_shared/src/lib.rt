@@ -28,6 +28,8 @@ mod export_tests;
 #[cfg(test)]
 mod fetch_tests;
 #[cfg(test)]
+mod flushed_tests;
+#[cfg(test)]
 mod gate_tests;
 #[cfg(test)]
 mod gather_tests;

@@ -29,11 +29,6 @@ pub record LeavesNumber (flushes : Bool) (old new : Store) (tree key : Key) (n :
   pub same : flushes ≡ false → new ≡ old
   pub one : flushes ≡ true → (m : ℕ) → MayLeave new tree key m → m ≡ n
 
--- a caller made one flush, and nothing else
-pub record HasFlushed (c : CallerValue) : Type 0 where
-  pub reply : Reply
-  pub made : c.made ≡ WholeMade Flush reply ∷ []
-
 -- a caller made nothing but parts of raises, of which so many succeeded
 pub record HasRaised (tree : Tree) (key : Key) (times : ℕ) (c : CallerValue) : Type 0 where
   pub only : OnlyRaises tree key c
@@ -45,7 +40,7 @@ pub record IsRaised {P M : Type 0} (store : P → Store) (tree : Tree) (key : Ke
   pub opens : IsOpen store s.machine
   pub stands : StandsHigher store tree key by s
   pub safe : (left : State) → IsCrashState (store s.machine.db.pages) left
-      → StandsBetween tree key (number_under (maps_from s.opening) tree.name key) (number_under (maps_now store s.machine) tree.name key) (trees_of left)
+      → StandsBetween tree key (number_under (maps_from s.opening.contents) tree.name key) (number_under (maps_now store s.machine) tree.name key) (trees_of left)
 
 -- pages that are handed back once all raises were made can be opened
 abbrev pub is_raised : {L M : Type 0} → Stopped L M → Type 0

@@ -1,7 +1,6 @@
 use Rattle.std.proofs.Common.{◌≡◌, ◌∙◌, ℕ, ◌+◌, ◌≤◌, ◌<◌, All, List, refl, sym, ap, subst, arith}
 use Rattle.std.proofs.lemmas.List.{get_or-map, length-map}
 use Rattle.std.proofs.lemmas.List.Elements.{All-map}
-use Rattle.sled_model.specs.Collections.{contents_of}
 use Rattle.machine_shared.specs.Again.{NoneAbove}
 use Rattle.machine_shared.specs.Made.{EntryValue, entry_value, entry_values}
 use Rattle.machine_shared.specs.Values.{StateValue}
@@ -26,11 +25,10 @@ returns-then-callers-before-clause-err g c = record {
 
 pub returns-clause-ok : goal.returns-clause-ok
 returns-clause-ok g c =
-    let same : contents_of c.in-Some.opening.value.items ≡ contents_of c.state.inside.opening.value.items = c.in-Some.ensures in
     record {
       callers_are = refl;
       none = refl;
       behind = subst (λ es. NoneAbove es c.greatest_in-before.result) c.history.ensures.entries (All-map (λ (e : EntryValue). e.by ≤ c.greatest_in-before.result) entry_value c.history.result.now c.greatest_in-before.ensures.all);
       next = λ number none. c.greatest_in-before.ensures.least number (of_values number c.history.result.now (subst (λ es. NoneAbove es number) (sym c.history.ensures.entries) none));
-      opening = same ∙ ap (λ (s : StateValue _ _). s.opening) c.state.view_is;
+      opening = c.in-Some.ensures ∙ ap (λ (s : StateValue _ _). s.opening) c.state.view_is;
     }

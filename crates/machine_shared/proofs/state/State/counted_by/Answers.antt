@@ -10,6 +10,7 @@ invariant_of-result g c =
         legal = c.self.invariant.0.legal;
         leads = c.self.invariant.0.leads;
         crashes = c.self.invariant.0.crashes;
+        covers = c.self.invariant.0.covers;
         ids = c.self.invariant.0.ids;
         counted = counted;
       },

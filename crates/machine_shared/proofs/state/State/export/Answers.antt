@@ -1,6 +1,5 @@
 use Rattle.std.proofs.Common.{◌∙◌, [], ◌++◌, refl, ap}
 use Rattle.std.proofs.lemmas.List.{length-map}
-use Rattle.sled_model.specs.Collections.{contents_of}
 use Rattle.machine_shared.specs.Made.{entry_value, entry_values, made_values}
 use Rattle.machine_shared.specs.Notes.{entries_of}
 use Rattle.machine_shared.specs.theory.Noting.{first_noted}
@@ -14,20 +13,20 @@ use Rattle.machine_shared.proofs.state.State.export.Goals as goal
 pub invariant_of-self : goal.invariant_of-self
 invariant_of-self g c =
     let longer = c.note_and_count.ensures.history ∙ ap (λ es. entry_values es ++ entries_of c.me.inside.number (first_noted c.export_noting-all.result.1)) c.export_noting-all.ensures.history in
-    let after = read_state g.P.Pages.store g.P.Pages.flush_number g.M.MergeOperator.meant c.self.inside.machine (contents_of c.self.inside.opening.value.items)
+    let after = read_state g.P.Pages.store g.P.Pages.flush_number g.M.MergeOperator.meant c.self.inside.machine c.self.inside.opening
     (entry_values c.self.inside.history.items) (entry_values c.note_and_count.new.history.items) c.self.inside.calls.total c.note_and_count.new.calls.total c.self.invariant.0
     (length-map c.note_and_count.new.history.items entry_value ∙ c.note_and_count.ensures.counted)
     c.me.inside.number (first_noted c.export_noting-all.result.1) (notes_so g.P.Pages.store g.M.MergeOperator.meant c.self.inside.machine [] read.Export c.export_noting-all.result.0 (first_noted c.export_noting-all.result.1) c.export_noting-all.ensures.ok c.export_noting-all.ensures.err c.export_noting-all.ensures.reads)
     longer in (
       after.0,
       longer_in_order c.self.inside.scans.notes c.self.inside.history.items c.note_and_count.new.history.items _ longer c.self.invariant.1,
-      after_none g.P.Pages.store g.P.Pages.flush_number g.M.MergeOperator.meant c.self.inside.machine c.self.inside.machine (contents_of c.self.inside.opening.value.items) (entry_values c.self.inside.history.items) (entry_values c.note_and_count.new.history.items) c.self.invariant.0.crashes after.0.crashes after.1 (no_shorter _ _ _ longer) c.self.inside.scans c.self.invariant.2 c.audit.ensures.ascend.is refl,
+      after_none g.P.Pages.store g.P.Pages.flush_number g.M.MergeOperator.meant c.self.inside.machine c.self.inside.machine c.self.inside.opening.contents (entry_values c.self.inside.history.items) (entry_values c.note_and_count.new.history.items) c.self.invariant.0.crashes after.0.crashes after.1 (no_shorter _ _ _ longer) c.self.inside.scans c.self.invariant.2 c.audit.ensures.ascend.is refl,
     )
 
 pub returns-clause-looks : goal.returns-clause-looks
 returns-clause-looks g c =
     let noted = read_noted read.Export c.export_noting-all.result.0 (first_noted c.export_noting-all.result.1) c.export_noting-all.ensures.ok c.export_noting-all.ensures.err in
-    looked g.P.Pages.store g.M.MergeOperator.meant [] read.Export c.export_noting-all.result.0 c.self.inside.machine (contents_of c.self.inside.opening.value.items) c.self.inside.scans (entry_values c.self.inside.history.items) (entry_values c.note_and_count.new.history.items) c.me.inside.number (made_values c.me.inside.made.items) (made_values c.note_and_count.new.made.items)
+    looked g.P.Pages.store g.M.MergeOperator.meant [] read.Export c.export_noting-all.result.0 c.self.inside.machine c.self.inside.opening c.self.inside.scans (entry_values c.self.inside.history.items) (entry_values c.note_and_count.new.history.items) c.me.inside.number (made_values c.me.inside.made.items) (made_values c.note_and_count.new.made.items)
     _ c.self.view_is _ c.me.view_is c.export_noting-all.ensures.reads c.export_noting-all.ensures.refused
     (c.note_and_count.ensures.history ∙ ap (λ es. entry_values es ++ entries_of c.me.inside.number (first_noted c.export_noting-all.result.1)) c.export_noting-all.ensures.history ∙ ap (λ m. entry_values c.self.inside.history.items ++ entries_of c.me.inside.number m) noted)
     (c.note_and_count.ensures.made ∙ ap (λ ms. made_values ms ++ first_noted c.export_noting-all.result.1) c.export_noting-all.ensures.made ∙ ap (λ m. made_values c.me.inside.made.items ++ m) noted)

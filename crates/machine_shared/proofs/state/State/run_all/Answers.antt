@@ -1,5 +1,4 @@
 use Rattle.std.proofs.Common.{refl, subst, le_of_eq}
-use Rattle.sled_model.specs.Collections.{contents_of}
 use Rattle.sled.specs.Transactions.{RunsOnList, trees_of_list}
 use Rattle.machine_shared.specs.Made.{entry_values}
 use Rattle.machine_shared.specs.Transactions.{RunsAllIn, fails_tests_of_list}
@@ -29,8 +28,8 @@ invariant_of-self g c =
     let meant = g.M.MergeOperator.meant in
     let a = c.self.inside.machine in
     let b = c.run_transaction_all.new.self in
-    let opening = contents_of c.self.inside.opening.value.items in
+    let opening = c.self.inside.opening in
     let history = entry_values c.self.inside.history.items in
     let took = taken store meant (fails_tests_of_list store meant (trees_of_list c.args.trees.now) a.db) (RunsOnList store meant g.F.Fn g.R.TransactionAnswer.result_of c.args.f a.db (trees_of_list c.args.trees.now)) a.db c.run_transaction_all.result b.db c.run_transaction_all.ensures.runs in
     let after = ran_state store number meant a b opening history c.self.inside.calls.total c.self.invariant.0 c.run_transaction_all.ensures.same took in
-    (after.0, c.self.invariant.1, after_run store number meant a b opening history history c.self.invariant.0.crashes after.0.crashes after.1 (le_of_eq refl) c.self.inside.scans c.self.invariant.2 c.audit.ensures.ascend.is c.run_transaction_all.ensures.same took)
+    (after.0, c.self.invariant.1, after_run store number meant a b opening.contents history history c.self.invariant.0.crashes after.0.crashes after.1 (le_of_eq refl) c.self.inside.scans c.self.invariant.2 c.audit.ensures.ascend.is c.run_transaction_all.ensures.same took)

@@ -7,7 +7,6 @@ use Rattle.machine_shared.specs.Scans.{AreInOrder, NotesScan, noted_at, scanned_
 use Rattle.machine_shared.specs.Sound.{IsState}
 use Rattle.machine_shared.specs.Values.{CallerValue, StateValue}
 use Rattle.machine_shared.specs.theory.Noting.{first_noted}
-use Rattle.sled_model.specs.Collections.{contents_of}
 use Rattle.machine_shared.proofs.Ids.{step_risen}
 use Rattle.machine_shared.proofs.Leading.{step_leaves, legal_of, leads_of}
 use Rattle.machine_shared.proofs.ScanStates.{after_step, no_shorter}
@@ -37,11 +36,12 @@ invariant_of-self g c =
     let here_too : c.len-at.result ≡ length (entry_values c.self.inside.history.items) = omega (arith, c.len-at.ensures, c.self.inside.history.ok.0, length-map c.self.inside.history.items entry_value) in
     let here : c.len-at.result ≡ length c.self.inside.history.items = omega (arith, c.len-at.ensures, c.self.inside.history.ok.0) in
     let longer = c.note_and_count.ensures.history ∙ ap (λ es. entry_values es ++ entries_of c.me.inside.number (first_noted c.step_noting-outcome.result.1)) c.step_noting-outcome.ensures.history ∙ ap (λ m. entry_values c.self.inside.history.items ++ entries_of c.me.inside.number m) c.step_noting-outcome.ensures.noted in
-    let crashes = step_leaves g.P.Pages.store g.P.Pages.flush_number g.M.MergeOperator.meant c.self.inside.machine c.step_noting-outcome.new.machine (contents_of c.self.inside.opening.value.items) (entry_values c.self.inside.history.items) c.self.invariant.0.crashes c.me.inside.number c.args.slot _ _ c.step_noting-outcome.ensures.step.step longer in
-    let now : IsState g.P.Pages.store c.step_noting-outcome.new.machine (contents_of c.self.inside.opening.value.items) (entry_values c.note_and_count.new.history.items) c.note_and_count.new.calls.total = record {
+    let crashes = step_leaves g.P.Pages.store g.P.Pages.flush_number g.M.MergeOperator.meant c.self.inside.machine c.step_noting-outcome.new.machine c.self.inside.opening.contents (entry_values c.self.inside.history.items) c.self.invariant.0.crashes c.me.inside.number c.args.slot _ _ c.step_noting-outcome.ensures.step.step longer in
+    let now : IsState g.P.Pages.store c.step_noting-outcome.new.machine c.self.inside.opening (entry_values c.note_and_count.new.history.items) c.note_and_count.new.calls.total = record {
       legal = legal_of crashes.0;
       leads = leads_of crashes.0;
       crashes = crashes.0;
+      covers = λ f. crashes.1 ∙ c.self.invariant.0.covers f;
       ids = step_risen g.P.Pages.store g.P.Pages.flush_number g.M.MergeOperator.meant c.self.inside.machine c.step_noting-outcome.new.machine c.me.inside.number _ _ _ _ _ c.step_noting-outcome.ensures.step.step.step.is longer c.self.invariant.0.ids;
       counted = length-map c.note_and_count.new.history.items entry_value ∙ c.note_and_count.ensures.counted;
     } in (
@@ -50,7 +50,7 @@ invariant_of-self g c =
           (subst (λ n. AreInOrder 0 c.note_step.new.self.notes n) here
           (noted_in_order c.self.inside.scans c.note_step.new.self c.args.slot c.len-at.result _ c.note_step.ensures
           (subst (λ n. AreInOrder 0 c.self.inside.scans.notes n) (sym here) c.self.invariant.1))),
-      after_step g.P.Pages.store g.P.Pages.flush_number g.M.MergeOperator.meant c.self.inside.machine c.step_noting-outcome.new.machine (contents_of c.self.inside.opening.value.items) (entry_values c.self.inside.history.items) (entry_values c.note_and_count.new.history.items) c.self.invariant.0.crashes crashes.0 crashes.2 (no_shorter _ _ _ longer) c.self.inside.scans c.self.invariant.2 c.audit.ensures.ascend.is
+      after_step g.P.Pages.store g.P.Pages.flush_number g.M.MergeOperator.meant c.self.inside.machine c.step_noting-outcome.new.machine c.self.inside.opening.contents (entry_values c.self.inside.history.items) (entry_values c.note_and_count.new.history.items) c.self.invariant.0.crashes crashes.0 crashes.2 (no_shorter _ _ _ longer) c.self.inside.scans c.self.invariant.2 c.audit.ensures.ascend.is
           c.args.slot c.step_noting-outcome.result.0 c.step_noting-outcome.ensures.step.step c.audit.ensures.slots c.note_step.new.self
           (subst (λ n. NotesScan c.self.inside.scans (noted_at c.args.slot n (scanned_of c.step_noting-outcome.result.0)) c.note_step.new.self) here_too c.note_step.ensures),
     )
