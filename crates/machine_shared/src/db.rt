@@ -123,8 +123,8 @@ fn first_state<P: Pages, L: Ledger, M: MergeOperator>(
 
 impl<P: Pages, L: Ledger, M: MergeOperator> Db<P, L, M> {
     /// Shares a database among so many callers. Its ledger is the one that is handed in unopened, with a part for each caller and one more.
-    /// Refused as an export is, with the database given back as it was: with `Closed`, with `Io` if a page cannot be read, and with
-    /// `NoMemory`.
+    /// It flushes nothing: until a flush a crash may leave what it might have left before. `new_flushed` flushes first. Refused as an export
+    /// is, with the database given back as it was: with `Closed`, with `Io` if a page cannot be read, and with `NoMemory`.
     ///
     /// ```
     /// let blank = machine_shared::Blank::new(3); // For two callers.
@@ -172,6 +172,40 @@ impl<P: Pages, L: Ledger, M: MergeOperator> Db<P, L, M> {
         Self::share(rt, alloc, db, blank, callers, true)
     }
 
+    // A database under its lock, with all that its sharing needs.
+    fn placed(
+        rt: &impl Wait,
+        alloc: Global,
+        db: Owned<P, M>,
+        parts: (Opening, Opening, Lock<P, L, M>),
+        blank: Blank,
+        callers: u64,
+        keeps_scans: bool,
+    ) -> Db<P, L, M>
+        requires name { blank.name ≡ L.name }
+        requires parts { blank.parts ≡ L.parts }
+        requires each { blank.parts ≡ callers + 1 }
+        requires sound { IsDb P.store db }
+        requires open { (now (P.store db.pages)).in_group ≡ false }
+        requires opening { parts.0.contents ≡ collections (trees_of (now (P.store db.pages))) db.trees }
+        requires other { parts.1 ≡ parts.0 }
+        requires flushed { parts.0.flushed ≡ true → crash_states (P.store db.pages) ≡ now (P.store db.pages) ∷ [] }
+        ensures { result ≡ record { callers = callers; given = 0; before = 0; opening = parts.0 } }
+    {
+        let (opening, other, lock) = parts;
+        let (calls, rest) = blank.open::<L>();
+        let scans = Scans::new(alloc, keeps_scans);
+        fill(rt, &lock, first_state(alloc, db, opening, calls, scans));
+        Db {
+            lock,
+            callers,
+            given: 0,
+            before: 0,
+            rest,
+            opening: other,
+        }
+    }
+
     // The same, and whether what scans do is noted.
     fn share(
         rt: &impl Wait,
@@ -197,17 +231,15 @@ impl<P: Pages, L: Ledger, M: MergeOperator> Db<P, L, M> {
             }
         };
         db.audit();
-        let (calls, rest) = blank.open::<L>();
-        let scans = Scans::new(alloc, keeps_scans);
-        fill(rt, &lock, first_state(alloc, db, opening, calls, scans));
-        Ok(Db {
-            lock,
+        Ok(Self::placed(
+            rt,
+            alloc,
+            db,
+            (opening, other, lock),
+            blank,
             callers,
-            given: 0,
-            before: 0,
-            rest,
-            opening: other,
-        })
+            keeps_scans,
+        ))
     }
 
     /// Flushes a database and shares it, as `new` does, noting what scans do if `notes_scans` is true, as `new_noting_scans`. So a crash
@@ -249,17 +281,15 @@ impl<P: Pages, L: Ledger, M: MergeOperator> Db<P, L, M> {
             drop(blank);
             return Err((db, e));
         }
-        let (calls, rest) = blank.open::<L>();
-        let scans = Scans::new(alloc, notes_scans);
-        fill(rt, &lock, first_state(alloc, db, opening, calls, scans));
-        Ok(Db {
-            lock,
+        Ok(Self::placed(
+            rt,
+            alloc,
+            db,
+            (opening, other, lock),
+            blank,
             callers,
-            given: 0,
-            before: 0,
-            rest,
-            opening: other,
-        })
+            notes_scans,
+        ))
     }
 
     /// A handle for one caller more, whose number is the next, from 1 or above those of callers before. Refused with `Unsupported`

@@ -299,7 +299,7 @@ impl<P: Pages, L: Ledger, M: MergeOperator> Handle<P, L, M> {
     /// Makes a call on a key of a tree, step by step until it is decided or refused. The lock is taken for each step and is free between
     /// two, when the gate is called. A call that is decided is added to this caller's list, with its reply. It must be no scan:
     /// `Call::is_on_key` says so. If another caller ended the slot it returns `NoSuchSlot`, and nothing is added to the list: the call had
-    /// begun in this slot, and the next time that the lock was taken the slot had it no more.
+    /// begun in this slot, and at some moment under the lock the slot had it no more.
     ///
     /// ```
     /// let outcome = handle.call(rt, &tree, Call::insert(alloc, b"ulm", b"21")?, &NoGate);

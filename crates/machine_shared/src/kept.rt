@@ -1,17 +1,16 @@
-//! Steps of a machine, some of which keep copies of their replies, and the refusal of a step.
+//! A step of a machine, and the refusal of one.
 ghost use Rattle.std.specs.Prelude.{◌≡◌, true, false, [], None};
 ghost use Rattle.sled_nodes.specs.declared.error.Error.TheVariants.{NoMemory};
 ghost use Rattle.sled_model.specs.Refusal.{ToPoint, must_refuse};
 ghost use Rattle.sled_model.specs.declared.outcome.Outcome.TheVariants.{Refused};
 ghost use Rattle.sled.specs.Values.{db_state};
 ghost use Rattle.machine_alone.specs.Values.{slots_of};
-ghost use Rattle.tree_steps.specs.Outcomes.{kept_of};
 ghost use Rattle.machine_shared.specs.Notes.{noted_in};
 ghost use Rattle.machine_shared.specs.Steps.{SlotStep};
 ghost use Rattle.machine_shared.specs.theory.Noting.{CanStep};
 
 use machine_alone::Machine;
-use sled_model::{Call, MAX_LOOPS, MergeOperator, Outcome, Reply, Slot, Tree};
+use sled_model::{Call, MAX_LOOPS, MergeOperator, Outcome, Slot, Tree};
 use sled_nodes::Error;
 use sled_store::Pages;
 
@@ -20,17 +19,6 @@ pub(crate) fn step<P: Pages, M: MergeOperator>(machine: &mut Machine<P, M>, slot
     ensures { SlotStep P.store P.flush_number M.meant machine.old slot result machine.new }
 {
     machine.step(slot)
-}
-
-// A step of the call in the slot and, if it is decided, two copies of its reply, made before its deciding action.
-pub(crate) fn step_kept<P: Pages, M: MergeOperator>(
-    machine: &mut Machine<P, M>,
-    slot: Slot,
-) -> (Outcome, Option<(Reply, Reply)>)
-    ensures step { SlotStep P.store P.flush_number M.meant machine.old slot result.0 machine.new }
-    ensures kept { result.1 ≡ kept_of result.0 }
-{
-    machine.step_kept(slot)
 }
 
 // Whether the call passes the tests.

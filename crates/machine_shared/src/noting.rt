@@ -9,7 +9,7 @@ ghost use Rattle.machine_shared.specs.Steps.{SlotStep};
 ghost use Rattle.machine_shared.specs.theory.Noting.{first_noted, is_on_key_in, second_noted};
 
 use crate::entry::{Entry, Made};
-use crate::kept::{refuse_step, step, step_kept};
+use crate::kept::{refuse_step, step};
 use machine_alone::{Job, Machine};
 use sled_model::{Call, MergeOperator, Outcome, Reply, Slot, Tree};
 use sled_nodes::Result;
@@ -171,7 +171,7 @@ fn step_of_jobs<P: Pages, M: MergeOperator>(
     ensures noted { first_noted result.1 ≡ noted_in result.0 (slots_of machine.old.flights slot) }
     ensures again { second_noted result.1 ≡ first_noted result.1 }
 {
-    let (outcome, kept) = step_kept(machine, slot);
+    let (outcome, kept) = machine.step_kept(slot);
     match kept {
         None => {
             drop(jobs);
@@ -238,7 +238,7 @@ pub(crate) fn step_noting_jobs<P: Pages, L: Ledger, M: MergeOperator>(
     if !make_room(history, made) {
         return (refuse_step(machine, slot), Some(jobs));
     }
-    let (outcome, kept) = step_kept(machine, slot);
+    let (outcome, kept) = machine.step_kept(slot);
     match kept {
         None => (outcome, Some(jobs)),
         Some((one, two)) => {
