@@ -165,17 +165,8 @@ fn beginnings(lengths: &Lengths, key: &[u8]) -> usize
     key.len() + 1
 }
 
-// Whether some subscriber of a tree watches a beginning of a key.
-pub(crate) fn any_watches(trees: &BTreeMap<u64, Lengths>, tree: u64, key: &[u8]) -> bool
-    ensures { result ≡ has_some (at_beginnings (lists_of trees.now tree) key.now (length key.now + 1)) }
-{
-    match trees.get(&tree) {
-        Some(lengths) => any_in(lengths, key),
-        None => false,
-    }
-}
-
-fn any_in(lengths: &Lengths, key: &[u8]) -> bool
+// Whether some subscriber watches a beginning of a key.
+pub(crate) fn any_in(lengths: &Lengths, key: &[u8]) -> bool
     ensures { result ≡ has_some (at_beginnings (at_length lengths.now) key.now (length key.now + 1)) }
 {
     for len in 0..beginnings(lengths, key) {

@@ -6,7 +6,7 @@ ghost use Rattle.sled_queues.specs.Queues.{AreQueues, Becomes, no_queues, with_s
 ghost use Rattle.sled_queues.specs.Tells.{is_watched_as, refuses_watch};
 
 use crate::lists::{add, cancel_all, commit_all, prepare_all, remove, take};
-use crate::prefixes::{Lengths, any_watches, enlist, find, unlist};
+use crate::prefixes::{Lengths, any_in, enlist, find, unlist};
 use crate::waiting::Waiting;
 use sled_model::{Event, Next, Subscriber};
 use sled_nodes::texts::NUMBERS_USED_UP;
@@ -119,7 +119,10 @@ impl Queues {
     pub fn is_watched(&self, tree: u64, key: &[u8]) -> bool
         ensures { is_watched_as tree key.now (queue_at self.now) result }
     {
-        any_watches(&self.lists, tree, key)
+        match self.lists.get(&tree) {
+            Some(lengths) => any_in(lengths, key),
+            None => false,
+        }
     }
 
     /// Prepares an event of a tree: a copy comes behind the events of each queue that waits for it, but `next` does not

@@ -1,7 +1,8 @@
 -- A call that is to link its change, in two halves.
-use Rattle.std.proofs.Common.{◌≡◌, ℕ, Bool, true, false, Option, Some, None, Result, Ok, Err, MatchOption, sym, refl, ap, subst, inl, inr}
+use Rattle.std.proofs.Common.{◌≡◌, ℕ, Bool, true, false, Option, Some, None, Result, Ok, Err, MatchOption, IfOk, sym, refl, ap, ◌∙◌, subst, inl, inr}
 use Rattle.sled_nodes.proofs.Basics.{none_some, some_is}
-use Rattle.sled_nodes.specs.Node.{after_link}
+use Rattle.sled_nodes.specs.Node.{after_link, value_at}
+use Rattle.sled_nodes.specs.Order.{Key}
 use Rattle.sled_store.specs.Store.{Store, now, Changes, IsRefused}
 use Rattle.sled_nodes.specs.declared.error.Error.{Error}
 use Rattle.sled_nodes.specs.declared.error.Error.TheVariants.{NoMemory}
@@ -9,8 +10,9 @@ use Rattle.sled_nodes.specs.declared.link.Link.{Link}
 use Rattle.sled_nodes.specs.declared.node.Data.{Data}
 use Rattle.sled_store.specs.declared.page.View.{View}
 use Rattle.sled_model.specs.Maps.{Merge as Operator}
-use Rattle.sled_model.specs.Answer.{event_of, key_of}
+use Rattle.sled_model.specs.Answer.{decision_of, event_of, key_of}
 use Rattle.sled_model.specs.declared.call.Call.{Call}
+use Rattle.sled_model.specs.declared.decision.Decision.{Decision}
 use Rattle.sled_model.specs.declared.decision.Effect.{Effect}
 use Rattle.sled_model.specs.declared.decision.Effect.TheVariants as effect
 use Rattle.sled_model.specs.declared.reply.Reply.{Reply}
@@ -19,8 +21,8 @@ use Rattle.tree_laws.specs.declared.flight.Stage.TheVariants as stage
 use Rattle.sled_tree.specs.Change.{link_of, decision_at}
 use Rattle.sled_tree.specs.Course.{course_of}
 use Rattle.sled_tree.specs.Follows.{Follows, TakesWay}
-use Rattle.sled_tree.specs.theory.Change.{IsChangeOf, IsOfPair, event_of_link}
-use Rattle.sled_tree.specs.theory.Linking.{IsAtLink, begun_again, StepsBy, went_with, LinksAtLeaf, replies_with, LinksPrepared}
+use Rattle.sled_tree.specs.theory.Change.{IsChangeBy, IsChangeOf, IsOfPair, event_of_link}
+use Rattle.sled_tree.specs.theory.Linking.{IsAtLink, PreparesChange, begun_again, StepsBy, went_with, LinksAtLeaf, replies_with, LinksPrepared}
 use Rattle.sled_tree.specs.theory.StageAction.{StageAction, StageActionBy, Only}
 use Rattle.sled_tree.specs.declared.act.Change.{Change}
 use Rattle.sled_tree.specs.declared.flight.InFlight.{InFlight}
@@ -36,6 +38,20 @@ no_answer e d is late = cc
 
 not_late : (d : Result Bool Error) → d ≡ Ok true → d ≡ Ok false → ⊥
 not_late d is late = cc
+
+-- the leaf that a call has read
+abbrev view_at : Stage → View → View
+view_at (stage.Act view) other = view
+view_at s other = other
+
+-- the change by the decision at the value that the leaf has
+pub prepares : (operator : Option Operator) (f : InFlight) (view : View) (value : Option Key) (decision : Decision) (r : Result (Option Change) Error) → f.stage ≡ stage.Act view → value ≡ value_at view.node.content (key_of f.job.call)
+    → decision ≡ decision_of operator f.job.call value → IfOk r (IsChangeBy decision (key_of f.job.call)) → IfOk r (PreparesChange operator f)
+prepares operator f view value decision (Err e) at v d is = tt
+prepares operator f view value decision (Ok change) at v d is = record {
+  is = λ other there. subst (λ (w : View). IsChangeOf operator f.job.call w.node.content change) (ap (λ s. view_at s view) (sym at ∙ there))
+      (subst (λ (by : Decision). IsChangeBy by (key_of f.job.call) change) (d ∙ ap (decision_of operator f.job.call) v) is);
+}
 
 -- what came of the link
 module _ (link : Link) (a b : Store) (f : InFlight) (view : View) (here : f.stage ≡ stage.Act view) where

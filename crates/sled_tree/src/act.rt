@@ -3,12 +3,12 @@ ghost use Rattle.std.specs.Prelude.{◌≡◌, ◌<◌, IfOk, IfErr, Some};
 ghost use Rattle.std.specs.Option.{option_map};
 ghost use Rattle.sled_nodes.specs.declared.error.Error.TheVariants.{NoMemory};
 ghost use Rattle.sled_model.specs.Answer.{key_of};
-ghost use Rattle.sled_tree.specs.theory.Change.{IsChangeBy, IsChangeOf, IsOfPair, event_of_link};
+ghost use Rattle.sled_tree.specs.theory.Change.{IsChangeBy, IsOfPair, event_of_link};
 ghost use Rattle.sled_tree.specs.theory.Linking.{IsAtLink, PreparesChange, LinksPrepared, StepsBy, begun_again};
 
-use crate::flight::{InFlight, Job, Went};
+use crate::flight::{InFlight, Went};
 use sled_model::{Call, Decision, Effect, Event, MAX_LOOPS, MergeOperator, Reply};
-use sled_nodes::{Link, Node, Result, clone_pair};
+use sled_nodes::{Link, Result, clone_pair};
 use sled_store::Pages;
 use std::alloc::Global;
 use tree_laws::flight::Stage;
@@ -56,23 +56,6 @@ fn change_by(alloc: Global, call: &Call, decision: Decision) -> Result<Option<Ch
     }
 }
 
-// Prepares the call's change of its leaf, by the operator of its tree: all that wants memory comes before the link, after which
-// nothing is refused.
-#[inline(always)]
-fn prepare<M: MergeOperator>(
-    alloc: Global,
-    job: &Job,
-    node: &Node,
-    operator: Option<&M>,
-) -> Result<Option<Change>>
-    ensures ok { IfOk result (IsChangeOf (option_map (λ o. M.meant o.now) operator.entry) job.now.call node.now.content) }
-    ensures err { IfErr result (λ e. e ≡ NoMemory) }
-{
-    let value = node.get(job.call.key())?;
-    let decision = job.call.at_link(alloc, value, operator)?;
-    change_by(alloc, &job.call, decision)
-}
-
 /// What subscribers learn of a link that sets a pair or takes one out. Refused with `NoMemory` alone.
 pub fn event_of(link: &Link) -> Result<Event>
     requires { IsOfPair link.now }
@@ -89,8 +72,9 @@ pub fn event_of(link: &Link) -> Result<Event>
     }
 }
 
-/// Prepares the change of a call that is to link it, by the operator of its tree, and changes nothing. There is none if the call changes
-/// nothing of the leaf that it read. Refused with `NoMemory` alone.
+/// Prepares the change of a call that is to link it, by the operator of its tree, and changes nothing: all that wants memory comes before
+/// the link, after which nothing is refused. There is none if the call changes nothing of the leaf that it read. Refused with `NoMemory`
+/// alone.
 #[inline(always)]
 pub fn prepare_change<M: MergeOperator>(
     alloc: Global,
@@ -102,7 +86,12 @@ pub fn prepare_change<M: MergeOperator>(
     ensures err { IfErr result (λ e. e ≡ NoMemory) }
 {
     match &flight.stage {
-        Stage::Act(view) => prepare(alloc, &flight.job, &view.node, operator),
+        Stage::Act(view) => {
+            let call = &flight.job.call;
+            let value = view.node.get(call.key())?;
+            let decision = call.at_link(alloc, value, operator)?;
+            change_by(alloc, call, decision)
+        }
         _ => unreachable!(),
     }
 }
