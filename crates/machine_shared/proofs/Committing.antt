@@ -1,5 +1,5 @@
 -- What a transaction comes to, as one step from a state to the next.
-use Rattle.std.proofs.Common.{◌≡◌, ◌∙◌, ◌⊎◌, inl, inr, ℕ, ◌<◌, Bool, true, false, ◌&&◌, List, [], ◌∷◌, ◌++◌, append-nil, length, get_or, Result, Ok, Err, OnOk, OnErr, IfErr, sym, refl, ap, subst}
+use Rattle.std.proofs.Common.{◌≡◌, ◌∙◌, ◌⊎◌, inl, inr, ℕ, ◌<◌, Bool, true, false, List, [], ◌∷◌, ◌++◌, append-nil, length, get_or, Result, Ok, Err, OnOk, OnErr, IfErr, sym, refl, ap, subst}
 use Rattle.std.proofs.lemmas.Option.{slice_get_read}
 use Rattle.std.specs.Global.{Vec}
 use Rattle.sled_nodes.specs.declared.error.Error.{Error}
@@ -23,7 +23,7 @@ use Rattle.machine_alone.specs.Values.{MachineValue}
 use Rattle.machine_shared.specs.Made.{EntryValue, MadeValue}
 use Rattle.machine_shared.specs.Notes.{entries_of}
 use Rattle.machine_shared.specs.Scans.{ScansValue}
-use Rattle.machine_shared.specs.Transacted.{DoesNothing, CannotNote, LacksMemory, CannotRead, MakesGroup, CommitsGroup, RefusesCommit, ByNoting, ByGroup, ByFlush, ByTest, ByClosure, ByCommit, OnlyRuns, flushes_as, transacts_as, with_db}
+use Rattle.machine_shared.specs.Transacted.{DoesNothing, CannotNote, LacksMemory, CannotRead, MakesGroup, CommitsGroup, RefusesCommit, ByNoting, ByGroup, ByFlush, ByTest, ByClosure, ByCommit, OnlyRuns, commits_as, flushes_as, transacts_as, with_db}
 use Rattle.machine_shared.specs.Transactions.{transaction_made}
 use Rattle.machine_shared.specs.UnderLock.{MakesWhole}
 use Rattle.machine_shared.specs.Values.{CallerValue, OpeningValue, StateValue}
@@ -148,13 +148,13 @@ module _ {P M : Type 0} (store : P → Store) (flush_number : P → ℕ) (meant 
   -- ---- a transaction
 
   module _ {A E W : Type 0} (tests : DbValue P M → Error → Type 0) (runs : DbValue P M → Result (Commit A W) (TransactionError E) → DbValue P M → Type 0) (batches_of : W → List (Tree × Writes)) (has : Bool) (me more : CallerValue) (old run new : StateValue P M) (same : run ≡ with_db old run.machine.db) where
-    pub transacted : (commit : Commit A W) → runs old.machine.db (Ok commit) run.machine.db → CommitsGroup store flush_number meant (batches_of commit.writes) (has && commit.flushes) me more run new
+    pub transacted : (commit : Commit A W) → runs old.machine.db (Ok commit) run.machine.db → commits_as store flush_number meant has (batches_of commit.writes) commit.flushes me more run new
         → transacts_as store flush_number meant tests runs batches_of has (Ok commit.answer) me more old new
-    transacted commit ran commits = record { commit = commit; answers = refl; after = run.machine.db; ran = ran; commits = subst (λ (z : StateValue P M). CommitsGroup store flush_number meant (batches_of commit.writes) (has && commit.flushes) me more z new) same commits }
+    transacted commit ran commits = record { commit = commit; answers = refl; after = run.machine.db; ran = ran; commits = subst (λ (z : StateValue P M). commits_as store flush_number meant has (batches_of commit.writes) commit.flushes me more z new) same commits }
 
-    pub uncommitted : (commit : Commit A W) (e : Error) → runs old.machine.db (Ok commit) run.machine.db → RefusesCommit store flush_number meant (batches_of commit.writes) (has && commit.flushes) e me more run new
+    pub uncommitted : (commit : Commit A W) (e : Error) → runs old.machine.db (Ok commit) run.machine.db → has ≡ true → RefusesCommit store flush_number meant (batches_of commit.writes) commit.flushes e me more run new
         → transacts_as store flush_number meant tests runs batches_of has (Err (Storage e)) me more old new
-    uncommitted commit e ran why = ByCommit commit run.machine.db ran (subst (λ (z : StateValue P M). RefusesCommit store flush_number meant (batches_of commit.writes) (has && commit.flushes) e me more z new) same why)
+    uncommitted commit e ran there why = ByCommit commit run.machine.db ran there (subst (λ (z : StateValue P M). RefusesCommit store flush_number meant (batches_of commit.writes) commit.flushes e me more z new) same why)
 
   -- a closure that did not end by something to write, or was not run
   module _ {A E W : Type 0} (tests : DbValue P M → Error → Type 0) (runs : DbValue P M → Result (Commit A W) (TransactionError E) → DbValue P M → Type 0) (batches_of : W → List (Tree × Writes)) (has : Bool) (me : CallerValue) (old run : StateValue P M) (same : run ≡ with_db old run.machine.db) where

@@ -1,5 +1,5 @@
 -- What is noted of a transaction, and what reads show inside one.
-use Rattle.std.proofs.Common.{◌≡◌, ◌∙◌, ◌⊎◌, ℕ, Bool, true, false, ◌&&◌, List, [], ◌∷◌, ◌++◌, append_assoc, append-nil, None, Result, Ok, Err, OnOk, OnErr, sym, refl, ap, subst, inl, inr}
+use Rattle.std.proofs.Common.{◌≡◌, ◌∙◌, ◌⊎◌, ℕ, Bool, true, false, List, [], ◌∷◌, ◌++◌, append_assoc, append-nil, None, Result, Ok, Err, OnOk, OnErr, sym, refl, ap, subst, inl, inr}
 use Rattle.sled_nodes.specs.declared.error.Error.{Error}
 use Rattle.sled_batch.specs.Batch.{Writes}
 use Rattle.sled_store.specs.Store.{Store}
@@ -22,7 +22,7 @@ use Rattle.machine_shared.specs.Made.{EntryValue, MadeValue, WholeMade}
 use Rattle.machine_shared.specs.Transactions.{AddsTransaction, IsOnce, RunsWell, flush_noted, transaction_made}
 use Rattle.machine_shared.specs.WholeNotes.{noted_with, ComesToWhole, NotesWhole}
 use Rattle.machine_shared.specs.Wholes as value
-use Rattle.machine_shared.specs.theory.Transacting.{is_decided, is_undecided, ran_as, AddsCommit, AddsFlush, StopsCommit}
+use Rattle.machine_shared.specs.theory.Transacting.{is_decided, is_undecided, ran_as, adds_commit, AddsCommit, AddsFlush, StopsCommit}
 use Rattle.machine_shared.proofs.WholeMakes.{makes}
 
 -- ---- results
@@ -111,21 +111,29 @@ pub taken_maps : {P M : Type 0} (store : P → Store) (meant : M → Merge) (d a
 taken_maps store meant d after t = ap maps_of (t.state (λ n. None) 0)
 
 module _ {P M A E W : Type 0} (store : P → Store) (meant : M → Merge) (so : DbValue P M → Result (Commit A W) (TransactionError E) → DbValue P M → Type 0) (batches_of : W → List (Tree × Writes)) (has : Bool) (d after : DbValue P M) (made more : List MadeValue) where
-  pub ended_made : (commit : Commit A W) → so d (Ok commit) after → maps_of (db_state store meant after) ≡ maps_of (db_state store meant d) → AddsCommit (transaction_made (maps_of (db_state store meant after)) (batches_of commit.writes)) (has && commit.flushes) made more
+  pub ended_made : (commit : Commit A W) → so d (Ok commit) after → maps_of (db_state store meant after) ≡ maps_of (db_state store meant d) → adds_commit has (transaction_made (maps_of (db_state store meant after)) (batches_of commit.writes)) commit.flushes made more
       → AddsTransaction (IsOnce store meant so) batches_of has (Ok commit.answer) made more
-  ended_made commit r same c = record {
-    noted = transaction_made (maps_of (db_state store meant after)) (batches_of commit.writes) ∷ c.flush;
-    notes = record { commit = commit; maps = maps_of (db_state store meant after); reached = (d, after, same, r); answers = refl; flush = c.flush; flushed = c.flushed; is = refl };
-    adds = c.adds;
-  }
+  ended_made commit r same = go has
+    where
+      go : (b : Bool) → adds_commit b (transaction_made (maps_of (db_state store meant after)) (batches_of commit.writes)) commit.flushes made more → AddsTransaction (IsOnce store meant so) batches_of b (Ok commit.answer) made more
+      go true c = record {
+        noted = transaction_made (maps_of (db_state store meant after)) (batches_of commit.writes) ∷ c.flush;
+        notes = record { commit = commit; maps = maps_of (db_state store meant after); reached = (d, after, same, r); answers = refl; flush = c.flush; flushed = c.flushed; is = refl };
+        adds = c.adds;
+      }
+      go false none = record {
+        noted = [];
+        notes = record { commit = commit; maps = maps_of (db_state store meant after); reached = (d, after, same, r); answers = refl; flush = []; flushed = refl; is = refl };
+        adds = none ∙ sym (append-nil made);
+      }
 
-  pub ended_stopped : (commit : Commit A W) (e : Error) → so d (Ok commit) after → maps_of (db_state store meant after) ≡ maps_of (db_state store meant d) → StopsCommit (transaction_made (maps_of (db_state store meant after)) (batches_of commit.writes)) (has && commit.flushes) made more
+  pub ended_stopped : (commit : Commit A W) (e : Error) → so d (Ok commit) after → maps_of (db_state store meant after) ≡ maps_of (db_state store meant d) → has ≡ true → StopsCommit (transaction_made (maps_of (db_state store meant after)) (batches_of commit.writes)) commit.flushes made more
       → AddsTransaction (IsOnce store meant so) batches_of has (Err (Storage e)) made more
-  ended_stopped commit e r same s = elim s.is [
+  ended_stopped commit e r same there s = elim s.is [
     | inl n ↦ record { noted = []; notes = inl refl; adds = n ∙ sym (append-nil made) }
     | inr n ↦ record {
       noted = transaction_made (maps_of (db_state store meant after)) (batches_of commit.writes) ∷ [];
-      notes = inr (record { commit = commit; maps = maps_of (db_state store meant after); reached = (d, after, same, r); asked = n.0; is = refl });
+      notes = inr (record { commit = commit; maps = maps_of (db_state store meant after); reached = (d, after, same, r); there = there; asked = n.0; is = refl });
       adds = n.1;
     }
   ]

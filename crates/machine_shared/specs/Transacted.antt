@@ -1,5 +1,5 @@
 -- How a transaction by a caller comes out, as one step under the lock.
-use Rattle.std.specs.Prelude.{◌≡◌, ℕ, Bool, true, false, ◌&&◌, List, [], ◌∷◌, Some, Result, Ok, Err, slice_get}
+use Rattle.std.specs.Prelude.{◌≡◌, ℕ, Bool, true, false, List, [], ◌∷◌, Some, Result, Ok, Err, slice_get}
 use Rattle.std.specs.Global.{Vec}
 use Rattle.sled_nodes.specs.declared.error.Error.{Error}
 use Rattle.sled_nodes.specs.declared.error.Error.TheVariants.{Closed, NoMemory}
@@ -66,6 +66,11 @@ module _ {P M : Type 0} (store : P → Store) (flush_number : P → ℕ) (meant 
     pub group : MakesGroup batches me between old made
     pub flush : flushes_as flushes between more made new
 
+  -- .. if there are any trees
+  abbrev pub commits_as : Bool → List (Tree × Writes) → Bool → CallerValue → CallerValue → StateValue P M → StateValue P M → Type 0
+  commits_as false batches flushes me more old new = DoesNothing me more old new
+  commits_as true batches flushes me more old new = CommitsGroup batches flushes me more old new
+
   -- Why that is refused. If only the flush is, the group is made, and stays
   pub data RefusesCommit (batches : List (Tree × Writes)) (flushes : Bool) (e : Error) (me more : CallerValue) (old new : StateValue P M) : Type 0 where
     ByNoting : CannotNote store meant old.machine.db batches e → DoesNothing me more old new → RefusesCommit batches flushes e me more old new
@@ -74,7 +79,7 @@ module _ {P M : Type 0} (store : P → Store) (flush_number : P → ℕ) (meant 
         → RefusesCommit batches flushes e me more old new
 
 -- What a transaction comes to follows from the tests before it, from the end to which its closure was run over a database, from the batches
--- of what it wrote, and from whether there are any trees. Without trees a flush that is asked for is left out
+-- of what it wrote, and from whether there are any trees. Without trees nothing is made
 module _ {P M A E W : Type 0} (store : P → Store) (flush_number : P → ℕ) (meant : M → Merge) (tests : DbValue P M → Error → Type 0) (runs : DbValue P M → Result (Commit A W) (TransactionError E) → DbValue P M → Type 0) (batches_of : W → List (Tree × Writes)) (has_trees : Bool) where
   -- the closure was run over the database as it was, it returned this, and what it wrote was made in the database as it was after that
   pub record CommitsTransaction (answer : A) (me more : CallerValue) (old new : StateValue P M) : Type 0 where
@@ -82,7 +87,7 @@ module _ {P M A E W : Type 0} (store : P → Store) (flush_number : P → ℕ) (
     pub answers : commit.answer ≡ answer
     pub after : DbValue P M
     pub ran : runs old.machine.db (Ok commit) after
-    pub commits : CommitsGroup store flush_number meant (batches_of commit.writes) (has_trees && commit.flushes) me more (with_db old after) new
+    pub commits : commits_as store flush_number meant has_trees (batches_of commit.writes) commit.flushes me more (with_db old after) new
 
   -- the closure was run to this end, and nothing else was done
   pub record OnlyRuns (ended : Result (Commit A W) (TransactionError E)) (me more : CallerValue) (old new : StateValue P M) : Type 0 where
@@ -94,7 +99,8 @@ module _ {P M A E W : Type 0} (store : P → Store) (flush_number : P → ℕ) (
   pub data RefusesTransaction (e : Error) (me more : CallerValue) (old new : StateValue P M) : Type 0 where
     ByTest : tests old.machine.db e → DoesNothing me more old new → RefusesTransaction e me more old new
     ByClosure : OnlyRuns (Err (Storage e)) me more old new → RefusesTransaction e me more old new
-    ByCommit : (commit : Commit A W) (after : DbValue P M) → runs old.machine.db (Ok commit) after → RefusesCommit store flush_number meant (batches_of commit.writes) (has_trees && commit.flushes) e me more (with_db old after) new → RefusesTransaction e me more old new
+    ByCommit : (commit : Commit A W) (after : DbValue P M) → runs old.machine.db (Ok commit) after → has_trees ≡ true → RefusesCommit store flush_number meant (batches_of commit.writes) commit.flushes e me more (with_db old after) new
+        → RefusesTransaction e me more old new
 
   -- of a transaction that its closure aborted the ids stay taken, and nothing else is done
   abbrev pub transacts_as : Result A (TransactionError E) → CallerValue → CallerValue → StateValue P M → StateValue P M → Type 0

@@ -1,5 +1,5 @@
 -- A closure that is run as a transaction by a caller: what it wrote is noted as a group, with what was at the keys of its writes.
-use Rattle.std.specs.Prelude.{◌≡◌, ◌⊎◌, ℕ, Bool, true, false, ◌&&◌, List, [], ◌∷◌, ◌++◌, Result, Ok, Err}
+use Rattle.std.specs.Prelude.{◌≡◌, ◌⊎◌, ℕ, Bool, true, false, cond, ◌&&◌, List, [], ◌∷◌, ◌++◌, Result, Ok, Err}
 use Rattle.sled_nodes.specs.declared.error.Error.{Error}
 use Rattle.sled_batch.specs.Batch.{Writes}
 use Rattle.sled_store.specs.Store.{Store}
@@ -68,7 +68,7 @@ flush_noted false noted = noted ≡ []
 flush_noted true noted = (number : ℕ) × (noted ≡ WholeMade value.Flush (Number number) ∷ [])
 
 -- What is noted of a transaction follows from the maps over which its closure was run and to what end, from the batches of what it wrote,
--- and from whether there are any trees. Without trees a flush that is asked for is left out
+-- and from whether there are any trees. Without trees nothing is noted, and a flush that is asked for is left out
 module _ {A E W : Type 0} (reaches : Maps → Result (Commit A W) (TransactionError E) → Type 0) (batches_of : W → List (Tree × Writes)) (has_trees : Bool) where
   -- The closure returned this over these maps. What it wrote is noted with what was in them, and after it the flush that it asked for
   pub record Notes (answer : A) (noted : List MadeValue) : Type 0 where
@@ -78,14 +78,15 @@ module _ {A E W : Type 0} (reaches : Maps → Result (Commit A W) (TransactionEr
     pub answers : commit.answer ≡ answer
     pub flush : List MadeValue
     pub flushed : flush_noted (has_trees && commit.flushes) flush
-    pub is : noted ≡ transaction_made maps (batches_of commit.writes) ∷ flush
+    pub is : noted ≡ cond has_trees (transaction_made maps (batches_of commit.writes) ∷ flush) []
 
   -- the flush that the closure asked for was refused, and what it wrote is made
   pub record LacksFlush (noted : List MadeValue) : Type 0 where
     pub commit : Commit A W
     pub maps : Maps
     pub reached : reaches maps (Ok commit)
-    pub asked : has_trees && commit.flushes ≡ true
+    pub there : has_trees ≡ true
+    pub asked : commit.flushes ≡ true
     pub is : noted ≡ transaction_made maps (batches_of commit.writes) ∷ []
 
   -- the closure aborted it, or it was refused: nothing is noted, but for what it wrote if only its flush was refused

@@ -1,13 +1,13 @@
 //! Transactions of several trees by a caller.
-ghost use Rattle.std.specs.Prelude.{◌≡◌, ◌&&◌, IfErr, OnOk, OnErr};
+ghost use Rattle.std.specs.Prelude.{◌≡◌, true, IfErr, OnOk, OnErr};
 ghost use Rattle.std.specs.List.{zip};
 ghost use Rattle.sled_model.specs.State.{maps_of};
 ghost use Rattle.sled.specs.Transactions.{has_trees, trees_of_list};
 ghost use Rattle.sled.specs.Values.{db_state};
 ghost use Rattle.machine_shared.specs.Inside.{RunsOverAll};
-ghost use Rattle.machine_shared.specs.Transacted.{CommitsGroup, RefusesCommit, TransactsUnderLock, transacts_as};
+ghost use Rattle.machine_shared.specs.Transacted.{RefusesCommit, TransactsUnderLock, commits_as, transacts_as};
 ghost use Rattle.machine_shared.specs.Transactions.{AddsTransaction, RunsAllIn, RunsAllOnce, fails_tests_of_list, transaction_made};
-ghost use Rattle.machine_shared.specs.theory.Transacting.{AddsCommit, StopsCommit, ran_as};
+ghost use Rattle.machine_shared.specs.theory.Transacting.{StopsCommit, adds_commit, ran_as};
 
 use crate::caller::Caller;
 use crate::handle::Handle;
@@ -45,14 +45,14 @@ impl<P: Pages, L: Ledger, M: MergeOperator> State<P, L, M> {
     }
 }
 
-// Whether a flush follows a transaction of these trees.
-fn flush_follows(trees: &[&Tree], flushes: bool) -> bool
-    ensures { result ≡ has_trees (trees_of_list trees.now) && flushes }
+// Whether there are any trees.
+fn are_there(trees: &[&Tree]) -> bool
+    ensures { result ≡ has_trees (trees_of_list trees.now) }
 {
-    !trees.is_empty() && flushes
+    !trees.is_empty()
 }
 
-// Makes what was written of the trees of a list, and then all durable if that is asked for.
+// Makes what was written of the trees of a list, and then all durable if that is asked for. Without trees it does nothing.
 fn commit_list<P: Pages, L: Ledger, M: MergeOperator>(
     state: &mut State<P, L, M>,
     me: &mut Caller<L>,
@@ -60,15 +60,20 @@ fn commit_list<P: Pages, L: Ledger, M: MergeOperator>(
     writes: Vec<Batch>,
     flushes: bool,
 ) -> Result<()>
-    ensures ok { OnOk result (AddsCommit (transaction_made (maps_of (db_state P.store M.meant state.old.machine.db)) (zip (trees_of_list trees.now) writes.items)) (has_trees (trees_of_list trees.now) && flushes) me.old.made me.new.made) }
-    ensures err { OnErr result (StopsCommit (transaction_made (maps_of (db_state P.store M.meant state.old.machine.db)) (zip (trees_of_list trees.now) writes.items)) (has_trees (trees_of_list trees.now) && flushes) me.old.made me.new.made) }
+    ensures ok { OnOk result (adds_commit (has_trees (trees_of_list trees.now)) (transaction_made (maps_of (db_state P.store M.meant state.old.machine.db)) (zip (trees_of_list trees.now) writes.items)) flushes me.old.made me.new.made) }
+    ensures there { OnErr result (has_trees (trees_of_list trees.now) ≡ true) }
+    ensures err { OnErr result (StopsCommit (transaction_made (maps_of (db_state P.store M.meant state.old.machine.db)) (zip (trees_of_list trees.now) writes.items)) flushes me.old.made me.new.made) }
     ensures number { me.new.number ≡ me.old.number }
-    ensures commits { OnOk result (CommitsGroup P.store P.flush_number M.meant (zip (trees_of_list trees.now) writes.items) (has_trees (trees_of_list trees.now) && flushes) me.old me.new state.old state.new) }
-    ensures stops { IfErr result (λ e. RefusesCommit P.store P.flush_number M.meant (zip (trees_of_list trees.now) writes.items) (has_trees (trees_of_list trees.now) && flushes) e me.old me.new state.old state.new) }
+    ensures commits { OnOk result (commits_as P.store P.flush_number M.meant (has_trees (trees_of_list trees.now)) (zip (trees_of_list trees.now) writes.items) flushes me.old me.new state.old state.new) }
+    ensures stops { IfErr result (λ e. RefusesCommit P.store P.flush_number M.meant (zip (trees_of_list trees.now) writes.items) flushes e me.old me.new state.old state.new) }
 {
+    if !are_there(trees) {
+        drop(writes);
+        return Ok(());
+    }
     let alloc = state.machine().db().allocator();
     match group_of(alloc, trees, writes) {
-        Ok(group) => commit(state, me, group, flush_follows(trees, flushes)),
+        Ok(group) => commit(state, me, group, flushes),
         Err(e) => Err(e),
     }
 }
@@ -143,7 +148,7 @@ impl<P: Pages, L: Ledger, M: MergeOperator> Handle<P, L, M> {
     /// that it writes is added to the list as one group, in the order of the trees.
     ///
     /// A tree that is in the list twice has two positions, of which neither sees the other's writes; those of the later one are made later.
-    /// For an empty list a flush that is asked for is left out. Refused with `Unsupported`, with a text of its own, if a tree is another
+    /// Of an empty list nothing is made or added, and a flush that is asked for is left out. Refused with `Unsupported`, with a text of its own, if a tree is another
     /// database's, and else as `transaction` is.
     ///
     /// ```

@@ -1,5 +1,5 @@
 -- Of Transactions, for proofs. What is noted of each part of a transaction.
-use Rattle.std.specs.Prelude.{◌≡◌, ◌⊎◌, ℕ, Bool, true, List, [], ◌∷◌, ◌++◌, Result, Ok, Err}
+use Rattle.std.specs.Prelude.{◌≡◌, ◌⊎◌, ℕ, Bool, true, false, List, [], ◌∷◌, ◌++◌, Result, Ok, Err}
 use Rattle.std.specs.Global.{Vec}
 use Rattle.sled_nodes.specs.declared.error.Error.{Error}
 use Rattle.sled_batch.specs.Batch.{Writes}
@@ -67,6 +67,11 @@ pub record AddsCommit (group : MadeValue) (flushes : Bool) (made more : List Mad
   pub flush : List MadeValue
   pub flushed : flush_noted flushes flush
   pub adds : more ≡ made ++ group ∷ flush
+
+-- .. if there are any trees
+abbrev pub adds_commit : Bool → MadeValue → Bool → List MadeValue → List MadeValue → Type 0
+adds_commit false group flushes made more = more ≡ made
+adds_commit true group flushes made more = AddsCommit group flushes made more
 
 -- .. or nothing was, or only the flush was refused
 pub record StopsCommit (group : MadeValue) (flushes : Bool) (made more : List MadeValue) : Type 0 where

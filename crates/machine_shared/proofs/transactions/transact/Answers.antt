@@ -1,4 +1,4 @@
-use Rattle.std.proofs.Common.{Ok, Err, true}
+use Rattle.std.proofs.Common.{Ok, Err, true, refl}
 use Rattle.machine_shared.specs.Inside.{RunsOver}
 use Rattle.machine_shared.specs.Transactions.{RunsIn, batches_of_tree, fails_tests}
 use Rattle.machine_shared.proofs.Committing.{not_made, transacted, uncommitted}
@@ -18,7 +18,7 @@ returns-in-Err-commit_tree-clause-made g c =
     let runs = RunsIn g.P.Pages.store g.M.MergeOperator.meant g.F.Fn g.R.TransactionAnswer.result_of c.args.f c.args.tree.now in
     ended_stopped g.P.Pages.store g.M.MergeOperator.meant runs (batches_of_tree c.args.tree.now) (true) c.args.state.now.machine.db c.run.new.self.machine.db c.args.me.now.made c.commit_tree.new.me.made c.in-Ok.field-0 c.in-Err-commit_tree.e c.in-Ok.ensures.ran
     (taken_maps g.P.Pages.store g.M.MergeOperator.meant c.args.state.now.machine.db c.run.new.self.machine.db c.in-Ok.ensures.ran.runs.takes)
-    c.in-Err-commit_tree.ensures.err
+    refl c.in-Err-commit_tree.ensures.err
 
 pub returns-in-Err-clause-made : goal.returns-in-Err-clause-made
 returns-in-Err-clause-made g c =
@@ -40,7 +40,7 @@ returns-in-Err-commit_tree-clause-does g c =
     let tests = fails_tests g.P.Pages.store g.M.MergeOperator.meant c.args.tree.now in
     uncommitted g.P.Pages.store g.P.Pages.flush_number g.M.MergeOperator.meant tests runs (batches_of_tree c.args.tree.now) (true) c.args.me.now c.commit_tree.new.me c.args.state.now c.run.new.self c.commit_tree.new.state c.in-Ok.ensures.same c.in-Ok.field-0 c.in-Err-commit_tree.e
     (runs_over g.P.Pages.store g.M.MergeOperator.meant g.R.TransactionAnswer.result_of c.args.f c.args.state.now.machine.db g.F.Fn c.args.tree.now (Ok c.in-Ok.field-0) c.run.new.self.machine.db c.in-Ok.ensures.ran)
-    c.in-Err-commit_tree.ensures.stops
+    refl c.in-Err-commit_tree.ensures.stops
 
 pub returns-in-Err-clause-does : goal.returns-in-Err-clause-does
 returns-in-Err-clause-does g c =
