@@ -7,7 +7,7 @@ ghost use Rattle.tree_pages.specs.Export.{collections};
 ghost use Rattle.sled.specs.Export.{RefusesExport};
 ghost use Rattle.sled.specs.Sound.{IsDb};
 ghost use Rattle.machine_shared.specs.Gathered.{RefusesHandle};
-ghost use Rattle.machine_shared.specs.Shared.{RefusesFlushed, opening_of};
+ghost use Rattle.machine_shared.specs.Shared.{RefusesFlushed, WasFlushed, opening_of};
 
 use crate::caller::Caller;
 use crate::handle::Handle;
@@ -124,7 +124,8 @@ fn first_state<P: Pages, L: Ledger, M: MergeOperator>(
 impl<P: Pages, L: Ledger, M: MergeOperator> Db<P, L, M> {
     /// Shares a database among so many callers. Its ledger is the one that is handed in unopened, with a part for each caller and one more.
     /// It flushes nothing: until a flush a crash may leave what it might have left before. `new_flushed` flushes first. Refused as an export
-    /// is, with the database given back as it was: with `Closed`, with `Io` if a page cannot be read, and with `NoMemory`.
+    /// is, with the database given back as it was: with `Closed`, with `Io` if a page cannot be read, and with `NoMemory`. The blank is used
+    /// up then too.
     ///
     /// ```
     /// let blank = machine_shared::Blank::new(3); // For two callers.
@@ -242,9 +243,10 @@ impl<P: Pages, L: Ledger, M: MergeOperator> Db<P, L, M> {
         ))
     }
 
-    /// Flushes a database and shares it, as `new` does, noting what scans do if `notes_scans` is true, as `new_noting_scans`. So a crash
-    /// leaves nothing of before: what it may leave begins with what the database has now, and goes on as the history does, from the last
-    /// flush on. Refused as an export is, with the database given back as it was, and then as a flush is.
+    /// Flushes a database and shares it, as `new` does, noting what scans do if `notes_scans` is true, as `new_noting_scans`. So no crash
+    /// goes back behind what the database has now: what it may leave begins with that, and goes on as the history does, from the last flush
+    /// on. A state that `gather` or `reclaim` returns says so. Refused as an export is, with the database given back as it was; and as a
+    /// flush is: then nothing is flushed, and the store may have counted a fault. The blank is used up then too.
     ///
     /// ```text
     /// let blank = machine_shared::Blank::new(3); // For two callers.
@@ -263,6 +265,7 @@ impl<P: Pages, L: Ledger, M: MergeOperator> Db<P, L, M> {
         requires each { blank.parts ≡ callers + 1 }
         ensures ok { IfOk result (λ shared. shared ≡ record { callers = callers; given = 0; before = 0; opening = opening_of P.store true db }) }
         ensures open { OnOk result ((now (P.store db.pages)).in_group ≡ false) }
+        ensures flushes { OnOk result (WasFlushed P.store P.flush_number M.meant db) }
         ensures err { IfErr result (λ e. RefusesFlushed P.store M.meant db e.0 e.1) }
     {
         let mut db = db;

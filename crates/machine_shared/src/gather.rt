@@ -31,11 +31,12 @@ fn agrees_with<P: Pages, L: Ledger, M: MergeOperator>(
 impl<P: Pages, L: Ledger, M: MergeOperator> Db<P, L, M> {
     /// Takes the state out, once all callers are done. All handles that were made must be handed in, in any order; if none was made, an
     /// empty list. Each handle's list is compared with the history: it must be that of the entries with its number, in order. The history
-    /// must have no others, and the state must have begun with what the database had when it was shared. If it is not so, the database and
-    /// the handles are given back, and the state stays under its lock.
+    /// must have no others, and the state must have begun with what the database had when it was first shared. If it is not so, the database
+    /// and the handles are given back, and the state stays under its lock.
     ///
-    /// The history of the state is legal, up to the maps now while its database is open. A crash may leave the maps after each entry and
-    /// part of it, from the last flush on. The ids in it rise.
+    /// The history of the state is legal, up to the maps now while its database is open. A crash may leave the opening and the maps after
+    /// each entry and part of it, and before these what it might have left before the sharing, unless `new_flushed` shared it; from the last
+    /// flush in the history on only those after it. The ids in it rise.
     ///
     /// ```
     /// match shared.gather(rt, handles) {

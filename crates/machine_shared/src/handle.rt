@@ -88,7 +88,8 @@ impl<P: Pages, L: Ledger, M> Handle<P, L, M> {
 }
 
 impl<P: Pages, L: Ledger, M: MergeOperator> Handle<P, L, M> {
-    /// Begins a call on a tree, which takes a slot. Refused as `begin` of the machine is.
+    /// Begins a call on a tree, which takes a slot. Refused as `begin` of the machine is, and with `Closed` if the database was taken out of
+    /// its lock.
     ///
     /// ```
     /// let slot = handle.begin(rt, &tree, Call::get(alloc, b"ulm")?)?;
@@ -140,7 +141,8 @@ impl<P: Pages, L: Ledger, M: MergeOperator> Handle<P, L, M> {
 
     /// Does a whole call, in one step under the lock. One that is decided becomes this caller's, with its reply; of `Next`, which returns
     /// each event once, the reply is noted as `Done`. A `Clear` or an `Import` that is refused midway becomes this caller's with the parts
-    /// that it did, if it did any.
+    /// that it did, if it did any. Refused as `whole` of the machine is, with `NoMemory` if it cannot be noted, and with `Closed` if the
+    /// database was taken out of its lock.
     ///
     /// ```
     /// let outcome = handle.whole(rt, Whole::PopMin(tree)); // `Decided(Reply::Pair(..))`, or why not.
@@ -183,8 +185,8 @@ impl<P: Pages, L: Ledger, M: MergeOperator> Handle<P, L, M> {
     /// new value. It is one step under the lock, so no other caller writes between. It is added to this caller's list as the swap of the
     /// one value for the other.
     ///
-    /// Refused as a read and a swap are, and with `NoMemory` if the closure returns its want of memory; then nothing is written, and
-    /// nothing is added to the list. The closure is called while the lock is held: it must make no call on this database.
+    /// Refused as a read and a swap are, with `NoMemory` if the closure returns its want of memory or it cannot be noted, and with `Closed`
+    /// if the database was taken out of its lock; then nothing is written, and nothing is added to the list. The closure is called while the lock is held: it must make no call on this database.
     ///
     /// ```
     /// // The value is taken out, whatever it is.
@@ -298,8 +300,9 @@ impl<P: Pages, L: Ledger, M: MergeOperator> Handle<P, L, M> {
 
     /// Makes a call on a key of a tree, step by step until it is decided or refused. The lock is taken for each step and is free between
     /// two, when the gate is called. A call that is decided is added to this caller's list, with its reply. It must be no scan:
-    /// `Call::is_on_key` says so. If another caller ended the slot it returns `NoSuchSlot`, and nothing is added to the list: the call had
-    /// begun in this slot, and at some moment under the lock the slot had it no more.
+    /// `Call::is_on_key` says so. Refused as the call in flight is, with `NoMemory` if it cannot be copied or noted, and with `Closed` if the
+    /// database was taken out of its lock. If another caller ended the slot it returns `NoSuchSlot`, and nothing is added to the list: the
+    /// call had begun in this slot, and at some moment under the lock the slot had it no more.
     ///
     /// ```
     /// let outcome = handle.call(rt, &tree, Call::insert(alloc, b"ulm", b"21")?, &NoGate);

@@ -181,32 +181,6 @@ fn step_of_jobs<P: Pages, M: MergeOperator>(
     }
 }
 
-// Adds a call on a key with its reply at the end of the history, with the number of its caller, and the same of the caller's list.
-fn note_jobs(
-    history: &mut Vec<Entry>,
-    made: &mut Vec<Made>,
-    number: u64,
-    jobs: Jobs,
-    one: Reply,
-    two: Reply,
-)
-    requires room { vec_len history.old < vec_capacity history.old }
-    requires room_there { vec_len made.old < vec_capacity made.old }
-    requires jobs { jobs.1 ≡ jobs.0 }
-    requires replies { two ≡ one }
-    ensures history { entry_values history.new.items ≡ entry_values history.old.items ++ entries_of number (PointMade jobs.0.tree jobs.0.call one ∷ []) }
-    ensures made { made_values made.new.items ≡ made_values made.old.items ++ PointMade jobs.0.tree jobs.0.call one ∷ [] }
-    ensures longer { length history.new.items ≡ length history.old.items + 1 }
-    ensures longer_there { length made.new.items ≡ length made.old.items + 1 }
-{
-    let (first, second) = jobs.into_both();
-    history.push_reserved(Entry {
-        by: number,
-        made: Made::Point(first.tree, first.call, one),
-    });
-    made.push_reserved(Made::Point(second.tree, second.call, two));
-}
-
 // A step of a call on a key. If it is decided its copies, with its reply, are added at the ends of both lists, and counted; else they are
 // left. Room is made before the step, and want of memory for it refuses it.
 #[tactic(auto, using(crate::proofs::Copied::kept_ends))]
@@ -242,7 +216,12 @@ pub(crate) fn step_noting_jobs<P: Pages, L: Ledger, M: MergeOperator>(
     match kept {
         None => (outcome, Some(jobs)),
         Some((one, two)) => {
-            note_jobs(history, made, number, jobs, one, two);
+            let (one, two) = twice(jobs, one, two);
+            history.push_reserved(Entry {
+                by: number,
+                made: one,
+            });
+            made.push_reserved(two);
             calls.add(share, 1);
             (outcome, None)
         }

@@ -211,7 +211,7 @@ impl<P: Pages, L: Ledger, M: MergeOperator> State<P, L, M> {
         fetched
     }
 
-    /// The collections that the database had when it was shared, as its export gave them.
+    /// The collections that the database had when it was first shared, as its export gave them.
     ///
     /// ```
     /// let collections = state.opening(); // Of each tree its name and its pairs.
@@ -239,7 +239,7 @@ impl<P: Pages, L: Ledger, M: MergeOperator> State<P, L, M> {
 
     /// What scans did, in the order of their steps, each with its slot and the length of the history then: they began, gave a pair, or
     /// ended. Those lengths never fall. As long as `keeps_scans` is true, each `begin` and each `step` notes what it was of a scan. Else it
-    /// notes nothing, as of a database that was shared by `new`.
+    /// notes nothing.
     ///
     /// ```
     /// let gave = state.scans().len();
@@ -252,8 +252,8 @@ impl<P: Pages, L: Ledger, M: MergeOperator> State<P, L, M> {
         self.scans.notes.as_slice()
     }
 
-    /// Whether what scans do is noted. It is if the database was shared by `new_noting_scans` and there was memory for each note; after the
-    /// first without memory none is made.
+    /// Whether what scans do is noted. It is if the database was shared by `new_noting_scans`, or by `new_flushed` with `notes_scans`, and
+    /// there was memory for each note; after the first without memory none is made.
     ///
     /// ```
     /// let is_whole = state.keeps_scans(); // No note is missing at the end.
@@ -266,8 +266,9 @@ impl<P: Pages, L: Ledger, M: MergeOperator> State<P, L, M> {
 
     /// What holds of every state: the history is legal. From the opening on each entry's call replied and wrote what it would have, made
     /// alone at its place, and while the database is open the maps after the last entry are the maps now. What a crash may leave are the
-    /// maps after each entry and part of it, from its last flush on. The ids in it rise, and none is above the greatest that the database
-    /// gave. Its pages are well formed, and what its calls in flight know of them is true. It does nothing.
+    /// opening and the maps after each entry and part of it, and before these what it might have left before the sharing, unless that
+    /// flushed; from the last flush in the history on only those after it. The ids in it rise, and none is above the greatest that the
+    /// database gave. Its pages are well formed, and what its calls in flight know of them is true. It does nothing.
     ///
     /// ```
     /// state.audit(); // From here on a proof knows that the history is legal.
