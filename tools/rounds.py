@@ -702,10 +702,19 @@ class Checker:
             self.next_id = int(rest[0])
         elif kind == "opened":
             self.open(image_of(rest))
+        elif kind in ("flushed", "unflushed"):
+            self.share(kind == "flushed", *rest)
         elif kind == "left":
             self.end(image_of(rest))
         else:
             require(kind == "crash", "this is no line:", line)
+
+    def share(self, flushes, key, value):
+        """A pair was set before the database was shared. If that flushed nothing, a crash may also leave what was there before."""
+        before = self.opening.maps.image()
+        self.opening = Opening({**before, FIRST: {**before[FIRST], key: value}}, self.last_id)
+        if not flushes:
+            self.opening.maps.left.insert(0, before)
 
     def end(self, left):
         opening = self.opening

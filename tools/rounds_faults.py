@@ -49,6 +49,19 @@ crash 9
 id 4
 opened 2 __sled__default 1 z %00%00%00%00%00%00%00%02 s 3 a 1 b 2 c 3
 """
+# A pair is set and flushed as the database is shared, and of what the caller does a crash leaves nothing.
+FLUSHED = """id 1
+opened 1 __sled__default 0
+flushed b 2
+caller 1 kept
+1 insert __sled__default 1 a 1 = 2 value -
+gathered
+entry 1 insert __sled__default 1 a 1 = value -
+left 1 __sled__default 2 a 1 b 2
+crash 0
+id 2
+opened 1 __sled__default 1 b 2
+"""
 
 
 def many_events(count):
@@ -157,6 +170,11 @@ def forget_flush(lines):
     before = [at for at in range(flush) if lines.lines[at].startswith("opened ")][-1]
     require(lines.lines[opened] != lines.lines[before], "the crash left nothing new")
     lines.lines[opened] = lines.lines[before]
+
+
+def forget_shared(lines):
+    """What the crash left is what was there before the database was flushed and shared."""
+    lines.replace("opened 1 __sled__default 1 b 2", "opened 1 __sled__default 0")
 
 
 def repeat_id(lines):
@@ -334,6 +352,7 @@ WRITTEN = {
     TWO_CALLERS: [read_before, turn_clock, lose_handle],
     TWO_TREES: [see_half, commit_half, crash_amid, lose_imported, repeat_event, lose_event, swap_events, hear_nothing, give_id_twice, repeat_id_inside, write_another_id],
     MANY_EVENTS: [miscount],
+    FLUSHED: [forget_shared],
 }
 
 

@@ -19,9 +19,11 @@ use std::thread::Threads;
 /// A database in memory, whose merge operators add.
 pub type Fresh = Db<MemPages, Adds>;
 
-/// What is done with a database that was opened: whether it is shared twice, how each round ends, and how many actions the crash keeps.
+/// What is done with a database that was opened: whether it is flushed as it is shared, whether it is shared twice, how each round ends,
+/// and how many actions the crash keeps.
 #[derive(Clone, Copy)]
 pub struct Fate {
+    pub flushes: bool,
     pub again: bool,
     pub first: Ending,
     pub second: Ending,
@@ -114,11 +116,27 @@ fn ended<L: Ledger>(
     crash(alloc, all, state.into_machine(), keep)
 }
 
-// The first round.
+// Sets a pair, and flushes nothing.
+fn set(scene: &Scene, all: &mut Text, db: &mut Fresh) {
+    let plan = scene.plan;
+    let (key, value) = (plan.key(plan.choice(0, 0)), [b'A' + (plan.seed % 26) as u8]);
+    match db.insert(&scene.tree, &key, &value) {
+        Ok(before) => drop(before),
+        Err(e) => {
+            drop(e);
+            all.cut();
+        }
+    }
+    all.pair(&key, &value);
+    all.text(b"\n");
+}
+
+// The first round. What was set before the sharing is durable if that flushes.
 fn share<L: Ledger + Send + Sync, R: Threads + Wait + Sync>(
     rt: &R,
     scene: &Scene,
     ending: Ending,
+    flushes: bool,
     all: &mut Text,
     db: Fresh,
     blank: Blank,
@@ -128,8 +146,17 @@ where
     requires parts { blank.parts ≡ L.parts }
     requires each { blank.parts ≡ scene.now.plan.callers + 1 }
 {
-    let callers = u64::from(scene.plan.callers);
-    match shared::Db::<_, L, _>::new_noting_scans(rt, scene.plan.alloc, db, blank, callers) {
+    let (mut db, alloc, callers) = (db, scene.plan.alloc, u64::from(scene.plan.callers));
+    let shared = if flushes {
+        all.text(b"flushed");
+        set(scene, all, &mut db);
+        shared::Db::<MemPages, L, Adds>::new_flushed(rt, alloc, db, blank, callers, true)
+    } else {
+        all.text(b"unflushed");
+        set(scene, all, &mut db);
+        shared::Db::<MemPages, L, Adds>::new_noting_scans(rt, alloc, db, blank, callers)
+    };
+    match shared {
         Ok(shared) => round(rt, scene, ending, all, shared),
         Err(refused) => {
             drop(refused);
@@ -181,7 +208,7 @@ where
     requires each_again { second.parts ≡ scene.now.plan.callers + 1 }
 {
     let alloc = scene.plan.alloc;
-    let Some(state) = share::<K, R>(rt, scene, fate.first, all, db, first) else {
+    let Some(state) = share::<K, R>(rt, scene, fate.first, fate.flushes, all, db, first) else {
         drop(second);
         return None;
     };

@@ -11,6 +11,7 @@
 //!
 //!     id N                            an id that was taken at an opening
 //!     opened N ..                     what is there: so many trees, each with its name and its pairs
+//!     flushed|unflushed K V           a pair that was set, and whether all was flushed as the database was shared behind it
 //!     caller N kept|lost              the calls of this caller come now, and its handle is there or not
 //!     BEFORE CALL = AFTER ANSWER      a call, and what a clock said right before and right after it
 //!     gathered, missing, reclaimed    how the state was taken: with all handles, or not, since some are missing, and then without any
@@ -80,6 +81,7 @@ fn fate_of(choice: u64) -> Fate {
         _ => 1 << 20,
     };
     Fate {
+        flushes: choice >> 12 & 1 == 0,
         again: choice >> 10 & 1 == 0,
         first: ending_of(choice >> 16),
         second: ending_of(choice >> 24),

@@ -32,7 +32,7 @@ where
     requires parts { blank.parts ≡ L.parts }
     requires each { blank.parts ≡ 2 }
 {
-    let mut shared = share::<L, R>(rt, alloc, db, blank, 1, true);
+    let mut shared = share::<L, R>(rt, alloc, db, blank, 1, false, true);
     let mut one: Way<L> = shared.handle(alloc).expect(rt, "a handle");
     require(
         rt,

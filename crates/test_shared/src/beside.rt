@@ -117,13 +117,14 @@ pub fn new_scene(alloc: Global, tree: Tree, moves: u64) -> Scene {
     }
 }
 
-/// The database, shared by so many callers, and whether what scans do is noted.
+/// The database, shared by so many callers: whether it is flushed then, and whether what scans do is noted.
 pub fn share<L: Ledger, R: Wait + Abort>(
     rt: &R,
     alloc: Global,
     db: Fresh,
     blank: Blank,
     callers: u64,
+    flushes: bool,
     notes_scans: bool,
 ) -> Shared<L>
 where
@@ -131,7 +132,9 @@ where
     requires parts { blank.parts ≡ L.parts }
     requires each { blank.parts ≡ callers + 1 }
 {
-    let shared = if notes_scans {
+    let shared = if flushes {
+        shared::Db::<MemPages, L, Adds>::new_flushed(rt, alloc, db, blank, callers, notes_scans)
+    } else if notes_scans {
         shared::Db::<MemPages, L, Adds>::new_noting_scans(rt, alloc, db, blank, callers)
     } else {
         shared::Db::<MemPages, L, Adds>::new(rt, alloc, db, blank, callers)
@@ -238,8 +241,7 @@ fn count_pairs(collections: &[Collection]) -> usize {
 
 // Whether there are as many trees as there were at the start, with as many pairs together.
 fn began_so(start: Start, opening: &[Collection]) -> bool {
-    let pairs = usize::from(start.keys.wrapping_sub(start.taken));
-    opening.len() == start.trees && count_pairs(opening) == pairs
+    opening.len() == start.trees && count_pairs(opening) == start.pairs()
 }
 
 // Whether a flush was made.
@@ -252,16 +254,16 @@ fn has_flush(history: &[Entry]) -> bool {
     false
 }
 
-// Whether a crash that keeps nothing since the last flush leaves no pair. No caller flushes the database before it is shared.
-fn is_unflushed<R: Abort>(rt: &R, alloc: Global, machine: Machine<MemPages, Adds>) -> bool {
+// How many pairs a crash leaves that keeps nothing since the last flush.
+fn pairs_left<R: Abort>(rt: &R, alloc: Global, machine: Machine<MemPages, Adds>) -> usize {
     machine.audit();
     let left = crash_pages(machine.into_db().into_pages(), 0).expect(rt, "memory");
     let db = database_of(rt, alloc, left);
     let collections = db.export().expect(rt, "memory");
     drop(db);
-    let none = count_pairs(collections.as_slice()) == 0;
+    let pairs = count_pairs(collections.as_slice());
     drop(collections);
-    none
+    pairs
 }
 
 // Whether the database of the machine has just the pairs of a plain map.
@@ -305,8 +307,17 @@ fn look<L: Ledger, R: Abort>(rt: &R, scene: &Scene, trial: &Trial<'_>, state: Ga
     let left = is_left(&scene.before, machine) && is_left(&scene.after, machine);
     drop(map);
     require(rt, same && left, "the same pairs, and unstepped calls");
-    let unflushed = is_unflushed(rt, scene.alloc, state.into_machine());
-    require(rt, flushed || unflushed, "no call but a flush flushes");
+    let pairs = pairs_left(rt, scene.alloc, state.into_machine());
+    let durable = if trial.start.flushed {
+        trial.start.pairs()
+    } else {
+        0
+    };
+    require(
+        rt,
+        flushed || pairs == durable,
+        "what was flushed as it was shared, and no call but a flush flushes",
+    );
 }
 
 // Has so many callers work on a database.
@@ -323,7 +334,8 @@ where
     requires parts { blank.parts ≡ L.parts }
     requires each { blank.parts ≡ callers + 1 }
 {
-    let mut shared = share::<L, R>(rt, scene.alloc, db, blank, callers, trial.scanned.is_some());
+    let (flushes, notes) = (trial.start.flushed, trial.scanned.is_some());
+    let mut shared = share::<L, R>(rt, scene.alloc, db, blank, callers, flushes, notes);
     let mut handles = handles_of(rt, scene.alloc, &mut shared, callers);
     work_beside(rt, scene, trial, handles.as_mut_slice());
     let state = gathered_late(rt, shared, handles);
@@ -375,7 +387,8 @@ where
     requires parts { blank.parts ≡ L.parts }
     requires each { blank.parts ≡ 3 }
 {
-    let mut shared = share::<L, R>(rt, scene.alloc, db, blank, 2, trial.scanned.is_some());
+    let (flushes, notes) = (trial.start.flushed, trial.scanned.is_some());
+    let mut shared = share::<L, R>(rt, scene.alloc, db, blank, 2, flushes, notes);
     let mut handles = handles_of(rt, scene.alloc, &mut shared, 2);
     let (Some(one), Some(other)) = (handles.pop(), handles.pop()) else {
         panic!(rt; "no handle")

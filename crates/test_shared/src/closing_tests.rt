@@ -107,7 +107,7 @@ where
     requires each { blank.parts ≡ 2 }
 {
     let scene = new_scene(alloc, db.default_tree().expect(rt, "a tree"), 0);
-    let mut shared = share::<L, R>(rt, alloc, db, blank, 1, false);
+    let mut shared = share::<L, R>(rt, alloc, db, blank, 1, false, false);
     let mut one = shared.handle(alloc).expect(rt, "a handle");
     let seen = look(rt, &scene, &mut one);
     let handles = vec![in alloc; one].expect(rt, "memory");

@@ -26,7 +26,7 @@ where
     requires parts { blank.parts ≡ L.parts }
     requires each { blank.parts ≡ 2 }
 {
-    let mut shared = share::<L, R>(rt, alloc, db, blank, 1, false);
+    let mut shared = share::<L, R>(rt, alloc, db, blank, 1, false, false);
     let mut one = shared.handle(alloc).expect(rt, "a handle");
     let all = one.export(rt).expect(rt, "all pairs");
     let mut other = new_database(rt, alloc);

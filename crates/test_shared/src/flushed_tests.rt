@@ -1,7 +1,10 @@
 //! A database that is flushed as it is shared: a crash leaves what it had then. If its flush is refused it comes back, with all that it had.
 ghost use Rattle.std.specs.Prelude.{◌≡◌};
 
-use crate::beside::{Fresh, Shared, require};
+use crate::asking::{Ask, Told};
+use crate::beside::{Fresh, Shared, require, try_out};
+use crate::trial::{Start, TWO_CALLERS, Trial, Wanted};
+use crate::turns::{Signal, Turn};
 use example_parts::Adds;
 use sled::{Db, MemPages, crash_pages, empty_pages};
 use sled_machine::shared;
@@ -119,6 +122,39 @@ fn a_crash_leaves_what_was_flushed_as_it_was_shared(rt: HostRuntime) {
     require(&rt, flushed == (true, false), "what it had then");
     let unflushed = go_on(&rt, alloc, false);
     require(&rt, unflushed == (false, false), "nothing of it");
+}
+
+// It keeps its trees, their operators and its subscribers, and scans are noted.
+const ALL_KEPT: [Turn<'static>; 8] = [
+    Turn::Ask(Ask::AddOne(&[9]), Told::Value(1)),
+    Turn::Ask(Ask::AddOne(&[9]), Told::Value(2)),
+    Turn::Ask(Ask::Next(1), Told::Event(9)),
+    Turn::Begin(Ask::Scan, Signal::Slot),
+    Turn::Step(Told::Moved),
+    Turn::Step(Told::Pair(0)),
+    Turn::Step(Told::Pair(9)),
+    Turn::Step(Told::End),
+];
+
+const KEPT: Trial<'static> = Trial {
+    start: Start {
+        name: b"t",
+        trees: 2,
+        keys: 3,
+        taken: 2,
+        watched: true,
+        flushed: true,
+    },
+    callers: 1,
+    first: &ALL_KEPT,
+    wanted: Wanted::Calls(3, &[]),
+    scanned: Some(2),
+    ..TWO_CALLERS
+};
+
+#[test]
+fn what_is_flushed_as_it_is_shared_keeps_all(rt: HostRuntime) {
+    try_out(&rt, rt.alloc(), &KEPT);
 }
 
 // Whether the flush is refused where the store refuses the call of this number, and the database comes back with all that it had.

@@ -10,7 +10,7 @@ use std::sync::atomic::Ordering;
 const DEFAULT: &[u8] = b"__sled__default";
 
 /// A database with one tree, of this name, into which so many keys were put, from 0 up, and so many of the last taken out again. With the
-/// tree that is there from the beginning it has so many. It may have a subscriber to that tree.
+/// tree that is there from the beginning it has so many. It may have a subscriber to that tree, and be flushed as it is shared.
 #[derive(Clone, Copy)]
 pub struct Start {
     pub name: &'static [u8],
@@ -18,6 +18,14 @@ pub struct Start {
     pub keys: u8,
     pub taken: u8,
     pub watched: bool,
+    pub flushed: bool,
+}
+
+impl Start {
+    /// How many pairs the database has.
+    pub fn pairs(&self) -> usize {
+        usize::from(self.keys.wrapping_sub(self.taken))
+    }
 }
 
 /// A database with nothing in it.
@@ -27,6 +35,7 @@ pub const EMPTY: Start = Start {
     keys: 0,
     taken: 0,
     watched: false,
+    flushed: false,
 };
 
 /// What the history has, once all callers are done.
