@@ -186,7 +186,8 @@ impl<P: Pages, L: Ledger, M: MergeOperator> Handle<P, L, M> {
     /// one value for the other.
     ///
     /// Refused as a read and a swap are, with `NoMemory` if the closure returns its want of memory or it cannot be noted, and with `Closed`
-    /// if the database was taken out of its lock; then nothing is written, and nothing is added to the list. The closure is called while the lock is held: it must make no call on this database.
+    /// if the database was taken out of its lock; then nothing is written, and nothing is added to the list. The closure is called while
+    /// the lock is held: it must make no call on this database.
     ///
     /// ```
     /// // The value is taken out, whatever it is.

@@ -148,8 +148,8 @@ impl<P: Pages, L: Ledger, M: MergeOperator> Handle<P, L, M> {
     /// that it writes is added to the list as one group, in the order of the trees.
     ///
     /// A tree that is in the list twice has two positions, of which neither sees the other's writes; those of the later one are made later.
-    /// Of an empty list nothing is made or added, and a flush that is asked for is left out. Refused with `Unsupported`, with a text of its own, if a tree is another
-    /// database's, and else as `transaction` is.
+    /// Of an empty list nothing is made or added, and a flush that is asked for is left out. Refused with `Unsupported`, with a text of
+    /// its own, if a tree is another database's, and else as `transaction` is.
     ///
     /// ```
     /// // Moves a job from one tree to the other.
