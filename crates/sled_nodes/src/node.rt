@@ -256,12 +256,12 @@ impl Node {
         match link {
             Link::Set(key, value) => {
                 if let Data::Leaf(leaf) = &mut self.content {
-                    leaf.set(key, value.clone()?)?;
+                    leaf.put(key, value.clone()?)?;
                 }
             }
             Link::Del(key) => {
                 if let Data::Leaf(leaf) = &mut self.content {
-                    leaf.del(key)?;
+                    leaf.remove_key(key)?;
                 }
             }
             Link::ParentMergeIntention(child) => {

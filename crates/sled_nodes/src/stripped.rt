@@ -416,8 +416,9 @@ impl<V: Held> Stripped<V> {
     }
 
     // Puts an entry in its place. Refused with `NoMemory` alone, and then unchanged.
-    fn put(&mut self, key: &IVec, value: V) -> Result<()>
-        ensures ok { OnOk result (self.new ≡ put (slice_cmp nat_cmp) key.now value self.old) }
+    #[tactic(auto, unfolding(crate::specs::Order::key_cmp))]
+    pub(crate) fn put(&mut self, key: &IVec, value: V) -> Result<()>
+        ensures ok { OnOk result (self.new ≡ put key_cmp key.now value self.old) }
         ensures err { OnErr result (self.new ≡ self.old) }
         ensures cause { IfErr result (λ e. e ≡ NoMemory) }
     {
@@ -509,8 +510,9 @@ impl<V: Held> Stripped<V> {
     }
 
     // Takes the entries of a key out. Refused with `NoMemory` alone, and then unchanged.
-    fn remove_key(&mut self, key: &IVec) -> Result<()>
-        ensures ok { OnOk result (self.new ≡ where_key (slice_cmp nat_cmp) (λ x. not (eq_by_cmp (slice_cmp nat_cmp) key.now x)) self.old) }
+    #[tactic(auto, unfolding(crate::specs::Order::key_cmp))]
+    pub(crate) fn remove_key(&mut self, key: &IVec) -> Result<()>
+        ensures ok { OnOk result (self.new ≡ without key.now self.old) }
         ensures err { OnErr result (self.new ≡ self.old) }
         ensures cause { IfErr result (λ e. e ≡ NoMemory) }
     {
@@ -640,28 +642,6 @@ impl Stripped<IVec> {
             Some(i) => Ok(Some(self.entry(i)?)),
             None => Ok(None),
         }
-    }
-
-    // Puts a pair in its place. Refused with `NoMemory` alone, and then unchanged.
-    #[inline(always)]
-    #[tactic(auto, unfolding(crate::specs::Order::key_cmp))]
-    pub(crate) fn set(&mut self, key: &IVec, value: IVec) -> Result<()>
-        ensures ok { OnOk result (self.new ≡ put key_cmp key.now value self.old) }
-        ensures err { OnErr result (self.new ≡ self.old) }
-        ensures cause { IfErr result (λ e. e ≡ NoMemory) }
-    {
-        self.put(key, value)
-    }
-
-    // Takes the pairs of a key out. Refused with `NoMemory` alone, and then unchanged.
-    #[inline(always)]
-    #[tactic(auto, unfolding(crate::specs::Order::key_cmp))]
-    pub(crate) fn del(&mut self, key: &IVec) -> Result<()>
-        ensures ok { OnOk result (self.new ≡ without key.now self.old) }
-        ensures err { OnErr result (self.new ≡ self.old) }
-        ensures cause { IfErr result (λ e. e ≡ NoMemory) }
-    {
-        self.remove_key(key)
     }
 }
 
