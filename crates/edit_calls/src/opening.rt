@@ -1,31 +1,14 @@
 //! Opening whatever pages there are, after a check of them, and taking them out again.
-ghost use Rattle.std.specs.Prelude.{◌≡◌, ◌⊎◌, false, IfOk, IfErr, OnOk};
+ghost use Rattle.std.specs.Prelude.{◌≡◌, ◌⊎◌, false, IfOk, IfErr};
 ghost use Rattle.sled_store.specs.Store.{now};
 ghost use Rattle.tree_check.specs.Check.{RefusesCheck};
 ghost use Rattle.tree_laws.specs.Contents.{trees_of};
-ghost use Rattle.sled.specs.Checked.{IsFit, RefusesChecked};
 ghost use Rattle.sled.specs.Opens.{with_default, RefusesOpen};
 
 use sled::{Db, verify_integrity};
 use sled_nodes::Error;
 use sled_store::Pages;
 use std::alloc::Global;
-
-/// Opens pages after a check: they have the maps of before, and the default tree.
-pub fn reopen_checked<P: Pages>(
-    alloc: Global,
-    pages: P,
-    name: &[u8],
-) -> std::result::Result<P, (P, Error)>
-    ensures fit { OnOk result (IsFit (now (P.store pages))) }
-    ensures ok { IfOk result (λ left. trees_of (now (P.store left)) ≡ with_default (trees_of (now (P.store pages)))) }
-    ensures err { IfErr result (λ e. RefusesChecked (P.store pages) e.1 (P.store e.0)) }
-{
-    match Db::open_checked(alloc, pages, name) {
-        Ok(db) => Ok(db.into_pages()),
-        Err(e) => Err(e),
-    }
-}
 
 /// Checks pages outside every group, and opens them: what the check accepts can be opened.
 pub fn reopen_accepted<P: Pages>(

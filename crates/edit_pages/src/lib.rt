@@ -1,11 +1,8 @@
-//! Calls of a store in memory, of one in the making and of any store, and of what spells and reads its changes, each under the contract
-//! that it has. The edits in `must-fail` show what these contracts rule out: each does something to the store before the call or after it,
-//! turns an argument, or gives another answer.
+//! Calls of a store in memory, and of any store, each under the contract that it has. The edits in `must-fail` show what these contracts
+//! rule out: each does something to the store before the call or after it, turns an argument, or gives another answer.
 #![tactic(auto)]
 
 mod any;
-mod bytes;
-mod making;
 
 ghost use Rattle.std.specs.Prelude.{◌≡◌, IfOk, OnOk, false, length};
 ghost use Rattle.std.specs.Option.{option_map};
@@ -17,8 +14,6 @@ ghost use Rattle.sled_pages.specs.Memory.{parts_of, store_of};
 ghost use Rattle.sled_pages.specs.Parts.{ChangesParts, linked};
 
 pub use any::link_any;
-pub use bytes::{change_of, node_of, push_mark};
-pub use making::{finish, put_link};
 use sled_nodes::{IVec, Link, Pid, Result, Version};
 use sled_pages::MemPages;
 use sled_store::{Pages, View};

@@ -5,13 +5,11 @@
 mod callers;
 mod gathering;
 mod handle;
-mod reading;
 mod state;
 mod transactions;
 
 pub use callers::step_of_one;
 pub use gathering::gather_one;
 pub use handle::{call, read, step_by_handle};
-pub use reading::{next_page, update_and_fetch};
-pub use state::{step, whole};
-pub use transactions::{transaction, transaction_all, transaction_of_one};
+pub use state::step;
+pub use transactions::{transaction, transaction_of_one};

@@ -1,12 +1,11 @@
-//! Calls of what is under the lock.
+//! A call of what is under the lock.
 ghost use Rattle.std.specs.Prelude.{◌≡◌, ◌++◌};
 ghost use Rattle.machine_alone.specs.Values.{slots_of};
 ghost use Rattle.machine_shared.specs.Notes.{entries_of, noted_in};
 ghost use Rattle.machine_shared.specs.Steps.{SlotStep};
-ghost use Rattle.machine_shared.specs.WholeNotes.{NotesWhole};
 
 use machine_shared::{Caller, State};
-use sled_model::{MergeOperator, Outcome, Slot, Whole};
+use sled_model::{MergeOperator, Outcome, Slot};
 use sled_store::Pages;
 use std::sync::ledger::Ledger;
 
@@ -23,17 +22,4 @@ pub fn step<P: Pages, L: Ledger, M: MergeOperator>(
     ensures opening { state.new.opening ≡ state.old.opening }
 {
     state.step(me, slot)
-}
-
-/// A whole call. What it did is noted as this caller's.
-pub fn whole<P: Pages, L: Ledger, M: MergeOperator>(
-    state: &mut State<P, L, M>,
-    me: &mut Caller<L>,
-    whole: Whole,
-) -> Outcome
-    ensures whole { NotesWhole P.store P.flush_number M.meant state.old.machine state.old.history me.old.number me.old.made whole result state.new.machine state.new.history me.new.made }
-    ensures number { me.new.number ≡ me.old.number }
-    ensures opening { state.new.opening ≡ state.old.opening }
-{
-    state.whole(me, whole)
 }

@@ -1,13 +1,11 @@
 //! Transactions of callers.
 ghost use Rattle.std.specs.Prelude.{◌≡◌, true};
-ghost use Rattle.std.specs.List.{zip};
-ghost use Rattle.sled.specs.Transactions.{has_trees, trees_of_list};
 ghost use Rattle.machine_shared.specs.Inside.{RunsOver};
 ghost use Rattle.machine_shared.specs.Transacted.{TransactsUnderLock};
-ghost use Rattle.machine_shared.specs.Transactions.{AddsTransaction, RunsAllOnce, RunsOnce, batches_of_tree, fails_tests};
+ghost use Rattle.machine_shared.specs.Transactions.{AddsTransaction, RunsOnce, batches_of_tree, fails_tests};
 
 use machine_shared::Handle;
-use sled::{TransactionAnswer, TransactionalTree, TransactionalTrees};
+use sled::{TransactionAnswer, TransactionalTree};
 use sled_model::{MergeOperator, Tree};
 use sled_store::Pages;
 use std::sync::Wait;
@@ -37,24 +35,6 @@ where
 {
     let _ = &other;
     one.transaction(rt, tree, f)
-}
-
-/// A transaction of several trees. What it wrote is noted as one group.
-pub fn transaction_all<
-    P: Pages,
-    L: Ledger,
-    M: MergeOperator,
-    A: Drop,
-    E,
-    R: TransactionAnswer<A, E>,
-    F,
->(rt: &impl Wait, handle: &mut Handle<P, L, M>, trees: &[&Tree], f: F) -> R::Ended
-where
-    F: Fn(&mut TransactionalTrees<'_, P>) -> R,
-    requires { (shown : _) → F.pre f shown }
-    ensures made { AddsTransaction (RunsAllOnce P.store M.meant F.Fn R.result_of f (trees_of_list trees.now)) (zip (trees_of_list trees.now)) (has_trees (trees_of_list trees.now)) (R.answer_of result) handle.old.made handle.new.made }
-{
-    handle.transaction_all(rt, trees, f)
 }
 
 /// A transaction of a tree, under the lock. It is refused for a cause.
