@@ -29,7 +29,8 @@ pub fn law_flushed()
 {}
 
 /// Over every list of steps a subscriber gets each event under its prefix of its tree once, in the order of the decisions, or learns how
-/// many it missed. While it misses none and the database is open, a copy that it changes by them follows the map of its tree.
+/// many it missed, if fewer come than the greatest `u64`. While it misses none, the database is open, and no tree is dropped, a copy that it
+/// changes by them follows the map of its tree.
 pub fn law_hears<P: Pages, M: MergeOperator>()
     ensures { Hears P.store P.flush_number M.meant }
 {}
