@@ -3,7 +3,7 @@ ghost use Rattle.std.specs.Prelude.{◌≡◌, ◌++◌, ◌∷◌, [], IfOk, On
 ghost use Rattle.sled_model.specs.State.{IsOnKey};
 ghost use Rattle.machine_shared.specs.Made.{ReadMade};
 ghost use Rattle.machine_shared.specs.Notes.{AddsStep, IsEnd, noted_of};
-ghost use Rattle.machine_shared.specs.Reads.{IsAnswerTo};
+ghost use Rattle.machine_shared.specs.Reads.{IsAnswerTo, OfTree};
 ghost use Rattle.machine_shared.specs.UnderLock.{ReadsUnderLock, StepsUnderLock};
 ghost use Rattle.machine_shared.specs.declared.read.Read.TheVariants as read;
 
@@ -54,7 +54,7 @@ pub fn read<P: Pages, L: Ledger, M: MergeOperator>(
     ensures ok { IfOk result (λ answer. handle.new.made ≡ handle.old.made ++ ReadMade (read.Tree tree.now question answer) ∷ []) }
     ensures err { OnErr result (handle.new.made ≡ handle.old.made) }
     ensures number { handle.new.number ≡ handle.old.number }
-    ensures looks { ReadsUnderLock P.store M.meant (tree.now ∷ []) (λ answer. read.Tree tree.now question answer) result handle.old handle.new }
+    ensures looks { ReadsUnderLock P.store M.meant (OfTree tree.now question) (λ answer. read.Tree tree.now question answer) result handle.old handle.new }
 {
     handle.read(rt, tree, question)
 }

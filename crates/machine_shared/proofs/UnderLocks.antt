@@ -37,6 +37,7 @@ use Rattle.machine_shared.specs.theory.Copied.{BeganStepped, EndsStepped, StaysI
 use Rattle.machine_shared.specs.theory.Replying.{IsGroupOf}
 use Rattle.machine_shared.specs.Scans.{ScansValue, NotesScan, AreNoted, AreNotKept, AreInOrder, begun_of, noted_at}
 use Rattle.machine_shared.specs.Sound.{IsState}
+use Rattle.machine_shared.specs.Reads.{Asked, OfTree, trees_asked}
 use Rattle.machine_shared.specs.UnderLock.{AddsMade, IsHeld, AbandonsSlot, BeginsCall, BeginsUnderLock, EndsUnderLock, GroupsUnderLock, IsDone, IsTakenOut, Looks, ReadsNow, ReadsUnderLock, RefusesNow, UnderLock, WholesUnderLock, read_made}
 use Rattle.machine_shared.specs.UnderWay.{MachineScans}
 use Rattle.machine_shared.specs.Values.{CallerValue, OpeningValue, StateValue}
@@ -113,19 +114,19 @@ read_noted read_of (Ok a) noted ok err = ok
 read_noted read_of (Err e) noted ok err = err
 
 -- a read, with nothing else that changed
-pub looked : {P M A : Type 0} (store : P → Store) (meant : M → Merge) (trees : List Tree) (read_of : A → Read) (r : Result A Error) (machine : MachineValue P M) (opening : OpeningValue) (scans : ScansValue) (history longer : List EntryValue) (number : ℕ) (list more : List MadeValue)
+pub looked : {P M A : Type 0} (store : P → Store) (meant : M → Merge) (asked : Asked) (read_of : A → Read) (r : Result A Error) (machine : MachineValue P M) (opening : OpeningValue) (scans : ScansValue) (history longer : List EntryValue) (number : ℕ) (list more : List MadeValue)
     (s : StateValue P M) → record { machine = machine; opening = opening; history = history; scans = scans } ≡ s → (m : CallerValue) → record { number = number; made = list } ≡ m
-    → IfOk r (λ a. ReadsNow store meant machine trees (read_of a)) → IfErr r (RefusesNow store meant machine trees) → longer ≡ history ++ entries_of number (read_made read_of r) → more ≡ list ++ read_made read_of r
-    → Looks store meant trees read_of r m (record { number = number; made = more }) s (record { machine = machine; opening = opening; history = longer; scans = scans })
-looked store meant trees read_of r machine opening scans history longer number list more s at_s m at_m reads refused grows grows_there =
-    subst (λ x. Looks store meant trees read_of r m (record { number = number; made = more }) x (record { machine = machine; opening = opening; history = longer; scans = scans })) at_s
-    (subst (λ x. Looks store meant trees read_of r x (record { number = number; made = more }) (record { machine = machine; opening = opening; history = history; scans = scans }) (record { machine = machine; opening = opening; history = longer; scans = scans })) at_m
+    → IfOk r (λ a. ReadsNow store meant machine (trees_asked asked) (read_of a)) → IfErr r (RefusesNow store meant machine asked) → longer ≡ history ++ entries_of number (read_made read_of r) → more ≡ list ++ read_made read_of r
+    → Looks store meant asked read_of r m (record { number = number; made = more }) s (record { machine = machine; opening = opening; history = longer; scans = scans })
+looked store meant asked read_of r machine opening scans history longer number list more s at_s m at_m reads refused grows grows_there =
+    subst (λ x. Looks store meant asked read_of r m (record { number = number; made = more }) x (record { machine = machine; opening = opening; history = longer; scans = scans })) at_s
+    (subst (λ x. Looks store meant asked read_of r x (record { number = number; made = more }) (record { machine = machine; opening = opening; history = history; scans = scans }) (record { machine = machine; opening = opening; history = longer; scans = scans })) at_m
     (record { reads = reads; refused = refused; machine = refl; adds = record { history = grows; list = ap (λ l. record { number = number; made = l }) grows_there; opening = refl }; scans = refl }))
 
 -- a read whose answer is told as a value of its kind
-pub told_as : {P M A B : Type 0} (store : P → Store) (meant : M → Merge) (trees : List Tree) (read_of : A → Read) (tell : B → A) (a : A) (b : B) (me more : CallerValue) → a ≡ tell b
-    → ReadsUnderLock store meant trees read_of (Ok a) me more → ReadsUnderLock store meant trees (λ x. read_of (tell x)) (Ok b) me more
-told_as store meant trees read_of tell a b me more is reads = elim reads [
+pub told_as : {P M A B : Type 0} (store : P → Store) (meant : M → Merge) (asked : Asked) (read_of : A → Read) (tell : B → A) (a : A) (b : B) (me more : CallerValue) → a ≡ tell b
+    → ReadsUnderLock store meant asked read_of (Ok a) me more → ReadsUnderLock store meant asked (λ x. read_of (tell x)) (Ok b) me more
+told_as store meant asked read_of tell a b me more is reads = elim reads [
   | inl x ↦ ok_err a x.cause (Ok a) refl x.refused
   | inr u ↦ inr (record {
     old = u.old;
@@ -133,7 +134,7 @@ told_as store meant trees read_of tell a b me more is reads = elim reads [
     before = u.before;
     after = u.after;
     is = record {
-      reads = subst (λ z. ReadsNow store meant u.old.machine trees (read_of z)) is u.is.reads;
+      reads = subst (λ z. ReadsNow store meant u.old.machine (trees_asked asked) (read_of z)) is u.is.reads;
       refused = tt;
       machine = u.is.machine;
       adds = subst (λ z. AddsMade u.old me (ReadMade (read_of z) ∷ []) u.new more) is u.is.adds;
@@ -143,16 +144,16 @@ told_as store meant trees read_of tell a b me more is reads = elim reads [
 ]
 
 -- .. and a refusal of the one is one of the other
-pub refused_as : {P M A B : Type 0} (store : P → Store) (meant : M → Merge) (trees : List Tree) (read_of : A → Read) (other : B → Read) (e : Error) (me more : CallerValue)
-    → ReadsUnderLock store meant trees read_of (Err e) me more → ReadsUnderLock store meant trees other (Err e) me more
-refused_as store meant trees read_of other e me more reads = elim reads [
+pub refused_as : {P M A B : Type 0} (store : P → Store) (meant : M → Merge) (asked : Asked) (read_of : A → Read) (other : B → Read) (e : Error) (me more : CallerValue)
+    → ReadsUnderLock store meant asked read_of (Err e) me more → ReadsUnderLock store meant asked other (Err e) me more
+refused_as store meant asked read_of other e me more reads = elim reads [
   | inl x ↦ inl (record { cause = x.cause; unmade = x.unmade; refused = ap (λ c. Err c) (err_is e x.cause (Err e) refl x.refused); same = x.same })
   | inr u ↦ inr (record { old = u.old; new = u.new; before = u.before; after = u.after; is = record { reads = tt; refused = u.is.refused; machine = u.is.machine; adds = u.is.adds; scans = u.is.scans } })
 ]
 
 -- a read that there was no memory for
-pub unread : {P M A : Type 0} (store : P → Store) (meant : M → Merge) (trees : List Tree) (read_of : A → Read) (r : Result A Error) (e cause : Error) (me : CallerValue) → r ≡ Err e → e ≡ cause → cause ≡ NoMemory → ReadsUnderLock store meant trees read_of r me me
-unread store meant trees read_of r e cause me is same lacks = inl (record { cause = NoMemory; unmade = tt; refused = is ∙ ap (λ c. Err c) (same ∙ lacks); same = refl })
+pub unread : {P M A : Type 0} (store : P → Store) (meant : M → Merge) (asked : Asked) (read_of : A → Read) (r : Result A Error) (e cause : Error) (me : CallerValue) → r ≡ Err e → e ≡ cause → cause ≡ NoMemory → ReadsUnderLock store meant asked read_of r me me
+unread store meant asked read_of r e cause me is same lacks = inl (record { cause = NoMemory; unmade = tt; refused = is ∙ ap (λ c. Err c) (same ∙ lacks); same = refl })
 
 -- a fetch, by how it came out
 pub fetched : {P M : Type 0} (store : P → Store) (meant : M → Merge) (machine after : MachineValue P M) (opening : OpeningValue) (scans : ScansValue) (history longer : List EntryValue) (number : ℕ) (list more : List MadeValue)
@@ -200,11 +201,11 @@ module _ {P M : Type 0} (store : P → Store) (number : P → ℕ) (meant : M �
 -- ---- reads of a tree, by what their short forms return
 
 module _ {P M B : Type 0} (store : P → Store) (meant : M → Merge) (tree : Tree) (question : Question) (tell : B → Answer) (me more : CallerValue) where
-  pub read_told : (asked : Question) (a : Answer) (b : B) → asked ≡ question → a ≡ tell b → ReadsUnderLock store meant (tree ∷ []) (λ x. read.Tree tree asked x) (Ok a) me more → ReadsUnderLock store meant (tree ∷ []) (λ x. read.Tree tree question (tell x)) (Ok b) me more
-  read_told asked a b same is reads = told_as store meant (tree ∷ []) (λ x. read.Tree tree question x) tell a b me more is (subst (λ q. ReadsUnderLock store meant (tree ∷ []) (λ x. read.Tree tree q x) (Ok a) me more) same reads)
+  pub read_told : (asked : Question) (a : Answer) (b : B) → asked ≡ question → a ≡ tell b → ReadsUnderLock store meant (OfTree tree asked) (λ x. read.Tree tree asked x) (Ok a) me more → ReadsUnderLock store meant (OfTree tree question) (λ x. read.Tree tree question (tell x)) (Ok b) me more
+  read_told asked a b same is reads = told_as store meant (OfTree tree question) (λ x. read.Tree tree question x) tell a b me more is (subst (λ q. ReadsUnderLock store meant (OfTree tree q) (λ x. read.Tree tree q x) (Ok a) me more) same reads)
 
-  pub read_refused : (asked : Question) (e : Error) → ReadsUnderLock store meant (tree ∷ []) (λ x. read.Tree tree asked x) (Err e) me more → ReadsUnderLock store meant (tree ∷ []) (λ x. read.Tree tree question (tell x)) (Err e) me more
-  read_refused asked e reads = refused_as store meant (tree ∷ []) (λ x. read.Tree tree asked x) (λ x. read.Tree tree question (tell x)) e me more reads
+  pub read_refused : (asked : Question) (e : Error) → asked ≡ question → ReadsUnderLock store meant (OfTree tree asked) (λ x. read.Tree tree asked x) (Err e) me more → ReadsUnderLock store meant (OfTree tree question) (λ x. read.Tree tree question (tell x)) (Err e) me more
+  read_refused asked e same reads = refused_as store meant (OfTree tree question) (λ x. read.Tree tree question x) (λ x. read.Tree tree question (tell x)) e me more (subst (λ q. ReadsUnderLock store meant (OfTree tree q) (λ x. read.Tree tree q x) (Err e) me more) same reads)
 
 -- ---- calls on keys that go on
 

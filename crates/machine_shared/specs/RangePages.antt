@@ -9,7 +9,7 @@ use Rattle.sled_nodes.specs.declared.error.Error.TheVariants.{NoMemory}
 use Rattle.sled_store.specs.Store.{Store}
 use Rattle.sled_model.specs.Maps.{Merge}
 use Rattle.machine_shared.specs.Made.{MadeValue, ReadMade}
-use Rattle.machine_shared.specs.Reads.{IsPart}
+use Rattle.machine_shared.specs.Reads.{IsPart, OfTree}
 use Rattle.machine_shared.specs.UnderLock.{ReadsUnderLock}
 use Rattle.machine_shared.specs.Values.{CallerValue}
 use Rattle.machine_shared.specs.declared.range_pages.RangePages.{RangePages}
@@ -71,7 +71,7 @@ pub record RefusesPage (old new : RangePages) (made more : List MadeValue) (e : 
 module _ {P M : Type 0} (store : P → Store) (meant : M → Merge) (r : RangePages) (me more : CallerValue) where
   -- the next page came of a read under the lock
   abbrev pub ReadsPage : Result (List (Key × Key)) Error → Type 0
-  ReadsPage result = ReadsUnderLock store meant (r.tree ∷ []) (page_read r) result me more
+  ReadsPage result = ReadsUnderLock store meant (OfTree r.tree (asks.Page r.lo r.hi r.back r.most)) (page_read r) result me more
 
   -- so did a page that is given; one that is refused was refused there, or it was read and there was no memory to go past it
   abbrev pub PagesUnderLock : Result (List (Key × Key)) Error → Type 0

@@ -1,5 +1,5 @@
 -- What reads under one lock return.
-use Rattle.std.specs.Prelude.{◌≡◌, ◌↔◌, ◌⊎◌, ℕ, ◌≤◌, Bool, true, ◌&&◌, IsTrue, All, List, [], ◌∷◌, length, map, take, Option, Some, None, is_some}
+use Rattle.std.specs.Prelude.{◌≡◌, ◌↔◌, ℕ, ◌≤◌, Bool, true, false, ◌&&◌, IsTrue, All, List, [], ◌∷◌, length, map, take, Option, Some, None, is_some}
 use Rattle.std.specs.FinMap.Entries.{find, is_sorted}
 use Rattle.std.specs.declared.ops.Bound.{Bound}
 use Rattle.std.specs.declared.ops.Bound.TheVariants.{Excluded, Unbounded}
@@ -7,17 +7,14 @@ use Rattle.sled_nodes.specs.Among.{IsSuccessor, IsPredecessor, is_from, is_up_to
 use Rattle.sled_nodes.specs.Order.{Key, key_cmp}
 use Rattle.sled_nodes.specs.declared.error.Error.{Error}
 use Rattle.sled_nodes.specs.declared.error.Error.TheVariants.{ReportableBug}
-use Rattle.sled_nodes.specs.declared.texts.TheConstants.{WALK_PASSED_TURNS}
 use Rattle.sled_store.specs.In.{In}
-use Rattle.sled_store.specs.Store.{Store, now, refuses_read_as}
+use Rattle.sled_store.specs.Store.{Store, refuses_read_as}
 use Rattle.sled_model.specs.Collections.{Content, are_trees}
 use Rattle.sled_model.specs.Maps.{Map, Maps}
 use Rattle.sled_model.specs.Refusal.{MustRefuse, tells}
 use Rattle.sled_model.specs.declared.tree.Tree.{Tree}
-use Rattle.tree_laws.specs.Paths.{tree_pages}
 use Rattle.tree_reads.specs.Ranges.{pairs_within}
 use Rattle.tree_reads.specs.Walk.{once, for_each}
-use Rattle.tree_reads.specs.declared.TheConstants.{MOST_PAGES}
 use Rattle.sled.specs.Names.{Ascend}
 use Rattle.machine_shared.specs.Openings.{maps_from}
 use Rattle.machine_shared.specs.Orders.{in_order}
@@ -113,17 +110,34 @@ IsAnswerTo Len answer = IsCount answer
 IsAnswerTo IsEmpty answer = IsFlag answer
 IsAnswerTo (Page lo hi back most) answer = IsPageOf lo hi back most answer
 
--- a read of one tree may look at too many pages: those of the tree, or from right to left their square, reach the limit
-abbrev pub has_too_many : Store → List Tree → Type 0
-has_too_many s (tree ∷ []) = (MOST_PAGES ≤ once (tree_pages (now s) tree.name)) ⊎ (MOST_PAGES ≤ for_each (tree_pages (now s) tree.name))
-has_too_many s trees = ⊥
+-- what is asked of a database: a question about one of its trees, or what concerns them all
+pub data Asked : Type 0 where
+  OfTree : Tree → Question → Asked
+  OfAll : Asked
 
--- why a read of trees stops: for want of memory, for a page that is not readable, or for as many pages looked at as may be
-abbrev pub stops_look : Store → List Tree → Error → Type 0
-stops_look s trees (ReportableBug text) = (text.now ≡ WALK_PASSED_TURNS.now) × has_too_many s trees
-stops_look s trees e = refuses_read_as s e
+-- the tree that is named
+abbrev pub trees_asked : Asked → List Tree
+trees_asked (OfTree tree question) = tree ∷ []
+trees_asked OfAll = []
+
+-- how many pages a walk in this direction looks at, in a tree of so many: each once or, back, all of them for each
+abbrev pub pages_walked : Bool → ℕ → ℕ
+pages_walked true = for_each
+pages_walked false = once
+
+-- .. and what answers a question
+abbrev pub pages_asked : Question → ℕ → ℕ
+pages_asked Last = for_each
+pages_asked (GetLt key) = for_each
+pages_asked (Page lo hi back most) = pages_walked back
+pages_asked question = once
+
+-- why a read of all trees stops: for want of memory, or for a page that is not readable
+abbrev pub stops_look : Store → Error → Type 0
+stops_look s (ReportableBug text) = ⊥
+stops_look s e = refuses_read_as s e
 
 -- .. or why it is refused before, by a test
-abbrev pub refuses_look_as : Store → List Tree → Option MustRefuse → Error → Type 0
-refuses_look_as s trees (Some must) e = tells must e
-refuses_look_as s trees None e = stops_look s trees e
+abbrev pub refuses_look_as : Store → Option MustRefuse → Error → Type 0
+refuses_look_as s (Some must) e = tells must e
+refuses_look_as s None e = stops_look s e

@@ -15,6 +15,7 @@ use Rattle.sled_model.specs.declared.outcome.Outcome.{Outcome}
 use Rattle.sled_model.specs.declared.outcome.Outcome.TheVariants.{Begun, Refused, NoSuchSlot}
 use Rattle.sled_model.specs.declared.outcome.Step.TheVariants as step
 use Rattle.sled_model.specs.declared.tree.Tree.{Tree}
+use Rattle.sled.specs.Reads.{GivesUpGet, RefusesReading}
 use Rattle.sled.specs.Sound.{IsDb}
 use Rattle.sled.specs.Values.{db_state, snapshot_of_db}
 use Rattle.machine_alone.specs.Sound.{IsMachine}
@@ -22,12 +23,14 @@ use Rattle.machine_alone.specs.Step.{MachineStepContract}
 use Rattle.machine_alone.specs.Values.{MachineValue, job_of_call, slots_of}
 use Rattle.machine_shared.specs.Made.{MadeValue, ReadMade}
 use Rattle.machine_shared.specs.Notes.{entries_of, noted_in, noted_of}
-use Rattle.machine_shared.specs.Reads.{reads_as, refuses_look_as}
+use Rattle.machine_shared.specs.Reads.{Asked, OfAll, OfTree, pages_asked, reads_as, refuses_look_as, trees_asked}
 use Rattle.machine_shared.specs.Scans.{AreInOrder, NotesScan, begun_of, noted_at, scanned_of}
 use Rattle.machine_shared.specs.Sound.{HasCrashMaps, HasHistory, HasLegalHistory, HasRisingIds, HasScans, maps_now}
 use Rattle.machine_shared.specs.Steps.{SlotStep}
 use Rattle.machine_shared.specs.Values.{CallerValue, StateValue}
 use Rattle.machine_shared.specs.WholeNotes.{NotesWhole}
+use Rattle.machine_shared.specs.declared.read.Question.{Question}
+use Rattle.machine_shared.specs.declared.read.Question.TheVariants.{Get, ContainsKey}
 use Rattle.machine_shared.specs.declared.read.Read.{Read}
 use Rattle.machine_shared.specs.declared.scans.ScanNote.{ScanNote}
 
@@ -153,15 +156,25 @@ module _ {P M : Type 0} (store : P → Store) (meant : M → Merge) where
     pub tested : must_refuse_of (db_state store meant m.db) trees ≡ None
     pub tells : reads_as (maps_now store m) read
 
-  -- a read of these trees is refused: by the first test that fails; or if none fails for want of memory, for a page that is not readable,
-  -- or for as many pages looked at as may be
-  pub record RefusesNow (m : MachineValue P M) (trees : List Tree) (e : Error) : Type 0 where
-    pub is : refuses_look_as (store m.db.pages) trees (must_refuse_of (db_state store meant m.db) trees) e
+  -- over a clean path to its key a question about what is there gives up as a get does
+  abbrev pub gives_up_as : MachineValue P M → Tree → Question → Error → Type 0
+  gives_up_as m tree (Get key) e = GivesUpGet store meant m.db tree key e
+  gives_up_as m tree (ContainsKey key) e = GivesUpGet store meant m.db tree key e
+  gives_up_as m tree question e = Unit {0}
 
-  -- a read of these trees is noted as this caller's, or it is refused; and nothing else changes
-  pub record Looks {A : Type 0} (trees : List Tree) (read_of : A → Read) (result : Result A Error) (me more : CallerValue) (old new : StateValue P M) : Type 0 where
-    pub reads : IfOk result (λ answer. ReadsNow old.machine trees (read_of answer))
-    pub refused : IfErr result (RefusesNow old.machine trees)
+  abbrev pub refuses_asked_as : MachineValue P M → Asked → Error → Type 0
+  refuses_asked_as m (OfTree tree question) e = RefusesReading store meant m.db tree (pages_asked question) e × gives_up_as m tree question e
+  refuses_asked_as m OfAll e = refuses_look_as (store m.db.pages) (must_refuse_of (db_state store meant m.db) []) e
+
+  -- What is asked is refused, as the same read of the database is: by the first test that fails; or if none fails for want of memory, for a
+  -- page that is not readable or, of one tree, for as many pages looked at as may be
+  pub record RefusesNow (m : MachineValue P M) (asked : Asked) (e : Error) : Type 0 where
+    pub is : refuses_asked_as m asked e
+
+  -- what was asked is noted with its answer as this caller's, or it is refused; and nothing else changes
+  pub record Looks {A : Type 0} (asked : Asked) (read_of : A → Read) (result : Result A Error) (me more : CallerValue) (old new : StateValue P M) : Type 0 where
+    pub reads : IfOk result (λ answer. ReadsNow old.machine (trees_asked asked) (read_of answer))
+    pub refused : IfErr result (RefusesNow old.machine asked)
     pub machine : new.machine ≡ old.machine
     pub adds : AddsMade old me (read_made read_of result) new more
     pub scans : new.scans ≡ old.scans
@@ -180,5 +193,5 @@ pub record IsUnread {A : Type 0} (result : Result A Error) (me more : CallerValu
   pub same : more ≡ me
 
 -- .. or it was made under the lock
-abbrev pub ReadsUnderLock : {P M A : Type 0} → (P → Store) → (M → Merge) → List Tree → (A → Read) → Result A Error → CallerValue → CallerValue → Type 0
-ReadsUnderLock store meant trees read_of result me more = IsUnread result me more ⊎ UnderLock store (Looks store meant trees read_of result me more)
+abbrev pub ReadsUnderLock : {P M A : Type 0} → (P → Store) → (M → Merge) → Asked → (A → Read) → Result A Error → CallerValue → CallerValue → Type 0
+ReadsUnderLock store meant asked read_of result me more = IsUnread result me more ⊎ UnderLock store (Looks store meant asked read_of result me more)

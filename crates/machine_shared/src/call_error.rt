@@ -16,7 +16,7 @@ pub type CallResult<T> = std::result::Result<T, CallError>;
 pub enum CallError {
     /// The call was refused.
     Refused(Error),
-    /// Another caller ended the call's slot, by a step or by `abandon`. A whole call takes no slot, so this is none of its errors.
+    /// The call's slot has it no more, as after another caller's step or `abandon`. A whole call takes no slot, so this is none of its errors.
     NoSuchSlot,
 }
 

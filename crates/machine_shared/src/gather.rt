@@ -1,5 +1,5 @@
 //! The state, out of its lock.
-ghost use Rattle.std.specs.Prelude.{◌≡◌, ◌+◌, true, All, IfOk, IfErr, IfSome, length, vec_len};
+ghost use Rattle.std.specs.Prelude.{◌≡◌, ◌+◌, true, All, IfOk, IfErr, IfSome, Some, length, vec_len};
 ghost use Rattle.machine_shared.specs.Sound.{HasCrashMaps, HasHistory, HasLegalHistory, HasRisingIds, HasScans};
 ghost use Rattle.machine_shared.specs.Gathered.{EachOnceBehind, IsMadeIn, IsOfGiven};
 ghost use Rattle.machine_shared.specs.UnderLock.{IsHeld};
@@ -31,8 +31,8 @@ fn agrees_with<P: Pages, L: Ledger, M: MergeOperator>(
 impl<P: Pages, L: Ledger, M: MergeOperator> Db<P, L, M> {
     /// Takes the state out, once all callers are done. All handles that were made must be handed in, in any order; if none was made, an
     /// empty list. Each handle's list is compared with the history: it must be that of the entries with its number, in order. The history
-    /// must have no others, and the state must have begun with what the database had when it was first shared. If it is not so, the database
-    /// and the handles are given back, and the state stays under its lock.
+    /// must have no others but those of callers before, and the state must have begun with what the database had when it was first shared.
+    /// If it is not so, the database and the handles are given back, and the state stays under its lock.
     ///
     /// The history of the state is legal, up to the maps now while its database is open. A crash may leave the opening and the maps after
     /// each entry and part of it, and before these what it might have left before the sharing, unless `new_flushed` shared it; from the last
@@ -141,6 +141,7 @@ fn take_agreeing<P: Pages, L: Ledger, M: MergeOperator>(
     ensures made { IfSome result (λ s. All (IsMadeIn s.history) handles.now) }
     ensures others { IfSome result (λ s. All (IsOfGiven given) s.history) }
     ensures opening { IfSome result (λ s. s.opening ≡ opening.now) }
+    ensures same { IfSome result (λ s. slot.old ≡ Some s) }
 {
     let agrees = match slot {
         Some(state) => state.opening.is(opening) && agrees_with(state, handles, given),
@@ -154,7 +155,8 @@ fn take_begun<P: Pages, L: Ledger, M: MergeOperator>(
     slot: &mut Option<State<P, L, M>>,
     opening: &Opening,
 ) -> Option<State<P, L, M>>
-    ensures { IfSome result (λ s. s.opening ≡ opening.now) }
+    ensures opening { IfSome result (λ s. s.opening ≡ opening.now) }
+    ensures same { IfSome result (λ s. slot.old ≡ Some s) }
 {
     let begun = match slot {
         Some(state) => state.opening.is(opening),

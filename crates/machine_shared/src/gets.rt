@@ -3,6 +3,7 @@ ghost use Rattle.std.specs.Prelude.{◌≡◌, ◌<◌, ◌+◌, ◌++◌, ◌�
 ghost use Rattle.sled_nodes.specs.declared.error.Error.TheVariants.{NoMemory};
 ghost use Rattle.machine_shared.specs.Made.{ReadMade, entry_values, made_values};
 ghost use Rattle.machine_shared.specs.Notes.{entries_of};
+ghost use Rattle.machine_shared.specs.Reads.{OfTree};
 ghost use Rattle.machine_shared.specs.declared.read.Answer.TheVariants as told;
 ghost use Rattle.machine_shared.specs.declared.read.Question.TheVariants as asks;
 ghost use Rattle.machine_shared.specs.declared.read.Read.TheVariants as read;
@@ -141,7 +142,7 @@ fn note_value<L: Ledger>(
 }
 
 // The value at a key now.
-#[tactic(auto, using(crate::proofs::Valued::valued, crate::proofs::Refusing::as_once))]
+#[tactic(auto, using(crate::proofs::Valued::valued, crate::proofs::Refusing::as_get))]
 #[inline(always)]
 fn value_now<P: Pages, M: MergeOperator>(
     machine: &Machine<P, M>,
@@ -149,7 +150,7 @@ fn value_now<P: Pages, M: MergeOperator>(
     key: &IVec,
 ) -> Result<Option<IVec>>
     ensures now { IfOk result (λ value. ReadsNow P.store M.meant machine.now (tree.now ∷ []) (read.Tree tree.now (asks.Get key.now) (told.Value value))) }
-    ensures err { IfErr result (RefusesNow P.store M.meant machine.now (tree.now ∷ [])) }
+    ensures err { IfErr result (RefusesNow P.store M.meant machine.now (OfTree tree.now (asks.Get key.now))) }
 {
     match machine.db().get(tree, key.as_ref()) {
         Ok(value) => Ok(value),
@@ -175,7 +176,7 @@ pub(crate) fn value_noting<P: Pages, L: Ledger, M: MergeOperator>(
     ensures ok { IfOk result (λ it. made_values made.new.items ≡ made_values made.old.items ++ ReadMade (read.Tree tree.now (asks.Get key) (told.Value it)) ∷ []) }
     ensures err { OnErr result (made_values made.new.items ≡ made_values made.old.items) }
     ensures reads { IfOk result (λ it. ReadsNow P.store M.meant machine.now (tree.now ∷ []) (read.Tree tree.now (asks.Get key) (told.Value it))) }
-    ensures refused { IfErr result (RefusesNow P.store M.meant machine.now (tree.now ∷ [])) }
+    ensures refused { IfErr result (RefusesNow P.store M.meant machine.now (OfTree tree.now (asks.Get key))) }
     ensures history { entry_values history.new.items ≡ entry_values history.old.items ++ entries_of number (read_made (λ it. read.Tree tree.now (asks.Get key) (told.Value it)) result) }
     ensures made { made_values made.new.items ≡ made_values made.old.items ++ read_made (λ it. read.Tree tree.now (asks.Get key) (told.Value it)) result }
     ensures part { share.new.parts ≡ 1 }

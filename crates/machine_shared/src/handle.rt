@@ -63,7 +63,7 @@ impl<P: Pages, L: Ledger, M> Handle<P, L, M> {
         Handle { lock, me }
     }
 
-    /// The caller's number: handles are numbered from 1, in order of the calls that made them.
+    /// The caller's number: handles are numbered from 1, or above those of callers before, in order of the calls that made them.
     ///
     /// ```
     /// let number = handle.number(); // As each of its entries in the history has it.

@@ -4,7 +4,7 @@ ghost use Rattle.std.specs.Prelude.{◌≡◌, ◌++◌, ◌∷◌, [], IfErr, I
 ghost use Rattle.sled_nodes.specs.Among.{bound_of};
 ghost use Rattle.sled_nodes.specs.declared.error.Error.TheVariants.{NoMemory};
 ghost use Rattle.machine_shared.specs.Made.{ReadMade};
-ghost use Rattle.machine_shared.specs.Reads.{IsAnswerTo, IsCount, IsFlag, IsPair, IsPart};
+ghost use Rattle.machine_shared.specs.Reads.{IsAnswerTo, IsCount, IsFlag, IsPair, IsPart, OfAll, OfTree};
 ghost use Rattle.machine_shared.specs.declared.read.Answer.TheVariants as told;
 ghost use Rattle.machine_shared.specs.theory.Orders.{IsPage};
 ghost use Rattle.machine_shared.specs.declared.read.Question.TheVariants as asks;
@@ -91,7 +91,8 @@ fn page_between(
 
 impl<P: Pages, L: Ledger, M: MergeOperator> Handle<P, L, M> {
     /// What a tree answers to a question, in one step under the lock. It is added to this caller's list with its answer. Refused as the
-    /// same read of a database is, and with `NoMemory` if there is none to note it; nothing is added to the list then.
+    /// same read of a database is, with `NoMemory` if there is none to note it, and with `Closed` if the database was taken out of its lock;
+    /// nothing is added to the list then.
     ///
     /// ```
     /// let answer = handle.read(rt, &tree, Question::Len)?; // `Answer::Count(..)`.
@@ -101,7 +102,7 @@ impl<P: Pages, L: Ledger, M: MergeOperator> Handle<P, L, M> {
         ensures ok { IfOk result (λ answer. self.new.made ≡ self.old.made ++ ReadMade (read.Tree tree.now question answer) ∷ []) }
         ensures err { OnErr result (self.new.made ≡ self.old.made) }
         ensures number { self.new.number ≡ self.old.number }
-        ensures looks { ReadsUnderLock P.store M.meant (tree.now ∷ []) (λ answer. read.Tree tree.now question answer) result self.old self.new }
+        ensures looks { ReadsUnderLock P.store M.meant (OfTree tree.now question) (λ answer. read.Tree tree.now question answer) result self.old self.new }
     {
         let mut guard = locked(rt, &self.lock);
         let answer = read_in(&mut *guard, &mut self.me, tree, question);
@@ -114,7 +115,7 @@ impl<P: Pages, L: Ledger, M: MergeOperator> Handle<P, L, M> {
         ensures ok { IfOk result (λ it. self.new.made ≡ self.old.made ++ ReadMade (read.Tree tree.now (asks.Get key) (told.Value it)) ∷ []) }
         ensures err { OnErr result (self.new.made ≡ self.old.made) }
         ensures number { self.new.number ≡ self.old.number }
-        ensures looks { ReadsUnderLock P.store M.meant (tree.now ∷ []) (λ it. read.Tree tree.now (asks.Get key) (told.Value it)) result self.old self.new }
+        ensures looks { ReadsUnderLock P.store M.meant (OfTree tree.now (asks.Get key)) (λ it. read.Tree tree.now (asks.Get key) (told.Value it)) result self.old self.new }
     {
         let mut guard = locked(rt, &self.lock);
         let value = value_in(&mut *guard, &mut self.me, tree, key);
@@ -137,7 +138,7 @@ impl<P: Pages, L: Ledger, M: MergeOperator> Handle<P, L, M> {
         ensures ok { IfOk result (λ it. self.new.made ≡ self.old.made ++ ReadMade (read.Tree tree.now (asks.Get key.now) (told.Value it)) ∷ []) }
         ensures err { OnErr result (self.new.made ≡ self.old.made) }
         ensures number { self.new.number ≡ self.old.number }
-        ensures looks { ReadsUnderLock P.store M.meant (tree.now ∷ []) (λ it. read.Tree tree.now (asks.Get key.now) (told.Value it)) result self.old self.new }
+        ensures looks { ReadsUnderLock P.store M.meant (OfTree tree.now (asks.Get key.now)) (λ it. read.Tree tree.now (asks.Get key.now) (told.Value it)) result self.old self.new }
     {
         let key = IVec::from_slice(alloc, key)?;
         self.value(rt, tree, key)
@@ -158,7 +159,7 @@ impl<P: Pages, L: Ledger, M: MergeOperator> Handle<P, L, M> {
         ensures ok { IfOk result (λ it. self.new.made ≡ self.old.made ++ ReadMade (read.Tree tree.now (asks.ContainsKey key.now) (told.Flag it)) ∷ []) }
         ensures err { OnErr result (self.new.made ≡ self.old.made) }
         ensures number { self.new.number ≡ self.old.number }
-        ensures looks { ReadsUnderLock P.store M.meant (tree.now ∷ []) (λ it. read.Tree tree.now (asks.ContainsKey key.now) (told.Flag it)) result self.old self.new }
+        ensures looks { ReadsUnderLock P.store M.meant (OfTree tree.now (asks.ContainsKey key.now)) (λ it. read.Tree tree.now (asks.ContainsKey key.now) (told.Flag it)) result self.old self.new }
     {
         let question = Question::ContainsKey(IVec::from_slice(alloc, key)?);
         match self.read(rt, tree, question) {
@@ -176,7 +177,7 @@ impl<P: Pages, L: Ledger, M: MergeOperator> Handle<P, L, M> {
         ensures ok { IfOk result (λ it. self.new.made ≡ self.old.made ++ ReadMade (read.Tree tree.now (asks.First) (told.Pair it)) ∷ []) }
         ensures err { OnErr result (self.new.made ≡ self.old.made) }
         ensures number { self.new.number ≡ self.old.number }
-        ensures looks { ReadsUnderLock P.store M.meant (tree.now ∷ []) (λ it. read.Tree tree.now asks.First (told.Pair it)) result self.old self.new }
+        ensures looks { ReadsUnderLock P.store M.meant (OfTree tree.now asks.First) (λ it. read.Tree tree.now asks.First (told.Pair it)) result self.old self.new }
     {
         let question = Question::First;
         match self.read(rt, tree, question) {
@@ -194,7 +195,7 @@ impl<P: Pages, L: Ledger, M: MergeOperator> Handle<P, L, M> {
         ensures ok { IfOk result (λ it. self.new.made ≡ self.old.made ++ ReadMade (read.Tree tree.now (asks.Last) (told.Pair it)) ∷ []) }
         ensures err { OnErr result (self.new.made ≡ self.old.made) }
         ensures number { self.new.number ≡ self.old.number }
-        ensures looks { ReadsUnderLock P.store M.meant (tree.now ∷ []) (λ it. read.Tree tree.now asks.Last (told.Pair it)) result self.old self.new }
+        ensures looks { ReadsUnderLock P.store M.meant (OfTree tree.now asks.Last) (λ it. read.Tree tree.now asks.Last (told.Pair it)) result self.old self.new }
     {
         let question = Question::Last;
         match self.read(rt, tree, question) {
@@ -218,7 +219,7 @@ impl<P: Pages, L: Ledger, M: MergeOperator> Handle<P, L, M> {
         ensures ok { IfOk result (λ it. self.new.made ≡ self.old.made ++ ReadMade (read.Tree tree.now (asks.GetLt key.now) (told.Pair it)) ∷ []) }
         ensures err { OnErr result (self.new.made ≡ self.old.made) }
         ensures number { self.new.number ≡ self.old.number }
-        ensures looks { ReadsUnderLock P.store M.meant (tree.now ∷ []) (λ it. read.Tree tree.now (asks.GetLt key.now) (told.Pair it)) result self.old self.new }
+        ensures looks { ReadsUnderLock P.store M.meant (OfTree tree.now (asks.GetLt key.now)) (λ it. read.Tree tree.now (asks.GetLt key.now) (told.Pair it)) result self.old self.new }
     {
         let question = Question::GetLt(IVec::from_slice(alloc, key)?);
         match self.read(rt, tree, question) {
@@ -242,7 +243,7 @@ impl<P: Pages, L: Ledger, M: MergeOperator> Handle<P, L, M> {
         ensures ok { IfOk result (λ it. self.new.made ≡ self.old.made ++ ReadMade (read.Tree tree.now (asks.GetGt key.now) (told.Pair it)) ∷ []) }
         ensures err { OnErr result (self.new.made ≡ self.old.made) }
         ensures number { self.new.number ≡ self.old.number }
-        ensures looks { ReadsUnderLock P.store M.meant (tree.now ∷ []) (λ it. read.Tree tree.now (asks.GetGt key.now) (told.Pair it)) result self.old self.new }
+        ensures looks { ReadsUnderLock P.store M.meant (OfTree tree.now (asks.GetGt key.now)) (λ it. read.Tree tree.now (asks.GetGt key.now) (told.Pair it)) result self.old self.new }
     {
         let question = Question::GetGt(IVec::from_slice(alloc, key)?);
         match self.read(rt, tree, question) {
@@ -260,7 +261,7 @@ impl<P: Pages, L: Ledger, M: MergeOperator> Handle<P, L, M> {
         ensures ok { IfOk result (λ it. self.new.made ≡ self.old.made ++ ReadMade (read.Tree tree.now (asks.Len) (told.Count it)) ∷ []) }
         ensures err { OnErr result (self.new.made ≡ self.old.made) }
         ensures number { self.new.number ≡ self.old.number }
-        ensures looks { ReadsUnderLock P.store M.meant (tree.now ∷ []) (λ it. read.Tree tree.now asks.Len (told.Count it)) result self.old self.new }
+        ensures looks { ReadsUnderLock P.store M.meant (OfTree tree.now asks.Len) (λ it. read.Tree tree.now asks.Len (told.Count it)) result self.old self.new }
     {
         let question = Question::Len;
         match self.read(rt, tree, question) {
@@ -278,7 +279,7 @@ impl<P: Pages, L: Ledger, M: MergeOperator> Handle<P, L, M> {
         ensures ok { IfOk result (λ it. self.new.made ≡ self.old.made ++ ReadMade (read.Tree tree.now (asks.IsEmpty) (told.Flag it)) ∷ []) }
         ensures err { OnErr result (self.new.made ≡ self.old.made) }
         ensures number { self.new.number ≡ self.old.number }
-        ensures looks { ReadsUnderLock P.store M.meant (tree.now ∷ []) (λ it. read.Tree tree.now asks.IsEmpty (told.Flag it)) result self.old self.new }
+        ensures looks { ReadsUnderLock P.store M.meant (OfTree tree.now asks.IsEmpty) (λ it. read.Tree tree.now asks.IsEmpty (told.Flag it)) result self.old self.new }
     {
         let question = Question::IsEmpty;
         match self.read(rt, tree, question) {
@@ -308,7 +309,7 @@ impl<P: Pages, L: Ledger, M: MergeOperator> Handle<P, L, M> {
         ensures ok { IfOk result (λ it. self.new.made ≡ self.old.made ++ ReadMade (read.Tree tree.now (asks.Page (bound_of lo.entry) (bound_of hi.entry) back most) (told.Pairs it)) ∷ []) }
         ensures err { OnErr result (self.new.made ≡ self.old.made) }
         ensures number { self.new.number ≡ self.old.number }
-        ensures looks { ReadsUnderLock P.store M.meant (tree.now ∷ []) (λ it. read.Tree tree.now (asks.Page (bound_of lo.entry) (bound_of hi.entry) back most) (told.Pairs it)) result self.old self.new }
+        ensures looks { ReadsUnderLock P.store M.meant (OfTree tree.now (asks.Page (bound_of lo.entry) (bound_of hi.entry) back most)) (λ it. read.Tree tree.now (asks.Page (bound_of lo.entry) (bound_of hi.entry) back most) (told.Pairs it)) result self.old self.new }
     {
         let question = page_between(alloc, lo, hi, back, most)?;
         match self.read(rt, tree, question) {
@@ -326,7 +327,7 @@ impl<P: Pages, L: Ledger, M: MergeOperator> Handle<P, L, M> {
         ensures ok { IfOk result (λ names. self.new.made ≡ self.old.made ++ ReadMade (read.Names names) ∷ []) }
         ensures err { OnErr result (self.new.made ≡ self.old.made) }
         ensures number { self.new.number ≡ self.old.number }
-        ensures looks { ReadsUnderLock P.store M.meant [] read.Names result self.old self.new }
+        ensures looks { ReadsUnderLock P.store M.meant OfAll read.Names result self.old self.new }
     {
         let mut guard = locked(rt, &self.lock);
         let names = tree_names_in(&mut *guard, &mut self.me);
@@ -344,7 +345,7 @@ impl<P: Pages, L: Ledger, M: MergeOperator> Handle<P, L, M> {
         ensures ok { IfOk result (λ all. self.new.made ≡ self.old.made ++ ReadMade (read.Export all) ∷ []) }
         ensures err { OnErr result (self.new.made ≡ self.old.made) }
         ensures number { self.new.number ≡ self.old.number }
-        ensures looks { ReadsUnderLock P.store M.meant [] read.Export result self.old self.new }
+        ensures looks { ReadsUnderLock P.store M.meant OfAll read.Export result self.old self.new }
     {
         let mut guard = locked(rt, &self.lock);
         let all = export_in(&mut *guard, &mut self.me);

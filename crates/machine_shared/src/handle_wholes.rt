@@ -191,7 +191,8 @@ impl<P: Pages, L: Ledger, M: MergeOperator> Handle<P, L, M> {
         }
     }
 
-    /// Makes all that was decided durable, and returns the store's number. Refused as the same call of a machine is, as all that follow.
+    /// Makes all that was decided durable, and returns the store's number. Refused as the same call of a machine is, with `NoMemory` if it
+    /// cannot be noted, and with `Closed` if the database was taken out of its lock, as all that follow.
     ///
     /// ```
     /// let number = handle.flush(rt)?;
@@ -333,7 +334,7 @@ impl<P: Pages, L: Ledger, M: MergeOperator> Handle<P, L, M> {
         }
     }
 
-    /// Takes the next id, which no caller had before.
+    /// Takes the next id. It is greater than each id that the history has.
     ///
     /// ```
     /// let id = handle.generate_id(rt)?;

@@ -11,9 +11,9 @@
 //! are those now (`specs/History`, `specs/Sound`). A merge wrote what its reply says. What a crash may leave are the maps after each entry
 //! and part of the history, and those that it might have left before, of which there are none if `new_flushed` shared the database; from the
 //! last flush on only those after it (`specs/Crashes`). A caller's list is as long as its share of the entries, which a ledger counts. At the
-//! end `gather` takes all handles and compares: each list is that of its caller's entries, and the history has no others. If handles were
-//! lost `reclaim` takes the state without them. `share_again` shares such a state once more: its calls in flight stay in their slots, its
-//! history and numbers of callers go on.
+//! end `gather` takes all handles and compares: each list is that of its caller's entries, and the history has no others, but for those of
+//! callers before. If handles were lost `reclaim` takes the state without them. `share_again` shares such a state once more: its calls in
+//! flight stay in their slots, its history and numbers of callers go on.
 //!
 //! A closure is run as a transaction in one step under the lock, over the pages as they are. What it wrote is noted as one group, with what
 //! was before at each key that it wrote (`specs/Transactions`).

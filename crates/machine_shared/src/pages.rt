@@ -31,7 +31,7 @@ pub(crate) fn taken<P: Pages>(
 ) -> Result<Vec<(IVec, IVec)>>
     requires { Begun pairs.old }
     ensures ok { IfOk result (λ page. page.items ≡ take most (in_order back pairs.old.pairs)) }
-    ensures err { IfErr result (StopsWalk P.store pairs.old) }
+    ensures err { IfErr result (StopsWalk P.store back pairs.old) }
 {
     let mut page = Vec::new(alloc);
     for _place in 0..most {

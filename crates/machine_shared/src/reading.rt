@@ -3,7 +3,7 @@ ghost use Rattle.std.specs.Prelude.{◌≡◌, ◌<◌, ◌+◌, ◌++◌, ◌�
 ghost use Rattle.sled_nodes.specs.declared.error.Error.TheVariants.{NoMemory};
 ghost use Rattle.machine_shared.specs.Made.{ReadMade, entry_values, made_value, made_values};
 ghost use Rattle.machine_shared.specs.Notes.{entries_of};
-ghost use Rattle.machine_shared.specs.Reads.{IsAnswerTo};
+ghost use Rattle.machine_shared.specs.Reads.{IsAnswerTo, OfAll, OfTree};
 ghost use Rattle.machine_shared.specs.declared.read.Read.TheVariants as read;
 ghost use Rattle.machine_shared.specs.theory.Noting.{first_noted, second_noted};
 ghost use Rattle.machine_shared.specs.UnderLock.{ReadsNow, RefusesNow, read_made};
@@ -136,7 +136,7 @@ fn answer_now<P: Pages, M: MergeOperator>(
     question: &Question,
 ) -> Result<Answer>
     ensures kind { IfOk result (IsAnswerTo question.now) }
-    ensures err { IfErr result (RefusesNow P.store M.meant machine.now (tree.now ∷ [])) }
+    ensures err { IfErr result (RefusesNow P.store M.meant machine.now (OfTree tree.now question.now)) }
     ensures now { IfOk result (λ answer. ReadsNow P.store M.meant machine.now (tree.now ∷ []) (read.Tree tree.now question.now answer)) }
 {
     machine.audit();
@@ -162,7 +162,7 @@ pub(crate) fn answer_noting<P: Pages, L: Ledger, M: MergeOperator>(
     ensures ok { IfOk result (λ answer. made_values made.new.items ≡ made_values made.old.items ++ ReadMade (read.Tree tree.now question answer) ∷ []) }
     ensures err { OnErr result (made_values made.new.items ≡ made_values made.old.items) }
     ensures reads { IfOk result (λ answer. ReadsNow P.store M.meant machine.now (tree.now ∷ []) (read.Tree tree.now question answer)) }
-    ensures refused { IfErr result (RefusesNow P.store M.meant machine.now (tree.now ∷ [])) }
+    ensures refused { IfErr result (RefusesNow P.store M.meant machine.now (OfTree tree.now question)) }
     ensures history { entry_values history.new.items ≡ entry_values history.old.items ++ entries_of number (read_made (λ answer. read.Tree tree.now question answer) result) }
     ensures made { made_values made.new.items ≡ made_values made.old.items ++ read_made (λ answer. read.Tree tree.now question answer) result }
     ensures part { share.new.parts ≡ 1 }
@@ -196,7 +196,7 @@ pub(crate) fn answer_noting<P: Pages, L: Ledger, M: MergeOperator>(
 #[tactic(auto, using(crate::proofs::ReadMakes::named))]
 fn names_now<P: Pages, M: MergeOperator>(machine: &Machine<P, M>) -> Result<Names>
     ensures ok { IfOk result (λ names. ReadsNow P.store M.meant machine.now [] (read.Names names)) }
-    ensures err { IfErr result (RefusesNow P.store M.meant machine.now []) }
+    ensures err { IfErr result (RefusesNow P.store M.meant machine.now OfAll) }
 {
     names_of(machine)
 }
@@ -219,7 +219,7 @@ pub(crate) fn names_noting<P: Pages, M: MergeOperator>(
     ensures ok { IfOk result.0 (λ names. first_noted result.1 ≡ ReadMade (read.Names names) ∷ []) }
     ensures err { OnErr result.0 (first_noted result.1 ≡ []) }
     ensures reads { IfOk result.0 (λ names. ReadsNow P.store M.meant machine.now [] (read.Names names)) }
-    ensures refused { IfErr result.0 (RefusesNow P.store M.meant machine.now []) }
+    ensures refused { IfErr result.0 (RefusesNow P.store M.meant machine.now OfAll) }
     ensures again { second_noted result.1 ≡ first_noted result.1 }
     ensures history { history.new.items ≡ history.old.items }
     ensures made { made.new.items ≡ made.old.items }
@@ -249,7 +249,7 @@ pub(crate) fn names_noting<P: Pages, M: MergeOperator>(
 // The collection of every tree now.
 fn export_now<P: Pages, M: MergeOperator>(machine: &Machine<P, M>) -> Result<Collections>
     ensures ok { IfOk result (λ all. ReadsNow P.store M.meant machine.now [] (read.Export all)) }
-    ensures err { IfErr result (RefusesNow P.store M.meant machine.now []) }
+    ensures err { IfErr result (RefusesNow P.store M.meant machine.now OfAll) }
 {
     machine.audit();
     export_of(machine)
@@ -273,7 +273,7 @@ pub(crate) fn export_noting<P: Pages, M: MergeOperator>(
     ensures ok { IfOk result.0 (λ all. first_noted result.1 ≡ ReadMade (read.Export all) ∷ []) }
     ensures err { OnErr result.0 (first_noted result.1 ≡ []) }
     ensures reads { IfOk result.0 (λ all. ReadsNow P.store M.meant machine.now [] (read.Export all)) }
-    ensures refused { IfErr result.0 (RefusesNow P.store M.meant machine.now []) }
+    ensures refused { IfErr result.0 (RefusesNow P.store M.meant machine.now OfAll) }
     ensures again { second_noted result.1 ≡ first_noted result.1 }
     ensures history { history.new.items ≡ history.old.items }
     ensures made { made.new.items ≡ made.old.items }

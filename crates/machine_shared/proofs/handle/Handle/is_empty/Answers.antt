@@ -8,4 +8,4 @@ pub returns-in-Ok-clause-looks : goal.returns-in-Ok-clause-looks
 returns-in-Ok-clause-looks g c = read_told g.P.Pages.store g.M.MergeOperator.meant c.args.tree.now asks.IsEmpty (λ it. told.Flag it) c.args.self.now c.read.new.self _ c.in-Ok.answer c.flag_of.result refl c.flag_of.ensures c.in-Ok.ensures.looks
 
 pub returns-in-Err-clause-looks : goal.returns-in-Err-clause-looks
-returns-in-Err-clause-looks g c = read_refused g.P.Pages.store g.M.MergeOperator.meant c.args.tree.now asks.IsEmpty (λ it. told.Flag it) c.args.self.now c.read.new.self asks.IsEmpty c.in-Err.e c.in-Err.ensures.looks
+returns-in-Err-clause-looks g c = read_refused g.P.Pages.store g.M.MergeOperator.meant c.args.tree.now asks.IsEmpty (λ it. told.Flag it) c.args.self.now c.read.new.self asks.IsEmpty c.in-Err.e refl c.in-Err.ensures.looks

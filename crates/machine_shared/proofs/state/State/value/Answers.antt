@@ -1,6 +1,7 @@
 use Rattle.std.proofs.Common.{◌∙◌, [], ◌∷◌, refl}
 use Rattle.std.proofs.lemmas.List.{length-map}
 use Rattle.machine_shared.specs.Made.{entry_value, entry_values, made_values}
+use Rattle.machine_shared.specs.Reads.{OfTree}
 use Rattle.machine_shared.specs.UnderLock.{read_made}
 use Rattle.machine_shared.specs.declared.read.Answer.TheVariants as told
 use Rattle.machine_shared.specs.declared.read.Question.TheVariants as asks
@@ -27,5 +28,5 @@ invariant_of-self g c =
 
 pub returns-clause-looks : goal.returns-clause-looks
 returns-clause-looks g c =
-    looked g.P.Pages.store g.M.MergeOperator.meant (c.args.tree.now ∷ []) (λ it. read.Tree c.args.tree.now (asks.Get c.args.key) (told.Value it)) c.value_noting.result c.self.inside.machine c.self.inside.opening c.self.inside.scans (entry_values c.self.inside.history.items) (entry_values c.value_noting.new.history.items) c.me.inside.number (made_values c.me.inside.made.items) (made_values c.value_noting.new.made.items)
+    looked g.P.Pages.store g.M.MergeOperator.meant (OfTree c.args.tree.now (asks.Get c.args.key)) (λ it. read.Tree c.args.tree.now (asks.Get c.args.key) (told.Value it)) c.value_noting.result c.self.inside.machine c.self.inside.opening c.self.inside.scans (entry_values c.self.inside.history.items) (entry_values c.value_noting.new.history.items) c.me.inside.number (made_values c.me.inside.made.items) (made_values c.value_noting.new.made.items)
     _ c.self.view_is _ c.me.view_is c.value_noting.ensures.reads c.value_noting.ensures.refused c.value_noting.ensures.history c.value_noting.ensures.made
