@@ -2,9 +2,9 @@
 //!
 //! A call that a database makes at once makes the steps of a call in flight, one after the other, repairs included, and no other call does
 //! a step meanwhile. After 1,000,000 steps that go on it is refused for its turns. These laws say for which pages that never happens: the
-//! steps that go on are fewer than `alone_steps` of `tree_progress`, a number of the pages alone. With nothing left to repair a tree of
-//! 400,000 pages stays below the limit. Pages that only another program makes, as a long chain of empty leaves without an index, may reach
-//! it; the repairs that the refused call made stay then.
+//! steps that go on are fewer than `alone_steps` of `tree_progress`, a number of the pages alone. Each page that has not 8 to 10 entries
+//! counts there, also where it needs no repair, so 300 leaves of 12 entries each are above the limit already. Over a clean path that does
+//! not matter: there a call makes a step for each page (`PointRefused` of `sled`). The repairs that a refused call made stay.
 //!
 //! Nothing is done here. The laws are concluded from the public contract of such steps alone (`DbRunsToEnd` of `sled`).
 #![tactic(auto)]
