@@ -359,6 +359,7 @@ impl<P: Pages, M: MergeOperator> Session<P, M> {
         ensures begins { IfOk result (λ told. begins_as P.store P.flush_number M.meant self.old.machine self.old.tree call self.old.slots.items told.1 self.new.slots.items self.new.machine) }
         ensures shown { IfOk result (λ told. told.0 ≡ shown_of call) }
         ensures err { OnErr result (self.new.machine ≡ self.old.machine) }
+        ensures kept { OnErr result (self.new.slots.items ≡ self.old.slots.items) }
         ensures tree { self.new.tree ≡ self.old.tree }
     {
         let shown = Shown::of(&call);
