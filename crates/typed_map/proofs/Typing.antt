@@ -10,8 +10,8 @@ use Rattle.sled_nodes.specs.Among.{is_up_to, is_from}
 use Rattle.sled_nodes.specs.Order.{Key, key_cmp}
 use Rattle.tree_reads.specs.Ranges.{pairs_within}
 use Rattle.sled_model.specs.Maps.{Map}
-use Rattle.typed_map.specs.Typed.{Spelling, is_above, is_below, pair_bytes}
-use Rattle.typed_map.specs.theory.Typed.{bound_bytes, bounds_value}
+use Rattle.typed_map.specs.Typed.{Spelling, is_above, is_below, bound_bytes, pair_bytes}
+use Rattle.typed_map.specs.theory.Typed.{bounds_value}
 
 -- ---- entries and their bytes
 

@@ -1,5 +1,5 @@
 -- What typed calls find in a tree, and what they make of it.
-use Rattle.std.proofs.Common.{◌≡◌, ◌≢◌, ◌&&◌, ℕ, zero, suc, ◌+◌, ◌<◌, true, T, map, filter, take, length, get_or, List, [], ◌∷◌, ◌++◌, Option, Some, None, option_map, sym, refl, ap, ◌∙◌, subst, add-one, arith}
+use Rattle.std.proofs.Common.{◌≡◌, ◌≢◌, ◌&&◌, ℕ, zero, suc, ◌+◌, ◌<◌, true, T, map, filter, take, length, get_or, List, [], ◌∷◌, ◌++◌, Option, Some, None, option_map, inl, inr, sym, refl, ap, ◌∙◌, subst, add-one, arith}
 use Rattle.std.proofs.Math.Seq.{take-suc}
 use Rattle.std.proofs.lemmas.List.{map-append}
 use Rattle.std.specs.FinMap.Entries.{find, put, is_sorted, is_sorted-where_key}
@@ -8,6 +8,7 @@ use Rattle.std.specs.declared.ops.Bound.{Bound}
 use Rattle.sled_nodes.proofs.Basics.{true_of, of_true}
 use Rattle.sled_nodes.specs.Among.{is_up_to, is_from}
 use Rattle.sled_nodes.specs.Order.{Key, key_cmp}
+use Rattle.sled_store.specs.In.{In}
 use Rattle.sled_store.specs.Store.{Store}
 use Rattle.tree_reads.specs.Ranges.{Coming, pairs_within}
 use Rattle.tree_reads.proofs.Ranging.{reversed_none}
@@ -21,8 +22,8 @@ use Rattle.sled.specs.Sound.{MapsAscend}
 use Rattle.sled.specs.Direct.{PointDecided}
 use Rattle.sled.specs.Promises.{ChangesMap}
 use Rattle.sled.specs.Reads.{ReadsMap, BeginsRange}
-use Rattle.typed_map.specs.Typed.{Spelling, pairs_in, is_above, is_below, pair_bytes, IsTyped, Puts, LooksUp, Walks, IsForeign, IsPut, HasBytes, SpellsNone}
-use Rattle.typed_map.specs.theory.Typed.{bound_bytes, bounds_value}
+use Rattle.typed_map.specs.Typed.{Spelling, pairs_in, is_above, is_below, bound_bytes, pair_bytes, IsTyped, OneIsForeign, Puts, LooksUp, Walks, IsForeign, IsPut, HasBytes, SpellsNone, HasPairs, HasForeign}
+use Rattle.typed_map.specs.theory.Typed.{bounds_value}
 use Rattle.typed_map.proofs.Typing.{KeepsOrder, IsOneToOne, put_bytes, put_values, find_bytes, find_value, within_bytes, within_values, sorted_bytes, same_entries_of}
 
 none_of : {A B : Type 0} (f : A → B) (o : Option A) → None ≡ option_map f o → None ≡ o
@@ -32,6 +33,24 @@ none_of f (Some x) e = absurd cc
 some_of : {A B : Type 0} (f : A → B) (o : Option A) (b : B) → Some b ≡ option_map f o → (x : A) × (o ≡ Some x) × (b ≡ f x)
 some_of f None b e = absurd cc
 some_of f (Some x) b e = (x, refl, cc)
+
+stands_in : {X : Type 0} (xs : List X) (at : ℕ) (x d : X) → at < length xs → x ≡ get_or xs at d → In x xs
+stands_in [] at x d lt is = absurd (omega (arith, lt))
+stands_in (y ∷ xs) zero x d lt is = inl is
+stands_in (y ∷ xs) (suc at) x d lt is = inr (stands_in xs at x d (omega (arith, lt)) is)
+
+-- the pairs of entries, none of which is foreign
+module _ {K V : Type 0} (keys : Spelling K) (values : Spelling V) where
+  entry_of : (p : Key × Key) (entries : List (K × V)) → AllByRecursion (λ e. keys.is_value e.0 × values.is_value e.1) entries → In p (map (pair_bytes keys values) entries)
+      → (e : K × V) × (keys.is_value e.0 × values.is_value e.1) × (p ≡ pair_bytes keys values e)
+  entry_of p [] each i = absurd i
+  entry_of p (e ∷ entries) each (inl here) = (e, each.0, here)
+  entry_of p (e ∷ entries) each (inr more) = entry_of p entries each.1 more
+
+  not_typed : (pairs : Map) → OneIsForeign keys values pairs → (entries : List (K × V)) → IsTyped keys values pairs entries → ⊥
+  not_typed pairs one entries typed =
+      let e = entry_of one.pair entries typed.are_values (subst (In one.pair) typed.is one.there) in
+      one.none e.0 e.1.0 e.1.1 e.2
 
 module _ {P M : Type 0} (store : P → Store) (meant : M → Merge) (d : DbValue P M) (tree : Tree) {K V : Type 0} (keys : Spelling K) (values : Spelling V) (order : KeepsOrder keys) where
   -- the tree's pairs are its map
@@ -140,8 +159,15 @@ module _ {P M : Type 0} (store : P → Store) (meant : M → Merge) (d : DbValue
           ∙ true_of _ (is_sorted-where_key key_cmp (λ k. is_from (bound_bytes keys lo) k && is_up_to (bound_bytes keys hi) k) b.all.named.map (sorted db b.all.named b.all.there));
     }
 
-    pub walks_foreign : ((entries : List (K × V)) → IsTyped keys values pairs entries → ⊥) → IsForeign keys values (maps_of (db_state store meant d)) tree.name
-    walks_foreign none = record { is = λ entries typed. none (within entries) (typed_within entries typed) }
+    pub walks_foreign : OneIsForeign keys values pairs → IsForeign keys values (maps_of (db_state store meant d)) tree.name
+    walks_foreign one = record { is = λ entries typed. not_typed keys values pairs one (within entries) (typed_within entries typed) }
+
+    -- the same of the bytes alone
+    pub has_pairs : (found : List (K × V)) → IsTyped keys values pairs found → HasPairs store meant keys values d tree lo hi found
+    has_pairs found is = record { tested = b.all.tested; named = b.all.named; there = b.all.there; is = subst (λ m. IsTyped keys values m found) pairs_walked is }
+
+    pub has_foreign : OneIsForeign keys values pairs → HasForeign store meant keys values d tree lo hi
+    has_foreign one = record { tested = b.all.tested; named = b.all.named; there = b.all.there; is = subst (OneIsForeign keys values) pairs_walked one }
 
 -- ---- pairs that are read one after the other
 
@@ -166,19 +192,9 @@ module _ {K V : Type 0} (keys : Spelling K) (values : Spelling V) where
       let more : take (at + 1) pairs ≡ take at pairs ++ p ∷ [] = rw add-one (take-suc pairs at p lt ∙ ap (λ q. take at pairs ++ q ∷ []) (sym is)) in
       subst (λ es. IsTyped keys values (take (at + 1) pairs) es) (sym pushed) (subst (λ m. IsTyped keys values m (old ++ (key, value) ∷ [])) (sym more) (typed_more (take at pairs) old p key value typed i j))
 
-  -- the entry whose pair stands at a place
-  entry_at : (pairs : Map) (entries : List (K × V)) (at : ℕ) (d : Key × Key) → at < length pairs → pairs ≡ map (pair_bytes keys values) entries → AllByRecursion (λ e. keys.is_value e.0 × values.is_value e.1) entries
-      → (e : K × V) × (keys.is_value e.0 × values.is_value e.1) × (get_or pairs at d ≡ pair_bytes keys values e)
-  entry_at [] entries at d lt e each = absurd (omega arith)
-  entry_at (p ∷ pairs) [] at d lt e each = absurd cc
-  entry_at (p ∷ pairs) (x ∷ entries) zero d lt e each = (x, each.0, cc)
-  entry_at (p ∷ pairs) (x ∷ entries) (suc at) d lt e each = let rest : pairs ≡ map (pair_bytes keys values) entries = cc in entry_at pairs entries at d (omega arith) rest each.1
-
   -- a pair whose key or value is that of no entry
-  pub foreign_key : (pairs : Map) (at : ℕ) (p : Key × Key) (k : Key) → at < length pairs → p ≡ get_or pairs at p → k ≡ p.0 → ((x : K) → keys.is_value x → k ≢ keys.bytes x) → (entries : List (K × V)) → IsTyped keys values pairs entries → ⊥
-  foreign_key pairs at p k lt is same none entries typed =
-      let e = entry_at pairs entries at p lt typed.is typed.are_values in none e.0.0 e.1.0 (same ∙ ap (λ (q : Key × Key). q.0) (is ∙ e.2))
+  pub foreign_key : (pairs : Map) (at : ℕ) (p : Key × Key) (k : Key) → at < length pairs → p ≡ get_or pairs at p → k ≡ p.0 → ((x : K) → keys.is_value x → k ≢ keys.bytes x) → OneIsForeign keys values pairs
+  foreign_key pairs at p k lt is same none = record { pair = p; there = stands_in pairs at p p lt is; none = λ e i j spelled. none e.0 i (same ∙ ap (λ (q : Key × Key). q.0) spelled) }
 
-  pub foreign_value : (pairs : Map) (at : ℕ) (p : Key × Key) (v : Key) → at < length pairs → p ≡ get_or pairs at p → v ≡ p.1 → ((x : V) → values.is_value x → v ≢ values.bytes x) → (entries : List (K × V)) → IsTyped keys values pairs entries → ⊥
-  foreign_value pairs at p v lt is same none entries typed =
-      let e = entry_at pairs entries at p lt typed.is typed.are_values in none e.0.1 e.1.1 (same ∙ ap (λ (q : Key × Key). q.1) (is ∙ e.2))
+  pub foreign_value : (pairs : Map) (at : ℕ) (p : Key × Key) (v : Key) → at < length pairs → p ≡ get_or pairs at p → v ≡ p.1 → ((x : V) → values.is_value x → v ≢ values.bytes x) → OneIsForeign keys values pairs
+  foreign_value pairs at p v lt is same none = record { pair = p; there = stands_in pairs at p p lt is; none = λ e i j spelled. none e.1 j (same ∙ ap (λ (q : Key × Key). q.1) spelled) }

@@ -13,12 +13,13 @@ use Rattle.ordered_keys.specs.declared.part.Part.{Part}
 use Rattle.sled_nodes.specs.Order.{Key, key_cmp}
 use Rattle.sled_nodes.specs.declared.error.Error.{Error}
 use Rattle.sled_nodes.specs.declared.error.Error.TheVariants.{NoMemory}
+use Rattle.sled_store.specs.In.{In}
 use Rattle.sled_store.specs.Store.{Store}
 use Rattle.sled_model.specs.Maps.{Map, Maps, Merge}
 use Rattle.sled_model.specs.declared.call.Call.TheVariants.{Insert}
 use Rattle.sled_model.specs.declared.reply.Reply.TheVariants.{Value}
 use Rattle.sled_model.specs.declared.tree.Tree.{Tree}
-use Rattle.tree_reads.specs.Ranges.{Coming}
+use Rattle.tree_reads.specs.Ranges.{Coming, pairs_within}
 use Rattle.tree_reads.specs.Walk.{once}
 use Rattle.sled.specs.Values.{DbValue}
 use Rattle.sled.specs.Reads.{ReadsMap, RefusesReading, GivesUpGet}
@@ -62,6 +63,12 @@ bound_at (Included b) = Included b.now
 bound_at (Excluded b) = Excluded b.now
 bound_at Unbounded = Unbounded
 
+-- the bytes of a bound
+abbrev pub bound_bytes : {A : Type 0} → Spelling A → Bound A → Bound Key
+bound_bytes s (Included b) = Included (s.bytes b)
+bound_bytes s (Excluded b) = Excluded (s.bytes b)
+bound_bytes s Unbounded = Unbounded
+
 module _ {K V : Type 0} (keys : Spelling K) (values : Spelling V) where
   abbrev pub pair_bytes : K × V → Key × Key
   pair_bytes e = (keys.bytes e.0, values.bytes e.1)
@@ -70,6 +77,12 @@ module _ {K V : Type 0} (keys : Spelling K) (values : Spelling V) where
   pub record IsTyped (pairs : Map) (entries : List (K × V)) : Type 0 where
     pub is : pairs ≡ map pair_bytes entries
     pub are_values : AllByRecursion (λ e. keys.is_value e.0 × values.is_value e.1) entries
+
+  -- one of the pairs of bytes is that of no entry
+  pub record OneIsForeign (pairs : Map) : Type 0 where
+    pub pair : Key × Key
+    pub there : In pair pairs
+    pub none : (e : K × V) → keys.is_value e.0 → values.is_value e.1 → pair ≢ pair_bytes e
 
   -- the tree's entries have this value at the key, in its place in the order, and all other trees are as before
   pub record Puts (old new : Maps) (tree : Key) (key : K) (value : V) : Type 0 where
@@ -113,6 +126,14 @@ module _ {P M : Type 0} (store : P → Store) (meant : M → Merge) where
     pub bytes : Key
     pub there : ReadsMap store meant d tree (λ map. Some bytes ≡ find key_cmp (keys.bytes key) map)
     pub none : (x : V) → values.is_value x → bytes ≢ values.bytes x
+
+  -- the pairs within both bounds are those of these entries, whatever else is in the tree
+  abbrev pub HasPairs : {K V : Type 0} → Spelling K → Spelling V → DbValue P M → Tree → Bound K → Bound K → List (K × V) → Type 0
+  HasPairs keys values d tree lo hi found = ReadsMap store meant d tree (λ map. IsTyped keys values (pairs_within (bound_bytes keys lo) (bound_bytes keys hi) map) found)
+
+  -- a pair within both bounds is that of no entry
+  abbrev pub HasForeign : {K V : Type 0} → Spelling K → Spelling V → DbValue P M → Tree → Bound K → Bound K → Type 0
+  HasForeign keys values d tree lo hi = ReadsMap store meant d tree (λ map. OneIsForeign keys values (pairs_within (bound_bytes keys lo) (bound_bytes keys hi) map))
 
   -- refused for want of memory to spell the key or the value, and then nothing was done, or as an insert of their bytes is
   pub record RefusesPut {K V : Type 0} (keys : Spelling K) (values : Spelling V) (old : DbValue P M) (tree : Tree) (key : K) (value : V) (e : Error) (new : DbValue P M) : Type 0 where

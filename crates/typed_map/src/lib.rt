@@ -9,7 +9,8 @@
 //! let found: TypedResult<Option<IVec>> = look_up(&db, &tree, &7u64);
 //! ```
 //!
-//! The contracts speak of entries, and not of bytes (`Puts`, `LooksUp`, `Walks`).
+//! The contracts speak of the entries of a tree that has nothing else (`Puts`, `LooksUp`, `Walks`), and of bytes, whatever it has (`IsPut`,
+//! `HasBytes`, `HasPairs`).
 #![tactic(auto)]
 
 mod pairs;

@@ -1,12 +1,12 @@
 //! A map from keys of a type to values of a type, in a tree of a database. Both types are the user's own; each says how its values
 //! are spelled as byte strings.
-ghost use Rattle.std.specs.Prelude.{◌≡◌, ◌≢◌, List, OnOk, OnErr, IfOk, IfErr};
+ghost use Rattle.std.specs.Prelude.{◌≡◌, ◌≢◌, OnOk, OnErr, IfOk, IfErr};
 ghost use Rattle.sled_model.specs.State.{maps_of};
 ghost use Rattle.sled_nodes.specs.declared.error.Error.TheVariants.{NoMemory};
 ghost use Rattle.sled.specs.Values.{db_state};
 ghost use Rattle.typed_map.specs.declared.typed.TypedError.TheVariants.{Foreign};
-ghost use Rattle.typed_map.specs.theory.Typed.{bounds_value, bound_bytes};
-ghost use Rattle.typed_map.specs.Typed.{bound_at, IsTyped, Puts, LooksUp, Walks, IsForeign, IsPut, HasBytes, SpellsNone, refused_as, RefusesPut, RefusesLookUp, RefusesListing};
+ghost use Rattle.typed_map.specs.theory.Typed.{bounds_value};
+ghost use Rattle.typed_map.specs.Typed.{bound_at, bound_bytes, IsTyped, OneIsForeign, Puts, LooksUp, Walks, IsForeign, IsPut, HasBytes, SpellsNone, HasPairs, HasForeign, refused_as, RefusesPut, RefusesLookUp, RefusesListing};
 
 use crate::pairs::all_of;
 use crate::spelled::Spelled;
@@ -122,7 +122,7 @@ pub fn look_up<P: Pages, M: MergeOperator, K: Spelled, V: Spelled>(
 // The entries that these pairs spell.
 fn typed<K: Spelled, V: Spelled>(alloc: Global, pairs: &[(IVec, IVec)]) -> TypedResult<Vec<(K, V)>>
     ensures ok { IfOk result (λ found. IsTyped K.spelling V.spelling pairs.now found.items) }
-    ensures foreign { IfErr result (λ e. e ≡ Foreign → (entries : List (K × V)) → IsTyped K.spelling V.spelling pairs.now entries → ⊥) }
+    ensures foreign { IfErr result (λ e. e ≡ Foreign → OneIsForeign K.spelling V.spelling pairs.now) }
     ensures err { IfErr result (refused_as (λ e. e ≡ NoMemory)) }
 {
     let mut found = Vec::new(alloc);
@@ -180,7 +180,7 @@ fn spelled_bounds<K: Spelled>(
 }
 
 /// The entries within two bounds, in the order of their keys. Refused as `Db::range` and what it gives are, for want of memory, or as
-/// `Foreign` if something in the tree spells no entry.
+/// `Foreign` if a pair within the bounds spells no entry; what is outside them is not looked at.
 pub fn walk<P: Pages, M: MergeOperator, K: Spelled, V: Spelled>(
     db: &Db<P, M>,
     tree: &Tree,
@@ -188,7 +188,9 @@ pub fn walk<P: Pages, M: MergeOperator, K: Spelled, V: Spelled>(
     hi: Bound<&K>,
 ) -> TypedResult<Vec<(K, V)>>
     ensures ok { IfOk result (λ found. Walks K.spelling V.spelling (maps_of (db_state P.store M.meant db.now)) tree.now.name (bound_at lo.entry) (bound_at hi.entry) found.items) }
+    ensures bytes { IfOk result (λ found. HasPairs P.store M.meant K.spelling V.spelling db.now tree.now (bound_at lo.entry) (bound_at hi.entry) found.items) }
     ensures foreign { IfErr result (λ e. e ≡ Foreign → IsForeign K.spelling V.spelling (maps_of (db_state P.store M.meant db.now)) tree.now.name) }
+    ensures none { IfErr result (λ e. e ≡ Foreign → HasForeign P.store M.meant K.spelling V.spelling db.now tree.now (bound_at lo.entry) (bound_at hi.entry)) }
     ensures err { IfErr result (refused_as (RefusesListing P.store M.meant db.now tree.now)) }
 {
     db.audit();
