@@ -386,9 +386,10 @@ impl<D: Disk> FilePages<D> {
         self.longest = len;
     }
 
-    /// Whether a disk refused a call that adds to the files. From then on each flush, mark, raise and `compact` is refused, with the fault
-    /// `DISK_FAILED`. Drop the store then, and open its folder again. The disks of `into_disks` can be opened again only if they can still be
-    /// read: a file of the operating system cannot, once it was changed.
+    /// Whether a disk refused a call that adds to the files. From then on each flush and mark is refused with the fault `DISK_FAILED`, or
+    /// with `NoMemory` once no more faults can be counted. So is `compact`, but while a group is open it does nothing. A raise is refused
+    /// too, with that or for want of memory or of a number. Drop the store then, and open its folder again. The disks of `into_disks` can be
+    /// opened again only if they can still be read: a file of the operating system cannot, once it was changed.
     ///
     /// ```
     /// let is_over = store.failed(); // Drop it, and open the folder again.
@@ -753,7 +754,7 @@ impl<D: Disk + Send> Pages for FilePages<D> {
     /// snapshot, the other file is begun anew with a snapshot, and counts from then on. If there is no memory for it, the log grows.
     ///
     /// Refused for want of memory, or as the log would be too long, the files are as they were, and the store goes on. Refused by a disk, the
-    /// store is stopped, as `FilePages::failed` says: open the folder again. Each flush from then on is refused with `DISK_FAILED`.
+    /// store is stopped, as `FilePages::failed` says: open the folder again.
     fn flush(&mut self) -> Result<usize>
         requires { (now (stored_as self.old)).in_group ≡ false }
         ensures ok { OnOk result (stored_as self.new ≡ after_flush (stored_as self.old)) }
