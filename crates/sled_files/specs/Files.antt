@@ -1,5 +1,5 @@
 -- The two files of a store as code holds them, between two calls and within one.
-use Rattle.std.specs.Prelude.{◌≡◌, ◌⊎◌, ◌+◌, ◌<◌, ◌≤◌, ◌==◌, ℕ, Bool, true, false, List, length, if◌then◌else◌}
+use Rattle.std.specs.Prelude.{◌≡◌, ◌⊎◌, ◌+◌, ◌<◌, ◌≤◌, ◌==◌, max, ℕ, Bool, true, false, List, length, if◌then◌else◌}
 use Rattle.sled_disk.specs.Disk.{Only}
 use Rattle.sled_disk.specs.declared.disk.DiskError.{DiskError}
 use Rattle.sled_disk.specs.declared.disk.DiskError.TheVariants.{NoMemory, Full, Failed}
@@ -80,6 +80,10 @@ pub record IsKept {D : Type 0} (seen : D → List ℕ) (may_leave : D → List �
   pub first_only : f.failed ≡ false → Only (seen f.first) (may_leave f.first)
   pub second_only : f.failed ≡ false → Only (seen f.second) (may_leave f.second)
   pub place : f.failed ≡ false → f.gate < length (seen (one_of f))
+
+-- a file ends with the closed gate at this place, or it is as long as it was before, if that is longer
+abbrev pub GrowsTo : ℕ → List ℕ → List ℕ → Type 0
+GrowsTo gate old new = length new ≡ max (length old) (gate + 1)
 
 -- a file was begun anew, with a snapshot alone, and counts from then on; the one that counted is the other
 pub record IsRenewed {D : Type 0} (old new : Files D) : Type 0 where

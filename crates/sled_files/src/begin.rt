@@ -4,6 +4,7 @@ ghost use Rattle.sled_disk.specs.Disk.{Only, LeavesOnly, HasCause};
 ghost use Rattle.sled_disk.specs.declared.disk.DiskError.TheVariants.{NoMemory};
 ghost use Rattle.sled_bytes.specs.declared.change.Change.{Change};
 ghost use Rattle.sled_files.specs.Change.{nothing_yet, changed_all, AreOfStore};
+ghost use Rattle.sled_files.specs.Files.{GrowsTo};
 ghost use Rattle.sled_files.specs.Header.{header};
 ghost use Rattle.sled_files.specs.Standing.{StandsWith, IsBegun};
 ghost use Rattle.sled_files.specs.Pending.{Spells};
@@ -47,7 +48,7 @@ pub(crate) fn first_block(alloc: Global, generation: u64, payload: &[u8]) -> Res
 pub(crate) fn begin_with<D: Disk>(disk: &mut D, block: &[u8]) -> Result<()>
     requires on_disk { Only (D.seen disk.old) (D.may_leave disk.old) }
     ensures stands { OnOk result ((payload : List ℕ) (generation : ℕ) (changes : List Change) → IsFirstBlock block.now payload generation changes → StandsWith (D.seen disk.new) (length block.now) (length payload) generation (changed_all changes nothing_yet)) }
-    ensures place { OnOk result (length block.now < length (D.seen disk.new)) }
+    ensures grown { OnOk result (GrowsTo (length block.now) (D.seen disk.old) (D.seen disk.new)) }
     ensures durable { OnOk result (Only (D.seen disk.new) (D.may_leave disk.new)) }
     ensures any_moment { (payload : List ℕ) (generation : ℕ) (changes : List Change) → IsFirstBlock block.now payload generation changes → LeavesOnly D.moment D.left_since disk.old disk.new (IsBegun (D.seen disk.old) generation (changed_all changes nothing_yet)) }
     ensures cause { HasCause (D.faults disk.old) (D.faults disk.new) result }
@@ -89,8 +90,8 @@ pub fn begin_file<D: Disk>(
 ) -> Result<usize>
     requires on_disk { Only (D.seen disk.old) (D.may_leave disk.old) }
     ensures stands { IfOk result (λ gate. (changes : List Change) → Spells payload.now changes → AreOfStore changes (changed_all changes nothing_yet) → StandsWith (D.seen disk.new) gate (length payload.now) generation (changed_all changes nothing_yet)) }
-    // There is a byte at the gate, whatever the payload is.
-    ensures place { IfOk result (λ gate. gate < length (D.seen disk.new)) }
+    // There is a byte at the gate, whatever the payload is, and none was added behind it.
+    ensures grown { IfOk result (λ gate. GrowsTo gate (D.seen disk.old) (D.seen disk.new)) }
     ensures durable { OnOk result (Only (D.seen disk.new) (D.may_leave disk.new)) }
     ensures any_moment { (changes : List Change) → Spells payload.now changes → AreOfStore changes (changed_all changes nothing_yet) → LeavesOnly D.moment D.left_since disk.old disk.new (IsBegun (D.seen disk.old) generation (changed_all changes nothing_yet)) }
     ensures cause { HasCause (D.faults disk.old) (D.faults disk.new) result }

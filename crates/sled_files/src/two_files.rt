@@ -8,7 +8,7 @@ ghost use Rattle.sled_log.specs.Log.{IsLog};
 ghost use Rattle.sled_log.specs.Append.{IsBlockFor, IsBeforeOrAfter};
 ghost use Rattle.sled_files.specs.Standing.{StandsWith, IsBegun};
 ghost use Rattle.sled_files.specs.Pending.{Spells};
-ghost use Rattle.sled_files.specs.Files.{picked, KeepsTime, is_stop};
+ghost use Rattle.sled_files.specs.Files.{picked, KeepsTime, is_stop, GrowsTo};
 ghost use Rattle.sled_files.specs.theory.Begun.{IsFirstBlock, IsEmptied};
 
 use crate::begin::{begin_with, empty, first_block};
@@ -54,7 +54,7 @@ fn append_to_one<D: Disk>(
     requires on_disk { Only (D.seen (picked is_second first.old second.old)) (D.may_leave (picked is_second first.old second.old)) }
     ensures other { picked is_second second.new first.new ≡ picked is_second second.old first.old }
     ensures durable { OnOk result (Only (D.seen (picked is_second first.new second.new)) (D.may_leave (picked is_second first.new second.new))) }
-    ensures place { OnOk result (gate + length block.now < length (D.seen (picked is_second first.new second.new))) }
+    ensures grown { OnOk result (GrowsTo (gate + length block.now) (D.seen (picked is_second first.old second.old)) (D.seen (picked is_second first.new second.new))) }
     ensures next { OnOk result ((b : IsBlockFor (D.seen (picked is_second first.old second.old)) gate block.now) → IsLog b.digest (D.seen (picked is_second first.new second.new)) (b.payloads ++ b.payload ∷ []) (gate + length block.now)) }
     ensures any_moment { (b : IsBlockFor (D.seen (picked is_second first.old second.old)) gate block.now) → LeavesOnly D.moment D.left_since (picked is_second first.old second.old) (picked is_second first.new second.new) (IsBeforeOrAfter b) }
     ensures cause { HasCause (D.faults first.old + D.faults second.old) (D.faults first.new + D.faults second.new) result }
@@ -98,7 +98,7 @@ fn append_alone<D: Disk>(
     ensures other_durable { OnOk result (Only (D.seen (picked is_second second.new first.new)) (D.may_leave (picked is_second second.new first.new))) }
     ensures other_any_moment { LeavesOnly D.moment D.left_since (picked is_second second.old first.old) (picked is_second second.new first.new) (IsEmptied (D.seen (picked is_second second.old first.old))) }
     ensures durable { OnOk result (Only (D.seen (picked is_second first.new second.new)) (D.may_leave (picked is_second first.new second.new))) }
-    ensures place { OnOk result (gate + length block.now < length (D.seen (picked is_second first.new second.new))) }
+    ensures grown { OnOk result (GrowsTo (gate + length block.now) (D.seen (picked is_second first.old second.old)) (D.seen (picked is_second first.new second.new))) }
     ensures next { OnOk result ((b : IsBlockFor (D.seen (picked is_second first.old second.old)) gate block.now) → IsLog b.digest (D.seen (picked is_second first.new second.new)) (b.payloads ++ b.payload ∷ []) (gate + length block.now)) }
     ensures any_moment { (b : IsBlockFor (D.seen (picked is_second first.old second.old)) gate block.now) → LeavesOnly D.moment D.left_since (picked is_second first.old second.old) (picked is_second first.new second.new) (IsBeforeOrAfter b) }
     ensures cause { HasCause (D.faults first.old + D.faults second.old) (D.faults first.new + D.faults second.new) result }
@@ -113,7 +113,7 @@ fn begin_other<D: Disk>(first: &mut D, second: &mut D, is_second: bool, block: &
     requires on_disk { Only (D.seen (picked is_second second.old first.old)) (D.may_leave (picked is_second second.old first.old)) }
     ensures one { picked is_second first.new second.new ≡ picked is_second first.old second.old }
     ensures stands { OnOk result ((payload : List ℕ) (generation : ℕ) (changes : List Change) → IsFirstBlock block.now payload generation changes → StandsWith (D.seen (picked is_second second.new first.new)) (length block.now) (length payload) generation (changed_all changes nothing_yet)) }
-    ensures place { OnOk result (length block.now < length (D.seen (picked is_second second.new first.new))) }
+    ensures grown { OnOk result (GrowsTo (length block.now) (D.seen (picked is_second second.old first.old)) (D.seen (picked is_second second.new first.new))) }
     ensures durable { OnOk result (Only (D.seen (picked is_second second.new first.new)) (D.may_leave (picked is_second second.new first.new))) }
     ensures any_moment { (payload : List ℕ) (generation : ℕ) (changes : List Change) → IsFirstBlock block.now payload generation changes → LeavesOnly D.moment D.left_since (picked is_second second.old first.old) (picked is_second second.new first.new) (IsBegun (D.seen (picked is_second second.old first.old)) generation (changed_all changes nothing_yet)) }
     ensures cause { HasCause (D.faults (picked is_second second.old first.old)) (D.faults (picked is_second second.new first.new)) result }
@@ -292,6 +292,8 @@ impl<D: Disk> TwoFiles<D> {
         // The log is longer by the block: a gate, two numbers of 8 bytes, and the changes. It is in the same file, and has the same snapshot and
         // generation.
         ensures bytes { OnOk result (self.new.gate ≡ self.old.gate + 17 + length payload.now) }
+        // Its file has no byte more behind that.
+        ensures grown { OnOk result (GrowsTo self.new.gate (D.seen (one_of self.old)) (D.seen (one_of self.new))) }
         ensures same { self.new.is_second ≡ self.old.is_second }
         ensures snapshot { self.new.snapshot ≡ self.old.snapshot }
         ensures generation { self.new.generation ≡ self.old.generation }
@@ -339,6 +341,7 @@ impl<D: Disk> TwoFiles<D> {
         ensures snapshot { OnOk result (self.new.snapshot ≡ length payload.now) }
         // Before the changes are a gate, two numbers of 8 bytes, and the header.
         ensures bytes { OnOk result (self.new.gate ≡ length payload.now + 37) }
+        ensures grown { OnOk result (GrowsTo self.new.gate (D.seen (other_of self.old)) (D.seen (one_of self.new))) }
         ensures generation { OnOk result (self.new.generation ≡ self.old.generation + 1) }
         ensures up { OnOk result ((self.old.failed ≡ false) × (self.new.failed ≡ false)) }
         ensures calm { OnOk result (faults_in D.faults self.new ≡ faults_in D.faults self.old) }

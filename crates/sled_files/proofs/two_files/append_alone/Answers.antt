@@ -1,8 +1,8 @@
-use Rattle.std.proofs.Common.{◌+◌, ◌<◌, ◌++◌, ◌∷◌, [], length, sym, subst}
+use Rattle.std.proofs.Common.{◌+◌, ◌++◌, ◌∷◌, [], length, sym, subst}
 use Rattle.sled_disk.specs.Disk.{Only, LeavesOnly}
 use Rattle.sled_log.specs.Log.{IsLog}
 use Rattle.sled_log.specs.Append.{IsBeforeOrAfter}
-use Rattle.sled_files.specs.Files.{picked, KeepsTime}
+use Rattle.sled_files.specs.Files.{picked, KeepsTime, GrowsTo}
 use Rattle.sled_files.specs.theory.Begun.{IsEmptied}
 use Rattle.sled_log.proofs.Appending.{on_ok}
 use Rattle.sled_files.proofs.Pairs.{picked_has}
@@ -31,8 +31,11 @@ returns-clause-any_moment g c b =
 pub returns-clause-durable : goal.returns-clause-durable
 returns-clause-durable g c = on_ok c.empty_other.result (λ short. subst (λ (x : g.row.D.Denot). Only (g.D.Disk.seen x) (g.D.Disk.may_leave x)) (sym c.empty_other.ensures.one) c.in_ok-append_to_one.ensures.durable) c.empty_other.ensures.short
 
-pub returns-clause-place : goal.returns-clause-place
-returns-clause-place g c = on_ok c.empty_other.result (λ short. subst (λ (x : g.row.D.Denot). c.args.gate + length c.args.block.now < length (g.D.Disk.seen x)) (sym c.empty_other.ensures.one) c.in_ok-append_to_one.ensures.place) c.empty_other.ensures.short
+pub returns-clause-grown : goal.returns-clause-grown
+returns-clause-grown g c =
+    on_ok c.empty_other.result
+    (λ short. subst (λ (x : g.row.D.Denot). GrowsTo (c.args.gate + length c.args.block.now) (g.D.Disk.seen (picked c.args.is_second c.args.first.now c.args.second.now)) (g.D.Disk.seen x)) (sym c.empty_other.ensures.one) c.in_ok-append_to_one.ensures.grown)
+    c.empty_other.ensures.short
 
 pub returns-clause-next : goal.returns-clause-next
 returns-clause-next g c =
