@@ -8,16 +8,13 @@ use Rattle.sled_files.specs.Change.{nothing_yet}
 use Rattle.sled_files.specs.Opening.{IsTold, is_refusal}
 use Rattle.sled_files.specs.Standing.{IsBlank, AreBlank, IsBegun}
 use Rattle.sled_files.specs.declared.found.OpenError.{OpenError}
-use Rattle.sled_once.specs.Stages.{IsReadAs, LeavesReadAs}
+use Rattle.sled_once.specs.Stages.{IsReadAs, IsReadAsOne, LeavesReadAs}
+use Rattle.sled_once.proofs.Reading.{torn_of, told_of_none}
 use Rattle.files_once.specs.Mended.{IsMended, BeginsAsStore, LeftMeanwhile, LeftOrBegun}
 use Rattle.files_once.proofs.Alike.{of_equal, whole_is, blank_is}
 
--- one of these files, which this one is read as
-abbrev pub IsReadAsOne : (List ℕ → Type 0) → List ℕ → Type 0
-IsReadAsOne files c = (file : List ℕ) × files file × IsReadAs file c
-
 pub no_more : (files may_leave : List ℕ → Type 0) → NoMore files may_leave → LeavesReadAs files may_leave
-no_more files may_leave more = record { gate = 0; bytes = []; each = λ c left told. (c, more c left, inl refl) }
+no_more files may_leave more = record { gate = 0; bytes = []; each = λ c left told. (c, more c left, inl refl); untold = λ c left untold. absurd (untold (told_of_none 0 c)) }
 
 -- reading goes on from file to file
 through : (one two three : List ℕ) → IsReadAs one two → IsReadAs two three → IsReadAs one three
@@ -25,15 +22,17 @@ through one two three (inl same) second = subst (λ (l : List ℕ). IsReadAs l t
 through one two three (inr first) (inl same) = subst (λ (l : List ℕ). IsReadAs one l) (sym same) (inr first)
 through one two three (inr first) (inr second) = inr (second.0 ∙ first.0, first.1)
 
-pub read_on : (files others may_leave : List ℕ → Type 0) → LeavesReadAs files may_leave → ((c : List ℕ) → files c → IsReadAsOne others c) → LeavesReadAs others may_leave
-read_on files others may_leave r to = record {
-  gate = r.gate;
-  bytes = r.bytes;
-  each = λ c left told.
-      let one : IsReadAsOne files c = r.each c left told in
-      let two : IsReadAsOne others one.0 = to one.0 one.1 in
-      (two.0, two.1, through two.0 one.0 c two.2 one.2);
-}
+module _ (files others : List ℕ → Type 0) (to : (c : List ℕ) → files c → IsReadAsOne others c) where
+  read_then : (c : List ℕ) → IsReadAsOne files c → IsReadAsOne others c
+  read_then c one = let two : IsReadAsOne others one.0 = to one.0 one.1 in (two.0, two.1, through two.0 one.0 c two.2 one.2)
+
+  pub read_on : (may_leave : List ℕ → Type 0) → LeavesReadAs files may_leave → LeavesReadAs others may_leave
+  read_on may_leave r = record {
+    gate = r.gate;
+    bytes = r.bytes;
+    each = λ c left told. read_then c (r.each c left told);
+    untold = λ c left untold. torn_of (IsReadAsOne files) (IsReadAsOne others) read_then r.gate r.bytes c (r.untold c left untold);
+  }
 
 -- all of a disk is on it, and may be left of it
 pub only_seen : (file : List ℕ) (before may_leave : List ℕ → Type 0) → Only file may_leave → before file → (c : List ℕ) → may_leave c → IsReadAsOne before c

@@ -1,15 +1,16 @@
 -- What the disk behind has after one call more.
-use Rattle.std.proofs.Common.{◌≡◌, ◌∙◌, inl, inr, ⊎_elim, ℕ, ◌≤◌, Bool, true, false, List, ◌∷◌, length, take, refl, sym, ap, subst, arith}
+use Rattle.std.proofs.Common.{◌≡◌, ◌∙◌, inl, inr, ⊎_elim, ℕ, ◌≤◌, Bool, true, false, List, ◌∷◌, length, take, Vec, refl, sym, ap, subst, arith}
+use Rattle.std.specs.declared.alloc.Global.{Global}
 use Rattle.std.proofs.lemmas.List.{take_all}
 use Rattle.sled_disk.specs.Disk.{written, Torn, Shortened, Follows, NoMore, Only}
 use Rattle.sled_disk.proofs.Calls.{torn_written, torn_lost, shortened_cut}
 use Rattle.sled_host.specs.Event.{Event, wrote, cut, synced}
-use Rattle.sled_host.specs.Outcomes.{seen_after_all, LeftAfterAll}
-use Rattle.sled_once.specs.Stages.{EndsAs, IsReadAsLeft, IsOver, Stands}
+use Rattle.sled_host.specs.Outcomes.{seen_after_all, LeftAfterAll, MayLeave}
+use Rattle.sled_once.specs.Stages.{EndsAs, IsReadAsLeft, IsTornOff, IsOver, Stands}
 use Rattle.sled_once.specs.declared.stage.End.{End}
 use Rattle.sled_once.specs.declared.stage.Stage.{Stage}
 use Rattle.sled_once.specs.declared.stage.Stage.TheVariants.{Through, Held, Opened, Torn as TornOff, Stopped}
-use Rattle.sled_once.proofs.Reading.{as_itself}
+use Rattle.sled_once.proofs.Reading.{as_itself, torn_of}
 
 shortened_lost : (n : ℕ) (file : List ℕ) → Shortened n file file
 shortened_lost n file = record { no_shorter = omega arith; front = sym (take_all (length file) file (omega arith)) }
@@ -33,15 +34,31 @@ module _ (calls : List Event) (stays : LeftAfterAll calls (seen_after_all calls)
   stays_synced false = (seen_after_all calls, stays, refl)
 
 -- a call that was not done takes nothing from what may be left
-module _ (calls : List Event) (c : List ℕ) (r : IsReadAsLeft calls c) where
-  pub read_unwritten : (at : ℕ) (bytes : List ℕ) → IsReadAsLeft (wrote at bytes false ∷ calls) c
-  read_unwritten at bytes = record { file = r.file; left = ⊎_elim (λ is. inl is) (λ l. inr (r.file, l, torn_lost at bytes r.file)) r.left; is_read = r.is_read }
+left_unwritten : (calls : List Event) (at : ℕ) (bytes : List ℕ) → NoMore (MayLeave (wrote at bytes false ∷ calls)) (MayLeave calls)
+left_unwritten calls at bytes file left = ⊎_elim (λ is. inl is) (λ l. inr (file, l, torn_lost at bytes file)) left
 
-  pub read_uncut : (n : ℕ) → IsReadAsLeft (cut n false ∷ calls) c
-  read_uncut n = record { file = r.file; left = ⊎_elim (λ is. inl is) (λ l. inr (r.file, l, shortened_lost n r.file)) r.left; is_read = r.is_read }
+left_uncut : (calls : List Event) (n : ℕ) → NoMore (MayLeave (cut n false ∷ calls)) (MayLeave calls)
+left_uncut calls n file left = ⊎_elim (λ is. inl is) (λ l. inr (file, l, shortened_lost n file)) left
 
-  pub read_unsynced : IsReadAsLeft (synced false ∷ calls) c
-  read_unsynced = record { file = r.file; left = ⊎_elim (λ is. inl is) (λ l. inr (r.file, l, refl)) r.left; is_read = r.is_read }
+left_unsynced : (calls : List Event) → NoMore (MayLeave (synced false ∷ calls)) (MayLeave calls)
+left_unsynced calls file left = ⊎_elim (λ is. inl is) (λ l. inr (file, l, refl)) left
+
+read_then : (calls later : List Event) → NoMore (MayLeave later) (MayLeave calls) → (c : List ℕ) → IsReadAsLeft calls c → IsReadAsLeft later c
+read_then calls later more c r = record { file = r.file; left = more r.file r.left; is_read = r.is_read }
+
+-- calls are refused where no block is under way or may be
+pub is_over : (stage : Stage) → ((end : End) (is_synced : Bool) → stage ≡ Through end is_synced → ⊥) → ((gate : ℕ) (block : Vec ℕ Global) → stage ≡ Held gate block → ⊥) → ((gate : ℕ) (block : Vec ℕ Global) → stage ≡ Opened gate block → ⊥) → IsOver stage
+is_over (Through end is_synced) no_end no_hold no_gate = no_end end is_synced refl
+is_over (Held gate block) no_end no_hold no_gate = no_hold gate block refl
+is_over (Opened gate block) no_end no_hold no_gate = no_gate gate block refl
+is_over (TornOff gate block) no_end no_hold no_gate = tt
+is_over Stopped no_end no_hold no_gate = tt
+
+torn_then : {D : Type 0} (may_leave : D → List ℕ → Type 0) (gate : ℕ) (bytes : List ℕ) (disk : D) (calls later : List Event) → NoMore (MayLeave later) (MayLeave calls) → IsTornOff may_leave gate bytes disk calls → IsTornOff may_leave gate bytes disk later
+torn_then may_leave gate bytes disk calls later more t = record {
+  told = λ c left told. read_then calls later more c (t.told c left told);
+  torn = λ c left. torn_of (MayLeave calls) (MayLeave later) more gate bytes c (t.torn c left);
+}
 
 module _ {D : Type 0} (seen : D → List ℕ) (may_leave : D → List ℕ → Type 0) where
   -- a refused call, once calls are refused
@@ -49,22 +66,22 @@ module _ {D : Type 0} (seen : D → List ℕ) (may_leave : D → List ℕ → Ty
   over_unwritten (Through end is_synced) disk calls at bytes over s = absurd over
   over_unwritten (Held gate block) disk calls at bytes over s = absurd over
   over_unwritten (Opened gate block) disk calls at bytes over s = absurd over
-  over_unwritten (TornOff gate block) disk calls at bytes over s = record { stays = stays_lost calls s.stays at bytes; agrees = λ c left told. read_unwritten calls c (s.agrees c left told) at bytes }
-  over_unwritten Stopped disk calls at bytes over s = record { stays = stays_lost calls s.stays at bytes; agrees = λ c left. read_unwritten calls c (s.agrees c left) at bytes }
+  over_unwritten (TornOff gate block) disk calls at bytes over s = record { stays = stays_lost calls s.stays at bytes; agrees = torn_then may_leave gate block.items disk calls (wrote at bytes false ∷ calls) (left_unwritten calls at bytes) s.agrees }
+  over_unwritten Stopped disk calls at bytes over s = record { stays = stays_lost calls s.stays at bytes; agrees = λ c left. read_then calls (wrote at bytes false ∷ calls) (left_unwritten calls at bytes) c (s.agrees c left) }
 
   pub over_uncut : (stage : Stage) (disk : D) (calls : List Event) (n : ℕ) → IsOver stage → Stands seen may_leave stage disk calls → Stands seen may_leave stage disk (cut n false ∷ calls)
   over_uncut (Through end is_synced) disk calls n over s = absurd over
   over_uncut (Held gate block) disk calls n over s = absurd over
   over_uncut (Opened gate block) disk calls n over s = absurd over
-  over_uncut (TornOff gate block) disk calls n over s = record { stays = stays_uncut calls s.stays n; agrees = λ c left told. read_uncut calls c (s.agrees c left told) n }
-  over_uncut Stopped disk calls n over s = record { stays = stays_uncut calls s.stays n; agrees = λ c left. read_uncut calls c (s.agrees c left) n }
+  over_uncut (TornOff gate block) disk calls n over s = record { stays = stays_uncut calls s.stays n; agrees = torn_then may_leave gate block.items disk calls (cut n false ∷ calls) (left_uncut calls n) s.agrees }
+  over_uncut Stopped disk calls n over s = record { stays = stays_uncut calls s.stays n; agrees = λ c left. read_then calls (cut n false ∷ calls) (left_uncut calls n) c (s.agrees c left) }
 
   pub over_unsynced : (stage : Stage) (disk : D) (calls : List Event) → IsOver stage → Stands seen may_leave stage disk calls → Stands seen may_leave stage disk (synced false ∷ calls)
   over_unsynced (Through end is_synced) disk calls over s = absurd over
   over_unsynced (Held gate block) disk calls over s = absurd over
   over_unsynced (Opened gate block) disk calls over s = absurd over
-  over_unsynced (TornOff gate block) disk calls over s = record { stays = stays_synced calls s.stays false; agrees = λ c left told. read_unsynced calls c (s.agrees c left told) }
-  over_unsynced Stopped disk calls over s = record { stays = stays_synced calls s.stays false; agrees = λ c left. read_unsynced calls c (s.agrees c left) }
+  over_unsynced (TornOff gate block) disk calls over s = record { stays = stays_synced calls s.stays false; agrees = torn_then may_leave gate block.items disk calls (synced false ∷ calls) (left_unsynced calls) s.agrees }
+  over_unsynced Stopped disk calls over s = record { stays = stays_synced calls s.stays false; agrees = λ c left. read_then calls (synced false ∷ calls) (left_unsynced calls) c (s.agrees c left) }
 
   module _ (old : D) (end : End) (is_synced : Bool) (calls : List Event) (s : Stands seen may_leave (Through end is_synced) old calls) where
     -- a write that was not made

@@ -12,7 +12,7 @@ use Rattle.sled_once.specs.declared.stage.End.{End}
 use Rattle.sled_once.specs.declared.stage.End.TheVariants.{Staged}
 use Rattle.sled_once.specs.declared.stage.Stage.TheVariants.{Through, Held, Opened, Torn as TornOff}
 use Rattle.sled_once.proofs.Ending.{behind_block, behind_closed}
-use Rattle.sled_once.proofs.Reading.{as_staged, as_torn, read_open}
+use Rattle.sled_once.proofs.Reading.{as_staged, as_torn, torn_staged, read_open, torn_open}
 use Rattle.sled_once.proofs.Going.{stays_wrote, stays_lost}
 
 -- the gate is within a file behind whose gate a block was written
@@ -54,15 +54,21 @@ module _ {D : Type 0} (seen : D → List ℕ) (may_leave : D → List ℕ → Ty
     from_file : (mid : D) → Follows (Torn (gate + 1) block.items) (may_leave old) (may_leave mid) → (c : List ℕ) → may_leave mid c → Torn (gate + 1) block.items file c
     from_file mid follows c l = let from = follows c l in subst (λ (d : List ℕ). Torn (gate + 1) block.items d c) (s.agrees.only from.0 from.1) from.2
 
+    gate_closed : (mid : D) → Follows (Torn (gate + 1) block.items) (may_leave old) (may_leave mid) → (c : List ℕ) → may_leave mid c → IsTornFrom gate block.items file c
+    gate_closed mid follows c l = record { staged = c; block_torn = from_file mid follows c l; gate_torn = torn_lost gate (opened ∷ []) c }
+
     -- it was to be written behind its closed gate
     pub off_staged : (mid : D) → Follows (Torn (gate + 1) block.items) (may_leave old) (may_leave mid) → Stands seen may_leave (TornOff gate block) mid calls
     off_staged mid follows = record {
       stays = s.stays;
-      agrees = λ c l told. as_staged calls gate block.items file s.agrees.ends s.agrees.last s.agrees.behind s.agrees.block c (from_file mid follows c l) (inl (sym s.agrees.shows));
+      agrees = record {
+        told = λ c l told. as_staged calls gate block.items file s.agrees.ends s.agrees.last s.agrees.behind s.agrees.block c (from_file mid follows c l) (inl (sym s.agrees.shows));
+        torn = λ c l. torn_staged calls gate block.items file s.agrees.ends s.agrees.last s.agrees.behind s.agrees.block c (gate_closed mid follows c l) (inl (sym s.agrees.shows));
+      };
     }
 
     pub off_synced : (mid new : D) → Follows (Torn (gate + 1) block.items) (may_leave old) (may_leave mid) → NoMore (may_leave mid) (may_leave new) → Stands seen may_leave (TornOff gate block) new calls
-    off_synced mid new follows more = record { stays = s.stays; agrees = λ c l told. (off_staged mid follows).agrees c (more c l) told }
+    off_synced mid new follows more = record { stays = s.stays; agrees = record { told = λ c l told. (off_staged mid follows).agrees.told c (more c l) told; torn = λ c l. (off_staged mid follows).agrees.torn c (more c l) } }
 
     -- and it was, and synced
     pub handed : (mid new : D) (count : ℕ) → count ≡ length block.items → seen mid ≡ staged → seen new ≡ seen mid → Only (seen mid) (may_leave new) → Stands seen may_leave (Through (Staged gate count) true) new calls
@@ -92,7 +98,10 @@ module _ {D : Type 0} (seen : D → List ℕ) (may_leave : D → List ℕ → Ty
     pub off_block : (mid : D) → Follows (Torn (gate + 1) block.items) (may_leave old) (may_leave mid) → Stands seen may_leave (TornOff gate block) mid refused
     off_block mid follows = record {
       stays = stays_lost calls s.stays gate (opened ∷ []);
-      agrees = λ c l told. as_staged refused gate block.items file s.agrees.ends s.agrees.last s.agrees.behind s.agrees.block c (from_file mid follows c l) (inl (sym s.agrees.shows));
+      agrees = record {
+        told = λ c l told. as_staged refused gate block.items file s.agrees.ends s.agrees.last s.agrees.behind s.agrees.block c (from_file mid follows c l) (inl (sym s.agrees.shows));
+        torn = λ c l. torn_staged refused gate block.items file s.agrees.ends s.agrees.last s.agrees.behind s.agrees.block c (gate_closed mid follows c l) (inl (sym s.agrees.shows));
+      };
     }
 
     torn_off : (mid new : D) → Follows (Torn (gate + 1) block.items) (may_leave old) (may_leave mid) → Follows (Torn gate (opened ∷ [])) (may_leave mid) (may_leave new) → (c : List ℕ) → may_leave new c → IsTornFrom gate block.items file c
@@ -104,11 +113,14 @@ module _ {D : Type 0} (seen : D → List ℕ) (may_leave : D → List ℕ → Ty
     pub off_gate : (mid new : D) → Follows (Torn (gate + 1) block.items) (may_leave old) (may_leave mid) → Follows (Torn gate (opened ∷ [])) (may_leave mid) (may_leave new) → Stands seen may_leave (TornOff gate block) new refused
     off_gate mid new follows gate_follows = record {
       stays = stays_lost calls s.stays gate (opened ∷ []);
-      agrees = λ c l told.
-          as_torn refused gate block.items file s.agrees.ends s.agrees.last s.agrees.behind s.agrees.block c (torn_off mid new follows gate_follows c l)
-          (inl (sym s.agrees.shows))
-          (inr (staged, stays_staged, torn_written gate (opened ∷ []) staged (omega (arith, gate_within gate block.items file s.agrees.ends place s.agrees.block))))
-          told;
+      agrees = record {
+        told = λ c l told.
+            as_torn refused gate block.items file s.agrees.ends s.agrees.last s.agrees.behind s.agrees.block c (torn_off mid new follows gate_follows c l)
+            (inl (sym s.agrees.shows))
+            (inr (staged, stays_staged, torn_written gate (opened ∷ []) staged (omega (arith, gate_within gate block.items file s.agrees.ends place s.agrees.block))))
+            told;
+        torn = λ c l. torn_staged refused gate block.items file s.agrees.ends s.agrees.last s.agrees.behind s.agrees.block c (torn_off mid new follows gate_follows c l) (inl (sym s.agrees.shows));
+      };
     }
 
     -- both were written
@@ -147,4 +159,10 @@ module _ {D : Type 0} (seen : D → List ℕ) (may_leave : D → List ℕ → Ty
 
     -- or that was refused
     pub off_sync : NoMore (may_leave old) (may_leave new) → Stands seen may_leave (TornOff gate block) new calls
-    off_sync more = record { stays = s.stays; agrees = λ c l told. read_open seen may_leave old calls gate block.items s.agrees c (more c l) told }
+    off_sync more = record {
+      stays = s.stays;
+      agrees = record {
+        told = λ c l told. read_open seen may_leave old calls gate block.items s.agrees c (more c l) told;
+        torn = λ c l. torn_open seen may_leave old calls gate block.items s.agrees c (more c l);
+      };
+    }

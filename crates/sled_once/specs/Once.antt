@@ -5,7 +5,7 @@ use Rattle.sled_host.specs.Event.{Event}
 use Rattle.sled_host.specs.Outcomes.{seen_after_all, MayLeave, LeftSince}
 use Rattle.sled_host.specs.Stops.{told_as}
 use Rattle.sled_once.specs.declared.stage.Stage.{Stage}
-use Rattle.sled_once.specs.Stages.{IsTold, IsReadAsLeft, IsOver}
+use Rattle.sled_once.specs.Stages.{IsTold, IsTornIn, IsReadAsLeft, IsOver}
 
 -- The disk behind it, the calls of its user, the newest first, how far the block under way has come, and how many calls it refused itself
 pub record Once (D : Type 0) : Type 0 where
@@ -39,6 +39,7 @@ abbrev pub StaysStopped : {D T : Type 0} → Once D → Once D → Result T Disk
 StaysStopped old new result = IsOver old.stage → (result ≡ Err (told_as old.refused false)) × (new.disk ≡ old.disk) × (new.stage ≡ old.stage)
 
 -- If the digest tells what was left of the block under way, whatever a crash leaves of the disk is read as something that it may leave of
--- this one
-abbrev pub LeavesAsRead : {D : Type 0} → (D → List ℕ → Type 0) → Once D → Type 0
-LeavesAsRead may_leave f = (c : List ℕ) → may_leave f.disk c → IsTold f.stage c → IsReadAsLeft f.calls c
+-- this one. What it does not tell was left of that block
+pub record LeavesAsRead {D : Type 0} (may_leave : D → List ℕ → Type 0) (f : Once D) : Type 0 where
+  pub each : (c : List ℕ) → may_leave f.disk c → IsTold f.stage c → IsReadAsLeft f.calls c
+  pub untold : (c : List ℕ) → may_leave f.disk c → (IsTold f.stage c → ⊥) → IsTornIn f.stage (MayLeave f.calls) c

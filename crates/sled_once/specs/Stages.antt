@@ -52,11 +52,34 @@ pub record IsReadAsLeft (calls : List Event) (c : List ℕ) : Type 0 where
 abbrev pub IsToldAt : ℕ → List ℕ → List ℕ → Type 0
 IsToldAt gate bytes c = (read new : List ℕ) → next_of digest (drop gate c) ≡ Ok (Some read) → bytes ≡ behind_gate digest new → read ≡ new
 
--- What a crash leaves is read as one of these files, if the digest tells what was left of some block
+-- it is read as one of these files
+abbrev pub IsReadAsOne : (List ℕ → Type 0) → List ℕ → Type 0
+IsReadAsOne files c = (file : List ℕ) × files file × IsReadAs file c
+
+-- what a crash leaves while a block and its open gate are written
+pub record IsTornFrom (gate : ℕ) (bytes file c : List ℕ) : Type 0 where
+  pub staged : List ℕ
+  pub block_torn : Torn (gate + 1) bytes file staged
+  pub gate_torn : Torn gate (opened ∷ []) staged c
+
+-- It was left of a block and its open gate, which were being written behind the closed gate at the end of a file. With the block behind it,
+-- and the gate still closed, that file is one of these
+pub record IsTornOf (files : List ℕ → Type 0) (gate : ℕ) (bytes c : List ℕ) : Type 0 where
+  pub file : List ℕ
+  pub ends : EndsIn gate file
+  pub last : gate + 1 ≡ length file
+  pub behind : 0 < gate
+  pub block : IsBlock bytes
+  pub under_way : files (written (gate + 1) bytes file)
+  pub torn : IsTornFrom gate bytes file c
+
+-- What a crash leaves is read as one of these files, if the digest tells what was left of some block. What it does not tell was left of this
+-- block, which was under way
 pub record LeavesReadAs (files may_leave : List ℕ → Type 0) : Type 0 where
   pub gate : ℕ
   pub bytes : List ℕ
-  pub each : (c : List ℕ) → may_leave c → IsToldAt gate bytes c → (file : List ℕ) × files file × IsReadAs file c
+  pub each : (c : List ℕ) → may_leave c → IsToldAt gate bytes c → IsReadAsOne files c
+  pub untold : (c : List ℕ) → may_leave c → (IsToldAt gate bytes c → ⊥) → IsTornOf (IsReadAsOne files) gate bytes c
 
 -- the digest tells what was left of the block under way, if its gate may be open on the disk
 abbrev pub IsTold : Stage → List ℕ → Type 0
@@ -65,6 +88,12 @@ IsTold (Held gate block) c = Unit {0}
 IsTold (Opened gate block) c = IsToldAt gate block.items c
 IsTold (TornOff gate block) c = IsToldAt gate block.items c
 IsTold Stopped c = Unit {0}
+
+-- it was left of the block under way
+abbrev pub IsTornIn : Stage → (List ℕ → Type 0) → List ℕ → Type 0
+IsTornIn (Opened gate block) files c = IsTornOf files gate block.items c
+IsTornIn (TornOff gate block) files c = IsTornOf files gate block.items c
+IsTornIn _ files c = ⊥
 
 -- whether no block is under way
 abbrev pub is_through : Stage → Bool
@@ -100,12 +129,6 @@ pub record IsHeld {D : Type 0} (seen : D → List ℕ) (may_leave : D → List �
   pub block : IsBlock bytes
   pub shows : seen_after_all calls ≡ written (gate + 1) bytes (seen disk)
 
--- what a crash leaves while a block and its open gate are written
-pub record IsTornFrom (gate : ℕ) (bytes file c : List ℕ) : Type 0 where
-  pub staged : List ℕ
-  pub block_torn : Torn (gate + 1) bytes file staged
-  pub gate_torn : Torn gate (opened ∷ []) staged c
-
 -- the block and its open gate were written, and no sync followed
 pub record IsOpen {D : Type 0} (seen : D → List ℕ) (may_leave : D → List ℕ → Type 0) (gate : ℕ) (bytes : List ℕ) (disk : D) (calls : List Event) : Type 0 where
   pub file : List ℕ
@@ -118,12 +141,17 @@ pub record IsOpen {D : Type 0} (seen : D → List ℕ) (may_leave : D → List �
   pub torn : (c : List ℕ) → may_leave disk c → IsTornFrom gate bytes file c
   pub closed : LeftAfterAll calls (written (gate + 1) bytes file)
 
+-- the block or its open gate was to be written or synced, and that was refused
+pub record IsTornOff {D : Type 0} (may_leave : D → List ℕ → Type 0) (gate : ℕ) (bytes : List ℕ) (disk : D) (calls : List Event) : Type 0 where
+  pub told : (c : List ℕ) → may_leave disk c → IsToldAt gate bytes c → IsReadAsLeft calls c
+  pub torn : (c : List ℕ) → may_leave disk c → IsTornOf (MayLeave calls) gate bytes c
+
 -- a disk after the calls of its user
 abbrev pub Agrees : {D : Type 0} → (D → List ℕ) → (D → List ℕ → Type 0) → Stage → D → List Event → Type 0
 Agrees seen may_leave (Through end synced) disk calls = IsThrough seen may_leave end synced disk calls
 Agrees seen may_leave (Held gate block) disk calls = IsHeld seen may_leave gate block.items disk calls
 Agrees seen may_leave (Opened gate block) disk calls = IsOpen seen may_leave gate block.items disk calls
-Agrees seen may_leave (TornOff gate block) disk calls = (c : List ℕ) → may_leave disk c → IsToldAt gate block.items c → IsReadAsLeft calls c
+Agrees seen may_leave (TornOff gate block) disk calls = IsTornOff may_leave gate block.items disk calls
 Agrees seen may_leave Stopped disk calls = (c : List ℕ) → may_leave disk c → IsReadAsLeft calls c
 
 -- and what a read returns of it may be left

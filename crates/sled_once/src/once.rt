@@ -89,6 +89,7 @@ impl<D: Disk> OneSync<D> {
         ensures seen { IfOk result (λ f. D.seen f.disk ≡ D.seen disk) }
         ensures durable { IfOk result (λ f. Only (bytes_of f) (outcomes_of f)) }
         ensures calm { IfOk result (λ f. D.faults f.disk + f.refused ≡ D.faults disk) }
+        ensures goes_on { IfOk result (λ f. IsOver f.stage → ⊥) }
         ensures stays { IfErr result (λ x. D.seen x.0 ≡ D.seen disk) }
         // A crash, then or meanwhile, leaves nothing else than before.
         ensures left { IfErr result (λ x. NoMore (D.may_leave disk) (D.may_leave x.0)) }
@@ -216,6 +217,7 @@ impl<D: Disk> Disk for OneSync<D> {
         ensures time { Elapses (moment_of self.old) (moment_of self.new) (outcomes_since self.old) (outcomes_since self.new) (outcomes_of self.new) }
         ensures cause { HasCause (faults_of D.faults self.old) (faults_of D.faults self.new) result }
         ensures stopped { StaysStopped self.old self.new result }
+        ensures goes_on { OnOk result (IsOver self.new.stage → ⊥) }
         ensures rests { OnErr result (IsAtRest self.new.stage) }
     {
         let stage = std::mem::replace(&mut self.stage, Stage::Stopped);
@@ -239,6 +241,7 @@ impl<D: Disk> Disk for OneSync<D> {
         ensures time { Elapses (moment_of self.old) (moment_of self.new) (outcomes_since self.old) (outcomes_since self.new) (outcomes_of self.new) }
         ensures cause { HasCause (faults_of D.faults self.old) (faults_of D.faults self.new) result }
         ensures stopped { StaysStopped self.old self.new result }
+        ensures goes_on { OnOk result (IsOver self.new.stage → ⊥) }
         ensures rests { OnErr result (IsAtRest self.new.stage) }
     {
         let stage = std::mem::replace(&mut self.stage, Stage::Stopped);
@@ -268,6 +271,7 @@ impl<D: Disk> Disk for OneSync<D> {
         ensures time { Elapses (moment_of self.old) (moment_of self.new) (outcomes_since self.old) (outcomes_since self.new) (outcomes_of self.new) }
         ensures cause { HasCause (faults_of D.faults self.old) (faults_of D.faults self.new) result }
         ensures stopped { StaysStopped self.old self.new result }
+        ensures goes_on { OnOk result (IsOver self.new.stage → ⊥) }
         ensures rests { OnErr result (IsAtRest self.new.stage) }
     {
         let stage = std::mem::replace(&mut self.stage, Stage::Stopped);
@@ -291,6 +295,7 @@ impl<D: Disk> Disk for OneSync<D> {
         ensures time { Elapses (moment_of self.old) (moment_of self.new) (outcomes_since self.old) (outcomes_since self.new) (outcomes_of self.new) }
         ensures cause { HasCause (faults_of D.faults self.old) (faults_of D.faults self.new) result }
         ensures stopped { StaysStopped self.old self.new result }
+        ensures goes_on { OnOk result (IsOver self.new.stage → ⊥) }
         ensures stops { OnErr result (IsOver self.new.stage) }
     {
         let stage = std::mem::replace(&mut self.stage, Stage::Stopped);
@@ -307,6 +312,7 @@ impl<D: Disk> Disk for OneSync<D> {
         ensures time { Elapses (moment_of self.old) (moment_of self.new) (outcomes_since self.old) (outcomes_since self.new) (outcomes_of self.new) }
         ensures cause { HasCause (faults_of D.faults self.old) (faults_of D.faults self.new) result }
         ensures stopped { StaysStopped self.old self.new result }
+        ensures goes_on { OnOk result (IsOver self.new.stage → ⊥) }
         ensures stops { OnErr result (IsOver self.new.stage) }
     {
         let stage = std::mem::replace(&mut self.stage, Stage::Stopped);
@@ -318,7 +324,8 @@ impl<D: Disk> Disk for OneSync<D> {
 }
 
 /// Does nothing. It says what the disk behind a `OneSync` is left with. If the digest tells what a crash left of the block under way, all
-/// that it may leave of that disk is read, up to a tear, as what may be left of the `OneSync`.
+/// that it may leave of that disk is read, up to a tear, as what may be left of the `OneSync`. What the digest does not tell was left while
+/// that block was under way.
 ///
 /// ```
 /// if let Ok(once) = OneSync::new(alloc, disk) {

@@ -128,6 +128,7 @@ fn write_on<D: Disk>(
     requires { HasPlace D.seen D.may_leave at (Through end is_synced) disk.old }
     ensures goes_on { GoesOn D.seen D.may_leave (wrote at bytes.now (is_ok result.1)) (Through end is_synced) disk.old result.0 disk.new }
     ensures stops { OnErr result.1 (IsOver result.0) }
+    ensures answered { OnOk result.1 (IsOver result.0 → ⊥) }
     ensures cause { HasCause (D.faults disk.old) (D.faults disk.new) result.1 }
 {
     match disk.write_at(at, bytes) {
@@ -144,6 +145,7 @@ fn open_gate<D: Disk>(disk: &mut D, gate: usize, block: Vec<u8>) -> (Stage, Resu
     requires { IsStanding D.seen D.may_leave (Held gate block) disk.old }
     ensures goes_on { GoesOn D.seen D.may_leave (wrote gate (opened ∷ []) (is_ok result.1)) (Held gate block) disk.old result.0 disk.new }
     ensures stops { OnErr result.1 (IsOver result.0) }
+    ensures answered { OnOk result.1 (IsOver result.0 → ⊥) }
     ensures cause { HasCause (D.faults disk.old) (D.faults disk.new) result.1 }
 {
     if let Err(e) = disk.write_at(gate + 1, &block) {
@@ -197,6 +199,7 @@ fn write_through_or_hold<D: Disk>(
     requires { HasPlace D.seen D.may_leave at (Through end is_synced) disk.old }
     ensures goes_on { GoesOn D.seen D.may_leave (wrote at bytes.now (is_ok result.1)) (Through end is_synced) disk.old result.0 disk.new }
     ensures rests { OnErr result.1 (IsAtRest result.0) }
+    ensures answered { OnOk result.1 (IsOver result.0 → ⊥) }
     ensures cause { HasCause (D.faults disk.old) (D.faults disk.new) result.1 }
 {
     match held_back(alloc, disk, end, is_synced, at, bytes) {
@@ -219,6 +222,7 @@ fn write_settled<D: Disk>(
     ensures over { IsOver stage → (result ≡ (stage, Err (told_as refused.old false))) × (disk.new ≡ disk.old) }
     ensures goes_on { GoesOn D.seen D.may_leave (wrote at bytes.now (is_ok result.1)) stage disk.old result.0 disk.new }
     ensures rests { OnErr result.1 (IsAtRest result.0) }
+    ensures answered { OnOk result.1 (IsOver result.0 → ⊥) }
     ensures cause { HasCause (D.faults disk.old + refused.old) (D.faults disk.new + refused.new) result.1 }
 {
     match settle(disk, stage, refused) {
@@ -240,6 +244,7 @@ pub fn put<D: Disk>(
     ensures over { IsOver stage → (result ≡ (stage, Err (told_as refused.old false))) × (disk.new ≡ disk.old) }
     ensures goes_on { GoesOn D.seen D.may_leave (wrote at bytes.now (is_ok result.1)) stage disk.old result.0 disk.new }
     ensures rests { OnErr result.1 (IsAtRest result.0) }
+    ensures answered { OnOk result.1 (IsOver result.0 → ⊥) }
     ensures cause { HasCause (D.faults disk.old + refused.old) (D.faults disk.new + refused.new) result.1 }
 {
     match stage {
@@ -259,6 +264,7 @@ pub fn shorten<D: Disk>(
     ensures over { IsOver stage → (result ≡ (stage, Err (told_as refused.old false))) × (disk.new ≡ disk.old) }
     ensures goes_on { GoesOn D.seen D.may_leave (cut len (is_ok result.1)) stage disk.old result.0 disk.new }
     ensures stops { OnErr result.1 (IsOver result.0) }
+    ensures answered { OnOk result.1 (IsOver result.0 → ⊥) }
     ensures cause { HasCause (D.faults disk.old + refused.old) (D.faults disk.new + refused.new) result.1 }
 {
     match settle(disk, stage, refused) {
@@ -275,6 +281,7 @@ fn sync_on<D: Disk>(disk: &mut D, end: End, is_synced: bool) -> (Stage, Result<(
     requires { IsStanding D.seen D.may_leave (Through end is_synced) disk.old }
     ensures goes_on { GoesOn D.seen D.may_leave (was_synced (is_ok result.1)) (Through end is_synced) disk.old result.0 disk.new }
     ensures stops { OnErr result.1 (IsOver result.0) }
+    ensures answered { OnOk result.1 (IsOver result.0 → ⊥) }
     ensures cause { HasCause (D.faults disk.old) (D.faults disk.new) result.1 }
 {
     match disk.sync() {
@@ -289,6 +296,7 @@ pub fn bring<D: Disk>(disk: &mut D, stage: Stage, refused: &mut u64) -> (Stage, 
     ensures over { IsOver stage → (result ≡ (stage, Err (told_as refused.old false))) × (disk.new ≡ disk.old) }
     ensures goes_on { GoesOn D.seen D.may_leave (was_synced (is_ok result.1)) stage disk.old result.0 disk.new }
     ensures stops { OnErr result.1 (IsOver result.0) }
+    ensures answered { OnOk result.1 (IsOver result.0 → ⊥) }
     ensures cause { HasCause (D.faults disk.old + refused.old) (D.faults disk.new + refused.new) result.1 }
 {
     match stage {
