@@ -73,6 +73,22 @@ pub fn tells(trial: &mut Trial, is: TypedResult<bool>) {
     }
 }
 
+// Whether the readings of Ulm are walked beside a foreign pair outside their hours, and refused for one within them.
+fn tells_foreign(trial: &mut Trial) {
+    trial.insert(b"of no hour", b"");
+    let is_walked = walks(trial);
+    tells(trial, is_walked);
+    // Hour 1, and a byte more.
+    trial.insert(b"Ulm\0\0\0\0\0\0\0\0\0\x01\0", b"");
+    match walks(trial) {
+        Err(TypedError::Foreign) => {}
+        is_walked => {
+            tells(trial, is_walked);
+            trial.seen.that(false);
+        }
+    }
+}
+
 /// Whether readings of a station and an hour are read again, in their order. Hour 300 of Ulm is measured twice.
 pub fn reads_readings(trial: &mut Trial) {
     put_value(trial, "Ulm", 300, 21);
@@ -81,6 +97,7 @@ pub fn reads_readings(trial: &mut Trial) {
     put_value(trial, "Ulm", 300, 20);
     let is_found = looks_up(trial);
     tells(trial, is_found);
-    let walks = walks(trial);
-    tells(trial, walks);
+    let is_walked = walks(trial);
+    tells(trial, is_walked);
+    tells_foreign(trial);
 }
