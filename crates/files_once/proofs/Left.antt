@@ -22,17 +22,16 @@ through one two three (inl same) second = subst (λ (l : List ℕ). IsReadAs l t
 through one two three (inr first) (inl same) = subst (λ (l : List ℕ). IsReadAs one l) (sym same) (inr first)
 through one two three (inr first) (inr second) = inr (second.0 ∙ first.0, first.1)
 
-module _ (files others : List ℕ → Type 0) (to : (c : List ℕ) → files c → IsReadAsOne others c) where
-  read_then : (c : List ℕ) → IsReadAsOne files c → IsReadAsOne others c
-  read_then c one = let two : IsReadAsOne others one.0 = to one.0 one.1 in (two.0, two.1, through two.0 one.0 c two.2 one.2)
+read_then : (files others : List ℕ → Type 0) → ((c : List ℕ) → files c → IsReadAsOne others c) → (c : List ℕ) → IsReadAsOne files c → IsReadAsOne others c
+read_then files others to c one = let two : IsReadAsOne others one.0 = to one.0 one.1 in (two.0, two.1, through two.0 one.0 c two.2 one.2)
 
-  pub read_on : (may_leave : List ℕ → Type 0) → LeavesReadAs files may_leave → LeavesReadAs others may_leave
-  read_on may_leave r = record {
-    gate = r.gate;
-    bytes = r.bytes;
-    each = λ c left told. read_then c (r.each c left told);
-    untold = λ c left untold. torn_of (IsReadAsOne files) (IsReadAsOne others) read_then r.gate r.bytes c (r.untold c left untold);
-  }
+pub read_on : (files others may_leave : List ℕ → Type 0) → LeavesReadAs files may_leave → ((c : List ℕ) → files c → IsReadAsOne others c) → LeavesReadAs others may_leave
+read_on files others may_leave r to = record {
+  gate = r.gate;
+  bytes = r.bytes;
+  each = λ c left told. read_then files others to c (r.each c left told);
+  untold = λ c left untold. torn_of (IsReadAsOne files) (IsReadAsOne others) (read_then files others to) r.gate r.bytes c (r.untold c left untold);
+}
 
 -- all of a disk is on it, and may be left of it
 pub only_seen : (file : List ℕ) (before may_leave : List ℕ → Type 0) → Only file may_leave → before file → (c : List ℕ) → may_leave c → IsReadAsOne before c

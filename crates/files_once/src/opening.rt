@@ -183,8 +183,8 @@ pub fn open_mended<D: Disk>(
 /// mended first: so a block that was under way, or one that has decayed, ends the log of its file. Files that were written in two syncs are
 /// opened too, and what is written in one sync is mended by this call alone: `FilePages::open` takes what is torn for decayed.
 ///
-/// Refused as `FilePages::open` is. But in a file of a store, what follows the first block is mended where it is torn. So it is found to be
-/// decayed only in its first block, in its header, as it is of the other file's generation, or as it has changes that no store makes.
+/// Refused as `FilePages::open` is. As a store's file is mended from its second block on, what is found to be decayed is its first block, its
+/// header, changes that no store makes, or a generation that both files have.
 ///
 /// ```
 /// match open_once(alloc, first, second) {

@@ -37,20 +37,18 @@ pub returns-in-Err-clause-first_left : goal.returns-in-Err-clause-first_left
 returns-in-Err-clause-first_left g c =
     let left = g.D.Disk.may_leave c.args.first in
     let others : List ℕ → Type 0 = LeftOrBegun left (g.D.Disk.seen c.args.first) (g.D.Disk.seen c.args.second) in
-    read_on left others (λ l was. (l, inl was, inl refl)) (g.D.Disk.may_leave c.in-Err.refused.first) c.in-Err.ensures.first_left
+    read_on left others (g.D.Disk.may_leave c.in-Err.refused.first) c.in-Err.ensures.first_left (λ l was. (l, inl was, inl refl))
 
 pub returns-in-Err-open-clause-first_left : goal.returns-in-Err-open-clause-first_left
 returns-in-Err-open-clause-first_left g c =
     let seen = g.D.Disk.seen in
     let left = g.D.Disk.may_leave c.args.first in
     let others : List ℕ → Type 0 = LeftOrBegun left (seen c.args.first) (seen c.args.second) in
-    read_on (outcomes_of c.in-Err-open.refused.first) others
+    read_on (outcomes_of c.in-Err-open.refused.first) others (g.D.Disk.may_leave c.handed_back-first.result.0) c.handed_back-first.ensures.read
     (λ l was. opened_or_begun left (seen c.args.first) (seen c.args.second) _ _ c.law_may_stay.ensures (outcomes_of c.in-Ok.both.0) c.in-Ok.ensures.first c.in-Ok.ensures.second c.in-Ok.ensures.first_only l (c.in-Err-open.ensures.left.first_now l was))
-    (g.D.Disk.may_leave c.handed_back-first.result.0) c.handed_back-first.ensures.read
 
 pub returns-in-Err-open-clause-second_left : goal.returns-in-Err-open-clause-second_left
 returns-in-Err-open-clause-second_left g c =
     let left = g.D.Disk.may_leave c.args.second in
-    read_on (outcomes_of c.in-Err-open.refused.second) left
+    read_on (outcomes_of c.in-Err-open.refused.second) left (g.D.Disk.may_leave c.handed_back-second.result.0) c.handed_back-second.ensures.read
     (λ l was. only_seen (g.D.Disk.seen c.args.second) left (outcomes_of c.in-Ok.both.1) c.in-Ok.ensures.second_only c.law_may_stay-2.ensures l (c.in-Err-open.ensures.left.second_now l was))
-    (g.D.Disk.may_leave c.handed_back-second.result.0) c.handed_back-second.ensures.read

@@ -45,17 +45,15 @@ returns-in-Err-clause-first_left g c =
     let left = g.D.Disk.may_leave c.args.first in
     let now = g.D.Disk.may_leave c.mend_both.new.first in
     let others : List ℕ → Type 0 = LeftOrBegun left (seen c.args.first) (seen c.args.second) in
-    read_on now others
+    read_on now others now (no_more now now (λ l is. is))
     (λ l is. or_begun left (seen c.args.first) (seen c.args.second) l (left_meanwhile left (seen c.args.first) c.law_may_stay.ensures l (c.in-Err.ensures.first_any_moment.each l (c.law_counts_now.ensures (g.D.Disk.moment c.args.first) l c.in-Err.ensures.first_any_moment.later is))))
-    now (no_more now now (λ l is. is))
 
 pub returns-in-Err-clause-second_left : goal.returns-in-Err-clause-second_left
 returns-in-Err-clause-second_left g c =
     let left = g.D.Disk.may_leave c.args.second in
     let now = g.D.Disk.may_leave c.mend_both.new.second in
-    read_on now left
+    read_on now left now (no_more now now (λ l is. is))
     (λ l is. left_meanwhile left (g.D.Disk.seen c.args.second) c.law_may_stay-2.ensures l (c.in-Err.ensures.second_any_moment.each l (c.law_counts_now-in-Err.ensures (g.D.Disk.moment c.args.second) l c.in-Err.ensures.second_any_moment.later is)))
-    now (no_more now now (λ l is. is))
 
 pub returns-in-Err-open_mended-clause-first_left : goal.returns-in-Err-open_mended-clause-first_left
 returns-in-Err-open_mended-clause-first_left g c =
@@ -64,18 +62,16 @@ returns-in-Err-open_mended-clause-first_left g c =
     let now = g.D.Disk.may_leave c.mend_both.new.first in
     let mended : List ℕ → Type 0 = LeftOrBegun now (seen c.mend_both.new.first) (seen c.mend_both.new.second) in
     let others : List ℕ → Type 0 = LeftOrBegun left (seen c.args.first) (seen c.args.second) in
-    read_on mended others
+    read_on mended others (g.D.Disk.may_leave c.in-Err-open_mended.refused.first) c.in-Err-open_mended.ensures.first_left
     (mended_then_begun left (seen c.args.first) (seen c.args.second) (seen c.mend_both.new.first) (seen c.mend_both.new.second) c.law_may_stay.ensures now c.in_default.ensures.first c.in_default.ensures.second c.in_default.ensures.first_durable)
-    (g.D.Disk.may_leave c.in-Err-open_mended.refused.first) c.in-Err-open_mended.ensures.first_left
 
 pub returns-in-Err-open_mended-clause-second_left : goal.returns-in-Err-open_mended-clause-second_left
 returns-in-Err-open_mended-clause-second_left g c =
     let seen = g.D.Disk.seen in
     let left = g.D.Disk.may_leave c.args.second in
     let now = g.D.Disk.may_leave c.mend_both.new.second in
-    read_on now left
+    read_on now left (g.D.Disk.may_leave c.in-Err-open_mended.refused.second) c.in-Err-open_mended.ensures.second_left
     (mended_one left (seen c.args.second) (seen c.mend_both.new.second) now c.law_may_stay-2.ensures c.in_default.ensures.second c.in_default.ensures.second_durable)
-    (g.D.Disk.may_leave c.in-Err-open_mended.refused.second) c.in-Err-open_mended.ensures.second_left
 
 pub returns-in-Err-open_mended-clause-stay : goal.returns-in-Err-open_mended-clause-stay
 returns-in-Err-open_mended-clause-stay g c other =
