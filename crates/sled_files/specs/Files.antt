@@ -85,14 +85,16 @@ pub record IsKept {D : Type 0} (seen : D → List ℕ) (may_leave : D → List �
 abbrev pub GrowsTo : ℕ → List ℕ → List ℕ → Type 0
 GrowsTo gate old new = length new ≡ max (length old) (gate + 1)
 
--- a file was begun anew, with a snapshot alone, and counts from then on; the one that counted is the other
-pub record IsRenewed {D : Type 0} (old new : Files D) : Type 0 where
+-- A file was begun anew, with a snapshot alone, and counts from then on; the one that counted is the other. No byte was added behind its
+-- gate
+pub record IsRenewed {D : Type 0} (seen : D → List ℕ) (old new : Files D) : Type 0 where
   pub other : other_of new ≡ one_of old
   pub generation : new.generation ≡ old.generation + 1
   pub bytes : new.gate ≡ new.snapshot + 37
+  pub grown : GrowsTo new.gate (seen (other_of old)) (seen (one_of new))
 
--- The log that counts has a block more, of a gate, two numbers of 8 bytes and so many bytes of changes, and the other file is emptied; or
--- there was nothing to be added
+-- The log that counts has a block more, of a gate, two numbers of 8 bytes and so many bytes of changes, and its file has no byte more behind
+-- that; the other file is emptied. Or there was nothing to be added
 pub record IsGrown {D : Type 0} (seen : D → List ℕ) (added : ℕ) (old new : Files D) : Type 0 where
   pub same : new.is_second ≡ old.is_second
   pub snapshot : new.snapshot ≡ old.snapshot
@@ -101,3 +103,4 @@ pub record IsGrown {D : Type 0} (seen : D → List ℕ) (added : ℕ) (old new :
   pub nothing : added ≡ 0 → new ≡ old
   pub calm : new.failed ≡ old.failed
   pub other : 0 < added → length (seen (other_of new)) ≤ 1
+  pub grown : 0 < added → GrowsTo new.gate (seen (one_of old)) (seen (one_of new))

@@ -56,8 +56,8 @@ pub record FlushesOn {D : Type 0} (seen : D → List ℕ) (old new : Stored D) :
   pub limits : 0 < length old.pending → RaisesNear (stored_as old) old.limits new.limits
 
 -- a flush began the other file anew, with limits that are far, as far as 64 bits go
-pub record FlushesAnew {D : Type 0} (old new : Stored D) : Type 0 where
-  pub files : IsRenewed old.files new.files
+pub record FlushesAnew {D : Type 0} (seen : D → List ℕ) (old new : Stored D) : Type 0 where
+  pub files : IsRenewed seen old.files new.files
   pub limits : RaisesNear (stored_as old) old.limits new.limits
 
 -- before a number was given, the limits were raised by a block of their own

@@ -348,8 +348,8 @@ impl<D: Disk> FilePages<D> {
     pub fn compact(&mut self) -> Result<()>
         ensures open { (now (stored_as self.old)).in_group ≡ true → (self.new ≡ self.old) × OnErr result ⊥ }
         ensures ok { (now (stored_as self.old)).in_group ≡ false → OnOk result (stored_as self.new ≡ after_flush (stored_as self.old)) }
-        // The file that counted is the other one now, and the limits are far.
-        ensures renewed { (now (stored_as self.old)).in_group ≡ false → OnOk result (FlushesAnew self.old self.new) }
+        // The file that counted is the other one now, no byte was added behind the gate of the one that counts, and the limits are far.
+        ensures renewed { (now (stored_as self.old)).in_group ≡ false → OnOk result (FlushesAnew D.seen self.old self.new) }
         ensures kept { OnErr result (self.new.limits ≡ self.old.limits) }
         ensures up { (now (stored_as self.old)).in_group ≡ false → OnOk result ((self.old.files.failed ≡ false) × (self.new.files.failed ≡ false)) }
         ensures err { IfErr result (λ e. IsRefused e (stored_as self.old) (stored_as self.new)) }
@@ -508,7 +508,7 @@ impl<D: Disk> FilePages<D> {
         requires near { RaisesNear (stored_as self.old) self.old.limits (record { pids = pids; versions = versions }) }
         ensures ok { OnOk result (stored_as self.new ≡ after_flush (stored_as self.old)) }
         ensures number { IfOk result (λ n. n ≡ length (stored_as self.old).recent) }
-        ensures renewed { OnOk result (FlushesAnew self.old self.new) }
+        ensures renewed { OnOk result (FlushesAnew D.seen self.old self.new) }
         ensures kept { OnErr result (self.new.limits ≡ self.old.limits) }
         ensures up { OnOk result ((self.old.files.failed ≡ false) × (self.new.files.failed ≡ false)) }
         ensures err { IfErr result (λ e. IsRefused e (stored_as self.old) (stored_as self.new)) }
@@ -535,7 +535,7 @@ impl<D: Disk> FilePages<D> {
         requires { (now (stored_as self.old)).in_group ≡ false }
         ensures ok { OnOk result (stored_as self.new ≡ after_flush (stored_as self.old)) }
         ensures number { IfOk result (λ n. n ≡ length (stored_as self.old).recent) }
-        ensures renewed { OnOk result (FlushesAnew self.old self.new) }
+        ensures renewed { OnOk result (FlushesAnew D.seen self.old self.new) }
         ensures kept { OnErr result (self.new.limits ≡ self.old.limits) }
         ensures up { OnOk result ((self.old.files.failed ≡ false) × (self.new.files.failed ≡ false)) }
         ensures err { IfErr result (λ e. IsRefused e (stored_as self.old) (stored_as self.new)) }
@@ -761,7 +761,7 @@ impl<D: Disk + Send> Pages for FilePages<D> {
         ensures number { IfOk result (λ n. n ≡ length (stored_as self.old).recent) }
         // The log has a block more. If a snapshot was due, a file was begun anew in place of that, or it is counted as missed.
         ensures grown { OnOk result (is_due self.old ≡ false → FlushesOn D.seen self.old self.new) }
-        ensures renewed { OnOk result (is_due self.old ≡ true → (FlushesAnew self.old self.new × (self.new.missed ≡ self.old.missed)) ⊎ (FlushesOn D.seen self.old self.new × (self.new.missed ≡ missed_after self.old))) }
+        ensures renewed { OnOk result (is_due self.old ≡ true → (FlushesAnew D.seen self.old self.new × (self.new.missed ≡ self.old.missed)) ⊎ (FlushesOn D.seen self.old self.new × (self.new.missed ≡ missed_after self.old))) }
         ensures calm { is_due self.old ≡ false → self.new.missed ≡ self.old.missed }
         ensures longest { self.new.longest ≡ self.old.longest }
         // Once a disk refused a call, it is refused, and says that.

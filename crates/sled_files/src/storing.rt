@@ -84,7 +84,7 @@ pub fn begin_anew<D: Disk>(files: &mut TwoFiles<D>, faults: &mut u64, payload: &
     ensures up { OnOk result (files.old.failed ≡ false) }
     ensures same { OnOk result (faults.new ≡ faults.old) }
     ensures still_up { OnOk result (files.new.failed ≡ false) }
-    ensures renewed { OnOk result (IsRenewed files.old files.new) }
+    ensures renewed { OnOk result (IsRenewed D.seen files.old files.new) }
     ensures snapshot { OnOk result (files.new.snapshot ≡ length payload.now) }
     ensures fault { IfErr result (λ e. IsFault faults.old faults.new e) }
     ensures cause { IfErr result (λ e. IsUnstored D.faults (files.old.generation + 1 ≡ 2 ^ 64) files.old files.new faults.old e) }

@@ -3,7 +3,7 @@ use Rattle.std.specs.Prelude.{◌==◌}
 use Rattle.std.proofs.lemmas.Bool.Decides.{nat_tests}
 use Rattle.sled_bytes.specs.declared.change.Change.{Change}
 use Rattle.sled_files.specs.Change.{changed_all}
-use Rattle.sled_files.specs.Files.{IsReady}
+use Rattle.sled_files.specs.Files.{IsReady, GrowsTo, one_of}
 use Rattle.sled_files.proofs.Moments.{empty_spells, moments_ready}
 use Rattle.sled_files.proofs.Coding.{unstored_over}
 use Rattle.sled_files.proofs.storing.add.Goals as goal
@@ -37,11 +37,11 @@ returns-then-is_empty-clause-any_moment g c = λ d changes ready spells added.
 
 pub returns-then-is_empty-clause-grown : goal.returns-then-is_empty-clause-grown
 returns-then-is_empty-clause-grown g c = let none : length c.args.payload.now ≡ 0 = grind (arith, nat_tests) in
-    record { same = refl; snapshot = refl; generation = refl; bytes = no_more (length c.args.payload.now) c.args.files.now.gate none; nothing = λ is. refl; calm = refl; other = λ some. absurd (omega (arith, some, none)) }
+    record { same = refl; snapshot = refl; generation = refl; bytes = no_more (length c.args.payload.now) c.args.files.now.gate none; nothing = λ is. refl; calm = refl; other = λ some. absurd (omega (arith, some, none)); grown = λ some. absurd {A = GrowsTo c.args.files.now.gate (g.D.Disk.seen (one_of c.args.files.now)) (g.D.Disk.seen (one_of c.args.files.now))} (omega (arith, some, none)) }
 
 pub returns-in-Ok-clause-grown : goal.returns-in-Ok-clause-grown
 returns-in-Ok-clause-grown g c = let some : 0 < length c.args.payload.now = grind (arith, nat_tests) in
-    record { same = c.append.ensures.same; snapshot = c.append.ensures.snapshot; generation = c.append.ensures.generation; bytes = c.in-Ok.ensures.bytes ∙ more (length c.args.payload.now) c.args.files.now.gate some; nothing = λ is. absurd (omega (arith, is, some)); calm = c.in-Ok.ensures.up.1 ∙ sym c.in-Ok.ensures.up.0; other = λ s. c.in-Ok.ensures.emptied }
+    record { same = c.append.ensures.same; snapshot = c.append.ensures.snapshot; generation = c.append.ensures.generation; bytes = c.in-Ok.ensures.bytes ∙ more (length c.args.payload.now) c.args.files.now.gate some; nothing = λ is. absurd (omega (arith, is, some)); calm = c.in-Ok.ensures.up.1 ∙ sym c.in-Ok.ensures.up.0; other = λ s. c.in-Ok.ensures.emptied; grown = λ s. c.in-Ok.ensures.grown }
 
 pub returns-then-failed-clause-cause : goal.returns-then-failed-clause-cause
 returns-then-failed-clause-cause g c = unstored_over c.args.files.now c.args.faults.now c.fault.result (search rules) c.fault.ensures.is

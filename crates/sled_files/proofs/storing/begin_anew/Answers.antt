@@ -18,7 +18,7 @@ returns-in-Err-clause-any_moment g c = λ d made ready m.
     subst (λ (e : Durable). LeavesPairs {D = g.row.D.Denot} g.D.Disk.moment g.D.Disk.left_since g.D.Disk.may_leave c.args.files.now c.rewrite.new.self (AreForEither d e)) m.makes (c.rewrite.ensures.any_moment d m.changes ready m.spells (made_whole m))
 
 pub returns-in-Ok-clause-renewed : goal.returns-in-Ok-clause-renewed
-returns-in-Ok-clause-renewed g c = record { other = c.in-Ok.ensures.one; generation = c.in-Ok.ensures.generation; bytes = omega (arith, c.in-Ok.ensures.bytes, c.in-Ok.ensures.snapshot) }
+returns-in-Ok-clause-renewed g c = record { other = c.in-Ok.ensures.one; generation = c.in-Ok.ensures.generation; bytes = omega (arith, c.in-Ok.ensures.bytes, c.in-Ok.ensures.snapshot); grown = c.in-Ok.ensures.grown }
 
 pub returns-then-failed-clause-cause : goal.returns-then-failed-clause-cause
 returns-then-failed-clause-cause g c = unstored_over c.args.files.now c.args.faults.now c.fault.result (search rules) c.fault.ensures.is

@@ -11,7 +11,7 @@ use Rattle.sled_files.proofs.Limits.{same_limits, grown_by, next_over, raised_by
 use Rattle.sled_files.proofs.Coding.{unstored_weaker}
 use Rattle.sled_files.proofs.Ungiven.{used_up_at}
 use Rattle.sled_files.proofs.Raising.{limited_length}
-use Rattle.sled_files.specs.Stored.{Stored, stored_as}
+use Rattle.sled_files.specs.Stored.{Stored, stored_as, over}
 use Rattle.sled_files.specs.Codes.{AreUsedUp}
 use Rattle.sled_files.proofs.file_pages.FilePages.raise.Goals as goal
 use Rattle.sled_files.proofs.file_pages.FilePages.raise.Goals.{then-pids-pid-via-then-pids-pid, then-pids-pid-via-else-pids-pid+then-versions-version}
@@ -62,6 +62,9 @@ returns-clause-any_moment g c =
 
 pub returns-clause-limits : goal.returns-clause-limits
 returns-clause-limits g c = rw (← c.self.view_is) (same_limits (c.raised-pids.ensures.is ∙ ap (raised_to c.self.inside.limit_pids) c.pid.view_is) (c.raised-versions.ensures.is ∙ ap (raised_to c.self.inside.limit_versions) c.version.view_is))
+
+pub returns-clause-same : goal.returns-clause-same
+returns-clause-same g c = rw (← c.self.view_is) (ap (λ (n : ℕ). over c.self.inside.mark n (store_of c.self.inside.pages)) c.in_default.ensures.same)
 
 pub returns-clause-grown : goal.returns-clause-grown
 returns-clause-grown g c =
