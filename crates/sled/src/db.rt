@@ -405,7 +405,8 @@ impl<P: Pages, M: MergeOperator> Db<P, M> {
         Some(went)
     }
 
-    /// Steps of a call in flight until it ends. The tests are made once, since no step of a call changes what they look at.
+    /// Steps of a call in flight until it ends or, of a scan, gives a pair. The tests are made once, since no step of a call changes what they
+    /// look at.
     ///
     /// ```
     /// let mut flight = InFlight::new(tree, Call::get(alloc, b"ulm")?);
@@ -445,9 +446,8 @@ impl<P: Pages, M: MergeOperator> Db<P, M> {
         }
     }
 
-    /// A call on a key that passed the tests, made at once by the steps of a call in flight from its begin to its end. That is if nothing
-    /// is to be repaired on the way to its leaf, and no subscriber waits for what happens to its key. Else it does nothing, and answers
-    /// `None`.
+    /// A call on a key that passed the tests, made at once by the steps of a call in flight from its begin to its end. It may do nothing, and
+    /// answer `None`: as it does if something is to be repaired on the way to its leaf, or a subscriber waits for what happens to its key.
     ///
     /// ```
     /// db.check_call(&tree, &call)?; // The tests, which `make_quick` does not repeat.

@@ -24,9 +24,9 @@ impl<P: Pages, M: MergeOperator> Db<P, M> {
     /// Drops the tree of a name, and answers whether there was one. The name can be opened anew, as an empty tree; every
     /// `Tree` of before is answered with `CollectionNotFound` from now on, and so is each call in flight on it at its next step.
     ///
-    /// The tree's first pages are read, its root is taken out, which decides, and its pages are freed. Refused with `Closed`;
-    /// for the default tree with `Unsupported`; and with `Io` and `NoMemory` before the root goes: then the tree stays. A
-    /// refusal after that is not returned: then pages are left that no tree has.
+    /// The tree's first pages are read, its root is taken out, which decides, and its pages are freed (tested, not proved).
+    /// Refused with `Closed`; for the default tree with `Unsupported`; and with `Io` and `NoMemory` before the root goes:
+    /// then the tree stays. A refusal after that is not returned: then pages are left that no tree has.
     ///
     /// ```
     /// let dropped = db.drop_tree(b"orders")?; // `false` where there was none.

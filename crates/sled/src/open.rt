@@ -97,7 +97,7 @@ fn number_trees<P: Pages>(alloc: Global, pages: &P) -> Result<Vec<(IVec, u64)>>
 
 impl<P: Pages> Db<P> {
     /// Opens the database that the pages hold, under this name; an empty store becomes one with an empty default tree.
-    /// All is flushed then, and the numbers of the trees that earlier databases over these pages gave mean nothing to it.
+    /// All is flushed then. Trees are numbered anew, so a `Tree` that an earlier database over these pages gave may name another tree here.
     /// Refused with `Io` if the store counts a fault, and with `NoMemory`. The pages that are given back can be opened
     /// again: they have all their pairs, and at most the empty default tree is new.
     ///

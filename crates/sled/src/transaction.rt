@@ -288,7 +288,7 @@ impl<P: Pages, M: MergeOperator> Db<P, M> {
     /// by `abort`, nothing is written and its error is the answer. It may also end by a refusal, as `?` passes on those of the calls
     /// inside. It is run again, with nothing written, while it ends by `Conflict`, which no call inside answers, up to a million times in
     /// all. So that it can take ids inside, 4096 are set aside first if fewer than 1024 are, or as many as are left up to the greatest
-    /// `u64`. If the store or memory refuses that, it is passed over. Those that it takes stay taken, however it ends.
+    /// `u64`. That may be passed over, as it is if the store or memory refuses it. Those that it takes stay taken, however it ends.
     ///
     /// Refused by the tests of the tree; as the closure is; with `ReportableBug` after a million conflicts; as a batch is, which may close
     /// the database; and as the flush is, and then what was written stays.

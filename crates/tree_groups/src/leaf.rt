@@ -13,8 +13,8 @@ use sled_tree::lies_under;
 use std::alloc::Global;
 use std::ops::Bound;
 
-/// Whether nothing is to be repaired at a leaf, and it need not merge either. Only of `true` something is promised: a write goes a longer
-/// way if it answers `false`.
+/// Whether nothing is to be repaired at a leaf. Only of `true` something is promised: a write goes a longer way if it answers `false`, as it
+/// does of a leaf that is to merge.
 #[inline(always)]
 pub fn is_settled(leaf: &View) -> bool
     ensures { result ≡ true → IsSettled leaf.now.node }
