@@ -16,7 +16,7 @@ use Rattle.tree_laws.specs.Snapshot.{Snapshot, snapshot_of, nodes_at, HasForest}
 use Rattle.tree_laws.proofs.Crashing.{extends_nothing, extends_same, extends_again}
 use Rattle.sled_tree.specs.declared.flight.Job.{Job}
 use Rattle.tree_groups.specs.declared.key_write.KeyWrite.{KeyWrite}
-use Rattle.tree_groups.specs.Groups.{job_of, jobs_of, AreNumbered, AreKnown, map_after_jobs, WrittenAll, seals_as, MakesGroup, KeepsForests, LeavesGroup}
+use Rattle.tree_groups.specs.Groups.{job_of, jobs_of, AreNumbered, AreKnown, map_after_jobs, WrittenAll, all_by_steps, group_by_steps, seals_as, MakesGroup, KeepsForests, LeavesGroup}
 use Rattle.tree_groups.specs.theory.Groups.{MakesKnown, StopsKnown, WritesAll, StopsWritingAll}
 use Rattle.tree_groups.specs.Writes.{ActsOften, NoAction, Keeps, WrittenAt}
 use Rattle.tree_groups.proofs.Ready.{keeps_then, all_known, refused_store}
@@ -60,12 +60,16 @@ pub record IsSoFar (numbers : Tree → Option ℕ) (all : List Job) (rest : List
 -- from the store before the writes to the store now
 pub record SoFar (all rest : List KeyWrite) (old new : Store) : Type 0 where
   pub acts : ActsOften old new
+  -- the rest of the steps makes them all
+  pub steps : (numbers : Tree → Option ℕ) (given : ℕ → Bool) (w : Forest) → HasForest (snapshot_of old numbers given) w → AreNumbered numbers (jobs_of all) → AreKnown (snapshot_of old numbers given) all
+      → (last : Store) → all_by_steps (jobs_of rest) new last → all_by_steps (jobs_of all) old last
   pub told : (numbers : Tree → Option ℕ) (given : ℕ → Bool) (w : Forest) → HasForest (snapshot_of old numbers given) w → AreNumbered numbers (jobs_of all) → AreKnown (snapshot_of old numbers given) all
       → IsSoFar numbers (jobs_of all) rest (snapshot_of old numbers given) w (snapshot_of new numbers given)
 
 pub so_far_first : (all rest : List KeyWrite) (s : Store) → rest ≡ all → SoFar all rest s s
 so_far_first all rest s e = subst (λ (l : List KeyWrite). SoFar all l s s) (sym e) (record {
   acts = NoAction;
+  steps = λ numbers given w is named known last rest. rest;
   told = λ numbers given w is named known. record { after = w; keeps = keeps_first (snapshot_of s numbers given) w is; named = named; known = known; is = λ operator t. refl };
 })
 
@@ -76,6 +80,9 @@ so_far_more all f fs rest old a b e before x = go (subst (λ (l : List KeyWrite)
     go : SoFar all (f ∷ fs) old a → SoFar all fs old b
     go k = record {
       acts = often_then k.acts x.acts;
+      steps = λ numbers given w is named known last rest.
+          let p = k.told numbers given w is named known in
+          k.steps numbers given w is named known last (b, x.steps numbers given p.after p.keeps.is p.named.0 p.known.0, rest);
       told = λ numbers given w is named known.
           let p = k.told numbers given w is named known in
           let r = x.told numbers given p.after p.keeps.is p.named.0 p.known.0 in record {
@@ -112,6 +119,7 @@ so_far_all all rest old new none before = go (subst (λ (l : List KeyWrite). SoF
     go : SoFar all [] old new → WritesAll all old new
     go k = record {
       acts = k.acts;
+      steps = λ numbers given w is named known. k.steps numbers given w is named known new refl;
       told = λ numbers given w is named known. let p = k.told numbers given w is named known in record { after = p.after; keeps = p.keeps; is = p.is };
     }
 
@@ -144,6 +152,7 @@ forest_stays m n w e is = subst (λ (o : Snapshot). KeepsForests m w o) (sym e) 
 pub group_of_none : (fs : List KeyWrite) (s : Store) → fs ≡ [] → (now s).in_group ≡ false → MakesGroup fs s s
 group_of_none fs s none outside = subst (λ (l : List KeyWrite). MakesGroup l s s) (sym none) (record {
   acts = refl;
+  steps = λ numbers given w is named known. refl;
   adds = λ well. extends_again (extends_same s) outside;
   told = λ numbers given w is named known. record { after = w; keeps = keeps_first (snapshot_of s numbers given) w is; is = λ operator t. refl };
 })
@@ -208,6 +217,9 @@ module _ (fs : List KeyWrite) (some : jobs_of fs ≢ []) (old begun : Store) (be
     pub group_sealed : (new : Store) → new ≡ after_action GroupEnds last → MakesGroup fs old new
     group_sealed new seals = record {
       acts = seals_so (jobs_of fs) some;
+      steps = λ numbers given w is named known.
+          let p = bounds_law old begun (inl begins) numbers given w is in
+          steps_so (jobs_of fs) some (x.steps numbers given p.after p.keeps.is named (all_known (snapshot_of old numbers given) (snapshot_of begun numbers given) w p.after p.keeps fs known));
       adds = λ well. sealed_law old begun last new begins x.acts seals well;
       told = λ numbers given w is named known.
           let p = written numbers given w is named known in
@@ -221,6 +233,10 @@ module _ (fs : List KeyWrite) (some : jobs_of fs ≢ []) (old begun : Store) (be
         seals_so : (l : List Job) → l ≢ [] → seals_as l old new
         seals_so [] some = absurd (some refl)
         seals_so (j ∷ l) some = (last, record { begun = begun; is = begins; acts = x.acts }, seals)
+
+        steps_so : (l : List Job) → l ≢ [] → all_by_steps l begun last → group_by_steps l old new
+        steps_so [] some made = absurd (some refl)
+        steps_so (j ∷ l) some made = (last, subst (λ (s : Store). all_by_steps (j ∷ l) s last) begins made, seals)
 
     -- as the store answers
     pub group_ends : (new : Store) (r : Result (Unit {0}) Error) → OnOk r (new ≡ after_action GroupEnds last) → OnOk r (MakesGroup fs old new)

@@ -13,7 +13,7 @@ use Rattle.sled_nodes.specs.declared.link.Link.{Link}
 use Rattle.sled_nodes.specs.declared.link.Link.TheVariants.{Set, Del}
 use Rattle.sled_nodes.specs.declared.node.Node.{Node}
 use Rattle.sled_store.specs.In.{In}
-use Rattle.sled_store.specs.Store.{Store, now, Changes, IsRefused, is_refused_as, IsReadRefused, is_read_refused_as}
+use Rattle.sled_store.specs.Store.{Store, now, view_of, Changes, IsRefused, is_refused_as, IsReadRefused, is_read_refused_as}
 use Rattle.sled_store.specs.declared.page.Page.{Page}
 use Rattle.sled_store.specs.declared.page.View.{View}
 use Rattle.sled_model.specs.Answer.{answer_of, decision_of, key_of, reply_of_read}
@@ -31,20 +31,23 @@ use Rattle.tree_laws.specs.Snapshot.{Snapshot, snapshot_of, nodes_at, HasForest,
 use Rattle.tree_laws.proofs.Viewed.{viewed}
 use Rattle.tree_laws.specs.declared.flight.Stage.TheVariants.{Act}
 use Rattle.sled_tree.specs.Change.{decision_at, link_of, reply_at}
-use Rattle.sled_tree.specs.Course.{first_aim}
+use Rattle.sled_tree.specs.Course.{course_of, first_aim}
 use Rattle.sled_tree.specs.Known.{IsKnown}
 use Rattle.sled_tree.specs.theory.Linking.{PreparesChange}
 use Rattle.sled_tree.specs.theory.Change.{IsChangeOf}
 use Rattle.sled_tree.specs.declared.flight.InFlight.{InFlight}
 use Rattle.sled_tree.specs.declared.flight.Job.{Job}
+use Rattle.sled_tree.specs.declared.flight.Sequel.TheVariants as sequel
 use Rattle.tree_groups.specs.declared.key_write.KeyWrite.{KeyWrite}
-use Rattle.tree_groups.specs.Groups.{IsSettled, job_of, at_leaf, IsLeafOf, AreKnown}
+use Rattle.tree_groups.specs.Groups.{IsSettled, job_of, at_leaf, IsLeafOf, AreKnown, MadeBySteps}
 use Rattle.tree_groups.specs.theory.Groups.{link_with, links_as, LinksWrite, IsReadAgain, KnowsLeaf, MakesAgain, StopsAgain, MakesKnown, StopsKnown}
-use Rattle.tree_groups.specs.Writes.{ActsOften, NoAction, OneAction, is_write_refused_as, Keeps, WrittenAt, KeepsMapsAt, MakesWrite, StopsWriting}
+use Rattle.tree_groups.specs.Steps.{WriteSteps, Ends}
+use Rattle.tree_groups.specs.Writes.{fresh_call, ActsOften, NoAction, OneAction, is_write_refused_as, Keeps, WrittenAt, KeepsMapsAt, MakesWrite, StopsWriting}
 use Rattle.sled_tree.proofs.Facts.{once_acts}
 use Rattle.sled_tree.proofs.Known.{aims}
 use Rattle.sled_tree.proofs.Linking.{link_refused, link_done}
-use Rattle.tree_groups.proofs.Writing.{keeps_first, number_given, IsOnWay, decided_at, refused_at}
+use Rattle.tree_groups.proofs.Stepping.{one_step}
+use Rattle.tree_groups.proofs.Writing.{keeps_first, number_given, IsOnWay, decided_at, refused_at, limit_is}
 
 -- ---- the pages
 
@@ -250,6 +253,23 @@ module _ (w : KeyWrite) (v : View) (a : Store) (numbers : Tree → Option ℕ) (
   prepared : PreparesChange None call_here (Some (record { link = link_with w.key.now w.value.now; reply = reply_here }))
   prepared = record { is = λ view at. subst (λ (u : View). IsChangeOf None (job_of w).call u.node.content (Some (record { link = link_with w.key.now w.value.now; reply = reply_here }))) (same_leaf v view at) (links_with None w.key.now w.value.now v.node.content (known.is f is).1, refl) }
 
+  -- the leaf is as it was read, and nothing is to be repaired there
+  leaf_now : (version : ℕ) (b : Store) → Changes (after_link (link_with w.key.now w.value.now)) v.pid v.version a b (Ok version) → Some v ≡ view_of v.pid ((now a).pages v.pid)
+  leaf_now version b c =
+      let same : c.is.0 ≡ v.node = (known.is f is).0.0.seen.view.speaks (record { version = v.version; node = c.is.0 }) c.is.1 refl in
+      ap (λ (n : Node). Some (record { pid = v.pid; version = v.version; node = n })) (sym same) ∙ sym (ap (view_of v.pid) c.is.1)
+
+  settled_here : IsSettled v.node
+  settled_here = let here = (known.is f is).0 in record { not_merging = here.0.seen.is_open.not_merging; free = here.0.seen.is_open.free; fits = here.1.fits }
+
+  steps_here : (b : Store) (version : ℕ) → Changes (after_link (link_with w.key.now w.value.now)) v.pid v.version a b (Ok version) → MadeBySteps (job_of w) a b
+  steps_here b version c =
+      let s = (link_done (link_with w.key.now w.value.now) a b call_here v refl version call_here c).is None reply_here prepared in record {
+        first = call_here;
+        begins = inr (v, refl, leaf_now version b c, settled_here);
+        steps = Ends (one_step None (course_of call_here) a b call_here (sequel.Decided reply_here) numbers given f is named (known.is f is) (omega (arith, limit_is)) (inr (once_acts c.is.2)) s.advances.is s.follows.is);
+      }
+
   made_here : (b : Store) (version : ℕ) → Changes (after_link (link_with w.key.now w.value.now)) v.pid v.version a b (Ok version) → WrittenAt (job_of w) (snapshot_of a numbers given) f (snapshot_of b numbers given)
   made_here b version c =
       decided_at (job_of w) a a b call_here numbers given f is named here_on_way (plain w.key.now w.value.now) reply_here
@@ -281,6 +301,9 @@ module _ (w : KeyWrite) (pid version : ℕ) (a b : Store) (done : Result Bool Er
     pub link_made : w.leaf ≡ Some (pid, version) → MakesKnown w a b
     link_made at = record {
       acts = link_acts;
+      steps = λ numbers given f is named known.
+          let k = subst (IsLeafOf (snapshot_of a numbers given) (job_of w)) at known in
+          steps_here w k.0 a numbers given f is named k.3 b change.0 (changes_there (link_with w.key.now w.value.now) k.0 pid version k.1 k.2 a b change.0 change.1);
       told = λ numbers given f is named known.
           let k = subst (IsLeafOf (snapshot_of a numbers given) (job_of w)) at known in
           made_here w k.0 a numbers given f is named k.3 b change.0 (changes_there (link_with w.key.now w.value.now) k.0 pid version k.1 k.2 a b change.0 change.1);
@@ -289,6 +312,9 @@ module _ (w : KeyWrite) (pid version : ℕ) (a b : Store) (done : Result Bool Er
     pub again_made : IsReadAgain (now a) w pid version → MakesAgain (job_of w) pid a b
     again_made r = record {
       acts = link_acts;
+      steps = λ numbers given f is named before.
+          steps_here w r.view a numbers given f is named (known_again (snapshot_of a numbers given) w named pid before version r) b change.0
+          (changes_there (link_with w.key.now w.value.now) r.view pid version (viewed pid ((now a).pages pid) r.view r.read).0 r.is a b change.0 change.1);
       told = λ numbers given f is named before.
           made_here w r.view a numbers given f is named (known_again (snapshot_of a numbers given) w named pid before version r) b change.0
           (changes_there (link_with w.key.now w.value.now) r.view pid version (viewed pid ((now a).pages pid) r.view r.read).0 r.is a b change.0 change.1);
@@ -316,8 +342,15 @@ module _ (w : KeyWrite) (pid version : ℕ) (a b : Store) (done : Result Bool Er
 
 -- ---- a write that is read again, or made from the root
 
+from_root : (j : Job) (a b : Store) → WriteSteps a (fresh_call j) b → MadeBySteps j a b
+from_root j a b steps = record { first = fresh_call j; begins = inl refl; steps = steps }
+
 pub root_made : (j : Job) (pid : ℕ) (a b : Store) (r : Result (Unit {0}) Error) → OnOk r (MakesWrite j a b) → OnOk r (MakesAgain j pid a b)
-root_made j pid a b (Ok u) m = record { acts = m.acts; told = λ numbers given f is named before. m.told numbers given f is named }
+root_made j pid a b (Ok u) m = record {
+  acts = m.acts;
+  steps = λ numbers given f is named before. from_root j a b (m.steps numbers given f is named);
+  told = λ numbers given f is named before. m.told numbers given f is named;
+}
 root_made j pid a b (Err e) m = tt
 
 pub root_stopped : (j : Job) (pid : ℕ) (a b : Store) (r : Result (Unit {0}) Error) → IfErr r (StopsWriting j a b) → IfErr r (StopsAgain j pid a b)
@@ -325,7 +358,11 @@ root_stopped j pid a b (Ok u) m = tt
 root_stopped j pid a b (Err e) m = record { last = m.last; acts = m.acts; refused = m.refused; told = λ numbers given f is named before. m.told numbers given f is named }
 
 pub first_made : (w : KeyWrite) (a b : Store) (r : Result (Unit {0}) Error) → OnOk r (MakesWrite (job_of w) a b) → OnOk r (MakesKnown w a b)
-first_made w a b (Ok u) m = record { acts = m.acts; told = λ numbers given f is named known. m.told numbers given f is named }
+first_made w a b (Ok u) m = record {
+  acts = m.acts;
+  steps = λ numbers given f is named known. from_root (job_of w) a b (m.steps numbers given f is named);
+  told = λ numbers given f is named known. m.told numbers given f is named;
+}
 first_made w a b (Err e) m = tt
 
 pub first_stopped : (w : KeyWrite) (a b : Store) (r : Result (Unit {0}) Error) → IfErr r (StopsWriting (job_of w) a b) → IfErr r (StopsKnown w a b)
@@ -337,12 +374,20 @@ module _ (w : KeyWrite) (pid version : ℕ) (at : w.leaf ≡ Some (pid, version)
   knows_leaf m known = let k = subst (IsLeafOf m (job_of w)) at known in (k.0, k.1, k.3)
 
   pub leaf_read_made : (a b : Store) (r : Result (Unit {0}) Error) → OnOk r (MakesAgain (job_of w) pid a b) → OnOk r (MakesKnown w a b)
-  leaf_read_made a b (Ok u) m = record { acts = m.acts; told = λ numbers given f is named known. m.told numbers given f is named (knows_leaf (snapshot_of a numbers given) known) }
+  leaf_read_made a b (Ok u) m = record {
+    acts = m.acts;
+    steps = λ numbers given f is named known. m.steps numbers given f is named (knows_leaf (snapshot_of a numbers given) known);
+    told = λ numbers given f is named known. m.told numbers given f is named (knows_leaf (snapshot_of a numbers given) known);
+  }
   leaf_read_made a b (Err e) m = tt
 
   pub leaf_read_stopped : (a b : Store) (r : Result (Unit {0}) Error) → IfErr r (StopsAgain (job_of w) pid a b) → IfErr r (StopsKnown w a b)
   leaf_read_stopped a b (Ok u) m = tt
   leaf_read_stopped a b (Err e) m = record { last = m.last; acts = m.acts; refused = m.refused; told = λ numbers given f is named known. m.told numbers given f is named (knows_leaf (snapshot_of a numbers given) known) }
+
+  -- .. after a link that came too late
+  pub late_read_made : (a b c : Store) (done : Result Bool Error) → LinksWrite w pid version a done b → done ≡ Ok false → (r : Result (Unit {0}) Error) → OnOk r (MakesAgain (job_of w) pid b c) → OnOk r (MakesKnown w a c)
+  late_read_made a b c done l late r m = leaf_read_made a c r (subst (λ (s : Store). OnOk r (MakesAgain (job_of w) pid s c)) (late_same w pid version a b done l late) m)
 
 -- .. or it cannot be read
 pub unread_stopped : (j : Job) (pid : ℕ) (s : Store) (e : Error) → IsReadRefused pid s e → StopsAgain j pid s s e

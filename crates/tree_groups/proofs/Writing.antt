@@ -1,5 +1,5 @@
 -- The steps of one write of a group.
-use Rattle.std.proofs.Common.{◌≡◌, ℕ, suc, ◌+◌, ◌≤◌, ◌⊎◌, Bool, true, false, List, [], length, Option, Some, None, option_map, sym, refl, ap, ◌∙◌, subst, inl, inr, arith}
+use Rattle.std.proofs.Common.{◌≡◌, ℕ, suc, ◌+◌, ◌<◌, ◌≤◌, ◌⊎◌, Bool, true, false, List, [], length, Option, Some, None, option_map, sym, refl, ap, ◌∙◌, subst, inl, inr, arith}
 use Rattle.std.specs.declared.ops.Bound.TheVariants.{Included}
 use Rattle.sled_nodes.proofs.Basics.{none_some}
 use Rattle.sled_nodes.specs.declared.error.Error.{Error}
@@ -31,7 +31,7 @@ use Rattle.sled_tree.specs.Course.{Course, course, course_of}
 use Rattle.sled_tree.specs.Known.{IsKnown, AreApart}
 use Rattle.sled_tree.specs.Passing.{IsOnPath, StepsOnPath}
 use Rattle.sled_tree.specs.StageAction.{ActsAtMostOnce}
-use Rattle.sled_tree.specs.Follows.{FollowsOn}
+use Rattle.sled_tree.specs.Follows.{Follows, FollowsOn}
 use Rattle.sled_tree.specs.Stages.{Knows, IsOnItsWay}
 use Rattle.sled_tree.specs.theory.StageAction.{StageActionBy, FlightStepBy, Only, is_action_refused_as}
 use Rattle.sled_tree.specs.declared.flight.Aim.TheVariants.{Own}
@@ -42,8 +42,10 @@ use Rattle.sled_tree.specs.declared.flight.Sequel.TheVariants as sequel
 use Rattle.sled_tree.specs.declared.flight.Went.TheVariants.{Moved, Decided, Refused}
 use Rattle.sled_tree.proofs.Facts.{rests}
 use Rattle.sled_tree.proofs.Known.{known_kept, not_own, aims}
+use Rattle.tree_groups.proofs.Stepping.{one_step, turned}
 use Rattle.tree_groups.proofs.Ways.{stays_on_way}
-use Rattle.tree_groups.specs.Writes.{IsFresh, ActsOften, NoAction, OneAction, is_write_refused_as, Keeps, WrittenAt, MakesWrite, KeepsMapsAt, StopsWriting, IsInside, OpenGroupLaw, RefusedGroupLaw, SealedGroupLaw, GroupBoundsLaw}
+use Rattle.tree_groups.specs.Steps.{WriteStep, WriteSteps, Ends, GoesOn}
+use Rattle.tree_groups.specs.Writes.{fresh_call, IsFresh, ActsOften, NoAction, OneAction, is_write_refused_as, Keeps, WrittenAt, MakesWrite, KeepsMapsAt, StopsWriting, IsInside, OpenGroupLaw, RefusedGroupLaw, SealedGroupLaw, GroupBoundsLaw}
 
 -- ---- the store's actions
 
@@ -178,6 +180,9 @@ pub record OnWay (j : Job) (old new : Store) (f : InFlight) : Type 0 where
   pub course_is : course_of f ≡ course j Own
   pub way : IsOnItsWay f.stage
   pub acts : ActsOften old new
+  -- the rest of its steps makes them all
+  pub steps : (numbers : Tree → Option ℕ) (given : ℕ → Bool) (w : Forest) → HasForest (snapshot_of old numbers given) w → numbers j.tree.name ≡ Some j.tree.number
+      → (last : Store) → WriteSteps new f last → WriteSteps old (fresh_call j) last
   pub passes : (path : List ℕ) → IsClean (now old) j.tree.name (Included (key_of j.call)) path → HasPassed j new f path
   pub told : (numbers : Tree → Option ℕ) (given : ℕ → Bool) (w : Forest) → HasForest (snapshot_of old numbers given) w → numbers j.tree.name ≡ Some j.tree.number
       → IsOnWay j (snapshot_of old numbers given) w (snapshot_of new numbers given) f
@@ -187,6 +192,7 @@ on_way_first s f fresh key = record {
   course_is = ap course_of fresh;
   way = subst IsOnItsWay (sym root) tt;
   acts = NoAction;
+  steps = λ numbers given w is named last rest. subst (λ (g : InFlight). WriteSteps s g last) fresh rest;
   passes = λ path clean. record {
     rest = path;
     count = none_passed f.turns (length path) (ap (λ (g : InFlight). g.turns) fresh);
@@ -257,15 +263,25 @@ module _ (j : Job) (old a b : Store) (f : InFlight) (numbers : Tree → Option �
 -- ---- and from the store before the write
 
 module _ (j : Job) (old a : Store) (f : InFlight) (k : OnWay j old a f) (b : Store) where
+  -- one step more
+  step_more : (n : Sequel) → f.turns < turns_limit → ActsAtMostOnce a b → StageActionBy (Only None) (course j Own) a f.stage n b → Follows (course_of f) a f.stage n b
+      → (numbers : Tree → Option ℕ) (given : ℕ → Bool) (w : Forest) → HasForest (snapshot_of old numbers given) w → numbers j.tree.name ≡ Some j.tree.number → WriteStep a f n b
+  step_more n room acts step follows numbers given w is named =
+      let p = k.told numbers given w is named in
+      one_step None (course j Own) a b f n numbers given p.after p.keeps.is named p.knows room acts step follows
+
   on_course : (n : Sequel) → StageActionBy (Only None) (course_of f) a f.stage n b → StageActionBy (Only None) (course j Own) a f.stage n b
   on_course n s = subst (λ (z : Course). StageActionBy (Only None) z a f.stage n b) k.course_is s
 
   -- the call goes on
-  pub on_way_more : IsOnKey j.call → (g : InFlight) → FlightStepBy (Only None) a f Moved b g → StepsOnPath (now a) f Moved (now b) g → FollowsOn a f Moved b g → OnWay j old b g
-  on_way_more key g x further follows = record {
+  pub on_way_more : f.turns < turns_limit → IsOnKey j.call → (g : InFlight) → FlightStepBy (Only None) a f Moved b g → StepsOnPath (now a) f Moved (now b) g → FollowsOn a f Moved b g → OnWay j old b g
+  on_way_more room key g x further follows = record {
     course_is = course_on;
     way = stays_on_way (course_of f) (subst (λ (z : Course). IsOnKey z.call) (sym k.course_is) key) a b f.stage g.stage follows.is;
     acts = often_then k.acts (often_once a b step.touches);
+    steps = λ numbers given w is named last rest.
+        k.steps numbers given w is named last
+        (GoesOn (step_more (sequel.Go g.stage) room step.touches step follows.is numbers given w is named) (subst (λ (h : InFlight). WriteSteps b h last) (turned f g x.is.0 x.is.1 x.is.2) rest));
     passes = λ path clean.
         let p = k.passes path clean in
         let r = further.is p.rest (subst (λ (z : Course). IsOnPath (now a) z f.stage p.rest) (sym k.course_is) p.ahead) in record {
@@ -286,9 +302,10 @@ module _ (j : Job) (old a : Store) (f : InFlight) (k : OnWay j old a f) (b : Sto
       one_passed all t u rest less p q r = omega arith
 
   -- it is decided
-  pub on_way_decided : needs_operator j.call ≡ false → (reply : Reply) (g : InFlight) → FlightStepBy (Only None) a f (Decided reply) b g → MakesWrite j old b
-  on_way_decided plain reply g x = record {
+  pub on_way_decided : f.turns < turns_limit → needs_operator j.call ≡ false → (reply : Reply) (g : InFlight) → FlightStepBy (Only None) a f (Decided reply) b g → FollowsOn a f (Decided reply) b g → MakesWrite j old b
+  on_way_decided room plain reply g x follows = record {
     acts = often_then k.acts (often_once a b step.touches);
+    steps = λ numbers given w is named. k.steps numbers given w is named b (Ends (step_more (sequel.Decided reply) room step.touches step follows.is numbers given w is named));
     told = λ numbers given w is named. decided_at j old a b f numbers given w is named (k.told numbers given w is named) plain reply step;
   }
     where

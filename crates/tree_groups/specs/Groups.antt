@@ -5,7 +5,7 @@ use Rattle.sled_nodes.specs.Node.{count}
 use Rattle.sled_nodes.specs.declared.error.Error.{Error}
 use Rattle.sled_nodes.specs.declared.node.Node.{Node}
 use Rattle.sled_store.specs.State.{GroupBegins, GroupEnds}
-use Rattle.sled_store.specs.Store.{Store, now, after_action, is_refused_as}
+use Rattle.sled_store.specs.Store.{Store, now, view_of, after_action, is_refused_as}
 use Rattle.sled_store.specs.declared.page.View.{View}
 use Rattle.sled_model.specs.Maps.{Map, Merge}
 use Rattle.sled_model.specs.Answer.{answer_of}
@@ -20,7 +20,8 @@ use Rattle.sled_tree.specs.declared.flight.Aim.TheVariants.{Own}
 use Rattle.sled_tree.specs.declared.flight.InFlight.{InFlight}
 use Rattle.sled_tree.specs.declared.flight.Job.{Job}
 use Rattle.tree_groups.specs.declared.key_write.KeyWrite.{KeyWrite}
-use Rattle.tree_groups.specs.Writes.{ActsOften, is_write_refused_as, Keeps}
+use Rattle.tree_groups.specs.Steps.{WriteSteps}
+use Rattle.tree_groups.specs.Writes.{fresh_call, ActsOften, is_write_refused_as, Keeps}
 
 -- nothing is to be repaired at a node
 pub record IsSettled (n : Node) : Type 0 where
@@ -65,6 +66,26 @@ pub record WrittenAll (js : List Job) (m : Snapshot) (w : Forest) (n : Snapshot)
   pub keeps : Keeps m w n after
   pub is : (operator : Option Merge) (t : Tree) → contents (nodes_at n) after t ≡ map_after_jobs operator js t (contents (nodes_at m) w t)
 
+-- where a write begins: at the root of its tree, or at a leaf as it is now, at which nothing is to be repaired
+abbrev pub begins_write : Job → Store → InFlight → Type 0
+begins_write j s f = (f ≡ fresh_call j) ⊎ ((v : View) × (f ≡ at_leaf j v) × (Some v ≡ view_of v.pid ((now s).pages v.pid)) × IsSettled v.node)
+
+-- a write is made by the steps of its call
+pub record MadeBySteps (j : Job) (old new : Store) : Type 0 where
+  pub first : InFlight
+  pub begins : begins_write j old first
+  pub steps : WriteSteps old first new
+
+-- .. and so are all of them, one after the other
+abbrev pub all_by_steps : List Job → Store → Store → Type 0
+all_by_steps [] old new = new ≡ old
+all_by_steps (j ∷ js) old new = (mid : Store) × MadeBySteps j old mid × all_by_steps js mid new
+
+-- Without a write nothing is done. Else a group is begun, its writes are made by the steps of their calls, and it is sealed
+abbrev pub group_by_steps : List Job → Store → Store → Type 0
+group_by_steps [] old new = new ≡ old
+group_by_steps (j ∷ js) old new = (last : Store) × all_by_steps (j ∷ js) (after_action GroupBegins old) last × (new ≡ after_action GroupEnds last)
+
 -- a group was begun, and these actions were done in it
 pub record ActsInside (old last : Store) : Type 0 where
   pub begun : Store
@@ -80,6 +101,8 @@ seals_as (j ∷ js) old new = (last : Store) × ActsInside old last × (new ≡ 
 -- and nothing else of it. The leaves of the writes are to be those of their calls before
 pub record MakesGroup (ws : List KeyWrite) (old new : Store) : Type 0 where
   pub acts : seals_as (jobs_of ws) old new
+  pub steps : (numbers : Tree → Option ℕ) (given : ℕ → Bool) (w : Forest) → HasForest (snapshot_of old numbers given) w → AreNumbered numbers (jobs_of ws) → AreKnown (snapshot_of old numbers given) ws
+      → group_by_steps (jobs_of ws) old new
   pub adds : IsValid (now new) → AddsCrashStates (trees_of (now new) ∷ []) old new
   pub told : (numbers : Tree → Option ℕ) (given : ℕ → Bool) (w : Forest) → HasForest (snapshot_of old numbers given) w → AreNumbered numbers (jobs_of ws) → AreKnown (snapshot_of old numbers given) ws
       → WrittenAll (jobs_of ws) (snapshot_of old numbers given) w (snapshot_of new numbers given)

@@ -1,3 +1,4 @@
+pub mod Steps
 pub mod Writes
 pub mod Groups
 pub mod theory

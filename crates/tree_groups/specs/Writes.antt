@@ -21,6 +21,7 @@ use Rattle.sled_tree.specs.StageAction.{ActsOnce}
 use Rattle.sled_tree.specs.declared.flight.Aim.TheVariants.{Own}
 use Rattle.sled_tree.specs.declared.flight.InFlight.{InFlight}
 use Rattle.sled_tree.specs.declared.flight.Job.{Job}
+use Rattle.tree_groups.specs.Steps.{WriteSteps}
 
 -- a call that has yet to begin
 abbrev pub fresh_call : Job → InFlight
@@ -69,9 +70,10 @@ pub record KeepsMapsAt (m : Snapshot) (w : Forest) (n : Snapshot) : Type 0 where
   pub keeps : Keeps m w n after
   pub same : (t : Tree) → contents (nodes_at n) after t ≡ contents (nodes_at m) w t
 
--- One write is made, at every forest in which the call's tree has its number
+-- One write is made, at every forest in which the call's tree has its number, by the steps of the call from its begin
 pub record MakesWrite (j : Job) (old new : Store) : Type 0 where
   pub acts : ActsOften old new
+  pub steps : (numbers : Tree → Option ℕ) (given : ℕ → Bool) (w : Forest) → HasForest (snapshot_of old numbers given) w → numbers j.tree.name ≡ Some j.tree.number → WriteSteps old (fresh_call j) new
   pub told : (numbers : Tree → Option ℕ) (given : ℕ → Bool) (w : Forest) → HasForest (snapshot_of old numbers given) w → numbers j.tree.name ≡ Some j.tree.number
       → WrittenAt j (snapshot_of old numbers given) w (snapshot_of new numbers given)
 

@@ -16,7 +16,7 @@ use Rattle.tree_laws.specs.Snapshot.{Snapshot, snapshot_of, HasForest, LiesUnder
 use Rattle.sled_tree.specs.Known.{IsKnown}
 use Rattle.sled_tree.specs.declared.flight.Job.{Job}
 use Rattle.tree_groups.specs.declared.key_write.KeyWrite.{KeyWrite}
-use Rattle.tree_groups.specs.Groups.{IsSettled, job_of, jobs_of, at_leaf, IsLeafOf, AreNumbered, AreKnown, WrittenAll, KeepsForests}
+use Rattle.tree_groups.specs.Groups.{IsSettled, job_of, jobs_of, at_leaf, IsLeafOf, AreNumbered, AreKnown, WrittenAll, MadeBySteps, all_by_steps, KeepsForests}
 use Rattle.tree_groups.specs.Writes.{ActsOften, is_write_refused_as, WrittenAt, KeepsMapsAt}
 
 -- the link of a write
@@ -53,6 +53,8 @@ KnowsLeaf m j pid = (v : View) × (v.pid ≡ pid) × IsKnown m (at_leaf j v)
 -- A write is made whose call had read a leaf of this number, at every forest in which what it knew then is true
 pub record MakesAgain (j : Job) (pid : ℕ) (old new : Store) : Type 0 where
   pub acts : ActsOften old new
+  pub steps : (numbers : Tree → Option ℕ) (given : ℕ → Bool) (w : Forest) → HasForest (snapshot_of old numbers given) w → numbers j.tree.name ≡ Some j.tree.number → KnowsLeaf (snapshot_of old numbers given) j pid
+      → MadeBySteps j old new
   pub told : (numbers : Tree → Option ℕ) (given : ℕ → Bool) (w : Forest) → HasForest (snapshot_of old numbers given) w → numbers j.tree.name ≡ Some j.tree.number → KnowsLeaf (snapshot_of old numbers given) j pid
       → WrittenAt j (snapshot_of old numbers given) w (snapshot_of new numbers given)
 
@@ -67,6 +69,8 @@ pub record StopsAgain (j : Job) (pid : ℕ) (old new : Store) (e : Error) : Type
 -- One write is made, at every forest in which its tree has its number and its leaf is that of its call
 pub record MakesKnown (k : KeyWrite) (old new : Store) : Type 0 where
   pub acts : ActsOften old new
+  pub steps : (numbers : Tree → Option ℕ) (given : ℕ → Bool) (w : Forest) → HasForest (snapshot_of old numbers given) w → numbers k.tree.now.name ≡ Some k.tree.now.number → IsLeafOf (snapshot_of old numbers given) (job_of k) k.leaf
+      → MadeBySteps (job_of k) old new
   pub told : (numbers : Tree → Option ℕ) (given : ℕ → Bool) (w : Forest) → HasForest (snapshot_of old numbers given) w → numbers k.tree.now.name ≡ Some k.tree.now.number → IsLeafOf (snapshot_of old numbers given) (job_of k) k.leaf
       → WrittenAt (job_of k) (snapshot_of old numbers given) w (snapshot_of new numbers given)
 
@@ -81,6 +85,8 @@ pub record StopsKnown (k : KeyWrite) (old new : Store) (e : Error) : Type 0 wher
 -- The writes are made
 pub record WritesAll (ws : List KeyWrite) (old new : Store) : Type 0 where
   pub acts : ActsOften old new
+  pub steps : (numbers : Tree → Option ℕ) (given : ℕ → Bool) (w : Forest) → HasForest (snapshot_of old numbers given) w → AreNumbered numbers (jobs_of ws) → AreKnown (snapshot_of old numbers given) ws
+      → all_by_steps (jobs_of ws) old new
   pub told : (numbers : Tree → Option ℕ) (given : ℕ → Bool) (w : Forest) → HasForest (snapshot_of old numbers given) w → AreNumbered numbers (jobs_of ws) → AreKnown (snapshot_of old numbers given) ws
       → WrittenAll (jobs_of ws) (snapshot_of old numbers given) w (snapshot_of new numbers given)
 

@@ -1,5 +1,5 @@
 use Rattle.std.proofs.Common.{ap, ◌∙◌, Ok}
-use Rattle.tree_groups.proofs.Ready.{again_made, again_stopped, unread_stopped}
+use Rattle.tree_groups.proofs.Ready.{again_made, again_stopped, root_made, unread_stopped}
 use Rattle.tree_groups.proofs.leaf.write_again.Goals as goal
 
 pub returns-in-Err-clause-err : goal.returns-in-Err-clause-err
@@ -10,3 +10,6 @@ returns-in-Ok-true-clause-ok g c = again_made _ _ _ _ _ _ c.link_write.ensures (
 
 pub returns-in-Err-link_write-clause-err : goal.returns-in-Err-link_write-clause-err
 returns-in-Err-link_write-clause-err g c = again_stopped _ _ _ _ _ _ c.link_write.ensures _ c.in-Err-link_write.is (rw c.in-Ok-Some.field-0-is at c.in-Ok-Some.ensures.ok)
+
+pub returns-in-Ok-None-clause-ok : goal.returns-in-Ok-None-clause-ok
+returns-in-Ok-None-clause-ok g c = root_made _ _ _ _ _ c.write_from_root.ensures.ok
