@@ -36,7 +36,8 @@ use Rattle.sled.specs.Drops.{DropsNamed, DropsTree, MightDrop, refuses_drop_as, 
 use Rattle.tree_steps.specs.Outcomes.{outcome_of}
 use Rattle.sled.specs.Flights.{call_in_flight_of, BringsEvent, DbStepContract, DbSteps, Ends, GoesOn, DbRunsToEnd, slot_after, maps_added}
 use Rattle.sled.specs.Opens.{Opens, OpensBySteps, OpenRefusedBySteps}
-use Rattle.sled.specs.Groups.{IsQuietGroup, is_loud_group}
+use Rattle.tree_groups.specs.Groups.{group_by_steps}
+use Rattle.sled.specs.Groups.{jobs_of_writes, IsQuietGroup, is_loud_group, is_made_by_steps}
 use Rattle.sled.specs.Imports.{PartBySteps, PartRefusedBySteps, ImportsBySteps, ImportsNone, ImportsMore, ImportStops, ImportRefused}
 use Rattle.sled.specs.Reads.{RefusesReading, refuses_reading_as}
 use Rattle.sled.specs.Pops.{TakesOut, RefusesToTake, IsAtEnd, PopsBySteps, PopRefusedBySteps, IsLongWay, GivesUpPop, ClearsBySteps, ClearsNone, ClearsMore, ClearRefusedBySteps}
@@ -307,6 +308,9 @@ module _ {P M : Type 0} (store : P → Store) (meant : M → Merge) where
 
   pub plain_loud : (batches : List (Tree × Writes)) (old new : DbValue P M) → is_loud_group store meant old batches new → is_loud_group store (λ m. m) (plain old) batches (plain new)
   plain_loud batches old new h some = h (λ none. some (subst (λ (s : State). events_of_writes (writes_of batches) s ≡ []) (sym (same_db old)) none))
+
+  pub plain_steps : (batches : List (Tree × Writes)) (old new : DbValue P M) → is_made_by_steps store meant old batches new → is_made_by_steps store (λ m. m) (plain old) batches (plain new)
+  plain_steps batches old new h = subst (λ (s : State). group_by_steps (jobs_of_writes (writes_of batches) s) (store old.pages) (store new.pages)) (sym (same_db old)) h
 
   -- ---- pops and clears
 

@@ -15,7 +15,7 @@ use Rattle.sled_model.specs.declared.outcome.Outcome.{Outcome}
 use Rattle.sled_model.specs.declared.outcome.Outcome.TheVariants.{Decided, Refused}
 use Rattle.tree_reads.specs.Walk.{once, for_each}
 use Rattle.sled.specs.Values.{DbValue}
-use Rattle.sled.specs.Groups.{IsQuietGroup, is_loud_group}
+use Rattle.sled.specs.Groups.{IsQuietGroup, is_loud_group, is_made_by_steps}
 use Rattle.sled.specs.Drops.{DropsTree, RefusesDrop}
 use Rattle.sled.specs.Opens.{OpensBySteps, OpenRefusedBySteps}
 use Rattle.sled.specs.Pops.{GivesUpPop, PopsBySteps, PopRefusedBySteps, ClearsBySteps, ClearRefusedBySteps}
@@ -45,9 +45,10 @@ drops_tree_as store meant old name (Decided reply) new = (dropped : Bool) × (re
 drops_tree_as store meant old name (Refused e) new = RefusesDrop store meant old name e new
 drops_tree_as store meant old name o new = Unit {0}
 
--- a group that brings no event does nothing, and if it is decided one that brings an event was begun and sealed
+-- A group that brings no event does nothing. If it is decided one that brings an event was begun and sealed, and in it each write that
+-- brings one was made by the steps of its call
 abbrev pub groups_as : {P M : Type 0} → (P → Store) → (M → Merge) → DbValue P M → List (Tree × Writes) → Outcome → DbValue P M → Type 0
-groups_as store meant old batches (Decided reply) new = IsQuietGroup store meant old batches new × is_loud_group store meant old batches new
+groups_as store meant old batches (Decided reply) new = IsQuietGroup store meant old batches new × is_loud_group store meant old batches new × is_made_by_steps store meant old batches new
 groups_as store meant old batches (Refused e) new = IsQuietGroup store meant old batches new
 groups_as store meant old batches o new = Unit {0}
 

@@ -23,7 +23,8 @@ use Rattle.sled_model.proofs.Tests.{first_none}
 use Rattle.sled_model.proofs.Shapes.{after_write, answer_of_write, call_of_write, same_value}
 use Rattle.sled_tree.specs.declared.flight.Job.{Job}
 use Rattle.tree_groups.specs.Groups.{AreNumbered, map_after_jobs}
-use Rattle.sled.specs.theory.Groups.{jobs_of_write, jobs_of_writes, events_of_call, events_of_jobs}
+use Rattle.sled.specs.Groups.{jobs_of_write, jobs_of_writes}
+use Rattle.sled.specs.theory.Groups.{events_of_call, events_of_jobs}
 
 -- ---- what writes make of the state
 

@@ -30,7 +30,7 @@ use Rattle.tree_laws.proofs.Crashing.{extends_same}
 use Rattle.tree_laws.proofs.Reading.{one_law}
 use Rattle.sled_tree.specs.declared.flight.Job.{Job}
 use Rattle.tree_groups.specs.declared.key_write.KeyWrite.{KeyWrite}
-use Rattle.tree_groups.specs.Groups.{jobs_of, AreNumbered, map_after_jobs, WrittenAll, ActsInside, seals_as, KeepsForests, LeavesGroup}
+use Rattle.tree_groups.specs.Groups.{jobs_of, AreNumbered, map_after_jobs, WrittenAll, ActsInside, seals_as, KeepsForests, LeavesGroup, group_by_steps}
 use Rattle.tree_groups.specs.Writes.{ActsOften, NoAction, OneAction, is_write_refused_as, Keeps}
 use Rattle.tree_groups.proofs.Writing.{keeps_first}
 use Rattle.tree_groups.proofs.Ready.{refused_store}
@@ -39,8 +39,8 @@ use Rattle.sled.specs.Calls.{MustBeRefused, must_be_refused_as}
 use Rattle.sled.specs.Sound.{IsDb}
 use Rattle.sled.specs.Flights.{IsStepRefused}
 use Rattle.sled.specs.Direct.{is_left_open, effect_of_group, StaysInChainOrWent, KeepsOrFreesTreePages, LeavesAll, WholeDecided, WholeRefused}
-use Rattle.sled.specs.Groups.{GroupDecided, GroupRefused, is_as_it_was, IsQuietGroup}
-use Rattle.sled.specs.theory.Groups.{jobs_of_writes, Finds, unread, events_of_jobs, MakesAll, StopsAll}
+use Rattle.sled.specs.Groups.{jobs_of_writes, GroupDecided, GroupRefused, is_as_it_was, IsQuietGroup}
+use Rattle.sled.specs.theory.Groups.{Finds, unread, events_of_jobs, MakesAll, StopsAll}
 use Rattle.sled.proofs.Grouped.{AreCurrent, tree_after, with_slots, writes_change, writes_beside, trees_written, events_written, no_events, jobs_numbered, tested_current, tested_open}
 use Rattle.sled.proofs.Resting.{Rests, rests_same, rests_only_faults, rests_step, now_rests}
 use Rattle.sled.proofs.Testing.{first_alone, untold_fault}
@@ -337,6 +337,9 @@ module _ {P M : Type 0} (store : P → Store) (meant : M → Merge) (old : DbVal
           subscribers_given = m.tells.count i;
         }
 
+        steps_so : group_by_steps jobs (store old.pages) (store p)
+        steps_so = subst (λ js. group_by_steps js (store old.pages) (store p)) found.jobs (m.makes.steps (numbers_of old.trees) (given_to old.trees_given) db.forest db.is numbered_found found.known)
+
         pub group_made : GroupDecided store meant old batches new
         group_made = record {
           maps = maps_of (db_state store meant new) ∷ [];
@@ -350,6 +353,7 @@ module _ {P M : Type 0} (store : P → Store) (meant : M → Merge) (old : DbVal
           leaves = leaves_so written.after written.keeps seals.mark (subst IsCalm (sym held_so) delivers.calm) (maps_of (db_state store meant new) ∷ []) adds_now;
           same = refl;
           loud = λ some. sealed_loud jobs (store old.pages) (store p) (λ none. some (sym (events_written (writes_of batches) before current) ∙ ap events_of_jobs none)) acts_so;
+          steps = steps_so;
         }
 
         pub made_quiet : IsQuietGroup store meant old batches new

@@ -20,7 +20,8 @@ use Rattle.sled_model.specs.declared.decision.Effect.TheVariants as effect
 use Rattle.sled_model.specs.declared.tree.Tree.{Tree}
 use Rattle.sled_model.proofs.Shapes.{after_write, answer_of_write, call_of_write, same_value}
 use Rattle.sled_tree.specs.declared.flight.Job.{Job}
-use Rattle.sled.specs.theory.Groups.{jobs_of_write, value_in}
+use Rattle.sled.specs.Groups.{jobs_of_write}
+use Rattle.sled.specs.theory.Groups.{value_in}
 
 -- ---- the order of keys
 

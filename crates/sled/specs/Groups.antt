@@ -1,23 +1,40 @@
 -- The outcome of a group of writes.
-use Rattle.std.specs.Prelude.{◌≡◌, ◌≢◌, ◌⊎◌, ℕ, List, [], Option, Some, None}
+use Rattle.std.specs.Prelude.{◌≡◌, ◌≢◌, ◌⊎◌, ℕ, List, [], ◌∷◌, ◌++◌, map, Option, Some, None}
+use Rattle.std.specs.Option.{option_to_list}
 use Rattle.sled_nodes.specs.declared.error.Error.{Error}
 use Rattle.sled_batch.specs.Batch.{Writes}
 use Rattle.sled_store.specs.State.{GroupEnds}
 use Rattle.sled_store.specs.Store.{Store, after_action}
 use Rattle.sled_model.specs.Maps.{Maps, Merge}
-use Rattle.sled_model.specs.Groups.{writes_of, events_of_writes, DecidesGroup, StopsGroup}
+use Rattle.sled_model.specs.Answer.{answer_of}
+use Rattle.sled_model.specs.Groups.{Write, call_with, after_write_on, writes_of, events_of_writes, DecidesGroup, StopsGroup}
 use Rattle.sled_model.specs.Refusal.{trees_of_batches, must_refuse_of}
-use Rattle.sled_model.specs.State.{CallInFlight}
+use Rattle.sled_model.specs.State.{State, NamedTree, CallInFlight}
 use Rattle.sled_model.specs.declared.reply.Reply.TheVariants.{Done}
 use Rattle.sled_model.specs.declared.tree.Tree.{Tree}
-use Rattle.tree_groups.specs.Groups.{ActsInside}
+use Rattle.sled_tree.specs.declared.flight.Job.{Job}
+use Rattle.tree_groups.specs.Groups.{ActsInside, group_by_steps}
 use Rattle.sled.specs.Values.{DbValue, state_of, db_state}
 use Rattle.sled.specs.Direct.{LeavesAll, is_left_open, effect_of_group}
+
+-- the call of a write that brings an event, if it brings one
+abbrev pub jobs_of_write : Option NamedTree → Write → List Job
+jobs_of_write None w = []
+jobs_of_write (Some t) w = map (λ e. record { tree = w.tree; call = call_with w.key w.value }) (option_to_list (answer_of t.merge (call_with w.key w.value) t.map).event)
+
+-- the calls of those of these writes that bring an event, if all are made one after the other
+abbrev pub jobs_of_writes : List Write → State → List Job
+jobs_of_writes [] s = []
+jobs_of_writes (w ∷ ws) s = jobs_of_write (s.trees w.tree.name) w ++ jobs_of_writes ws (after_write_on (s.trees w.tree.name) w s)
 
 module _ {P M : Type 0} (store : P → Store) (meant : M → Merge) (old : DbValue P M) (batches : List (Tree × Writes)) where
   -- a group that brings an event was begun, its writes were made, and it was sealed
   abbrev pub is_loud_group : DbValue P M → Type 0
   is_loud_group new = events_of_writes (writes_of batches) (db_state store meant old) ≢ [] → (last : Store) × ActsInside (store old.pages) last × (store new.pages ≡ after_action GroupEnds last)
+
+  -- each of its writes that brings an event was made by the steps of its call, and nothing else was done
+  abbrev pub is_made_by_steps : DbValue P M → Type 0
+  is_made_by_steps new = group_by_steps (jobs_of_writes (writes_of batches) (db_state store meant old)) (store old.pages) (store new.pages)
 
   -- A group was decided, in whatever machine the database is
   pub record GroupDecided (new : DbValue P M) : Type 0 where
@@ -27,6 +44,7 @@ module _ {P M : Type 0} (store : P → Store) (meant : M → Merge) (old : DbVal
     pub leaves : LeavesAll store maps None old new
     pub same : new ≡ record old { pages = new.pages; queues = new.queues }
     pub loud : is_loud_group new
+    pub steps : is_made_by_steps new
 
   -- the state is as it was: open if it was, whatever calls are in flight
   abbrev pub is_as_it_was : DbValue P M → Type 0

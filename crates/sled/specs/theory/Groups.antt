@@ -1,7 +1,7 @@
 -- Of Groups, for inner functions and proofs. How a group is made ready, and then made.
-use Rattle.std.specs.Prelude.{◌≡◌, ℕ, ◌⊎◌, List, [], ◌∷◌, ◌++◌, map, Bool, false, Option, Some, None}
+use Rattle.std.specs.Prelude.{◌≡◌, ℕ, ◌⊎◌, List, [], ◌∷◌, ◌++◌, Bool, false, Option, Some, None}
 use Rattle.std.specs.FinMap.Entries.{find}
-use Rattle.std.specs.Option.{option_to_list, option_eq}
+use Rattle.std.specs.Option.{option_eq}
 use Rattle.std.specs.Str.{bytes_eq}
 use Rattle.std.specs.declared.ops.Bound.TheVariants.{Included}
 use Rattle.sled_nodes.specs.Node.{value_at}
@@ -11,8 +11,6 @@ use Rattle.sled_nodes.specs.declared.error.Error.TheVariants.{NoMemory, Reportab
 use Rattle.sled_nodes.specs.declared.texts.TheConstants.{WALK_PASSED_TURNS}
 use Rattle.sled_store.specs.Store.{Store, now, refuses_read_as}
 use Rattle.sled_store.specs.declared.page.View.{View}
-use Rattle.sled_model.specs.Answer.{answer_of}
-use Rattle.sled_model.specs.Groups.{Write, call_with, after_write_on}
 use Rattle.sled_model.specs.State.{State, NamedTree}
 use Rattle.sled_model.specs.declared.call.Call.{Call}
 use Rattle.sled_model.specs.declared.call.Call.TheVariants as call
@@ -29,16 +27,6 @@ use Rattle.tree_groups.specs.Groups.{IsSettled, AreKnown, jobs_of, MakesGroup, L
 use Rattle.sled_tree.specs.declared.flight.Job.{Job}
 
 -- ---- the writes that change something
-
--- the call of a write that brings an event, if it brings one
-abbrev pub jobs_of_write : Option NamedTree → Write → List Job
-jobs_of_write None w = []
-jobs_of_write (Some t) w = map (λ e. record { tree = w.tree; call = call_with w.key w.value }) (option_to_list (answer_of t.merge (call_with w.key w.value) t.map).event)
-
--- the calls of those of these writes that bring an event, if all are made one after the other
-abbrev pub jobs_of_writes : List Write → State → List Job
-jobs_of_writes [] s = []
-jobs_of_writes (w ∷ ws) s = jobs_of_write (s.trees w.tree.name) w ++ jobs_of_writes ws (after_write_on (s.trees w.tree.name) w s)
 
 -- writes do these jobs, and each leaf is that of its call
 pub record Finds (m : Snapshot) (js : List Job) (writes : List KeyWrite) : Type 0 where
