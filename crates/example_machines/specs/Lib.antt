@@ -11,6 +11,7 @@ pub use Rattle.sled_queues.specs as sled_queues
 pub use Rattle.tree_laws.specs as tree_laws
 pub use Rattle.tree_reads.specs as tree_reads
 pub use Rattle.sled_tree.specs as sled_tree
+pub use Rattle.tree_groups.specs as tree_groups
 pub use Rattle.tree_steps.specs as tree_steps
 pub use Rattle.sled.specs as sled
 pub use Rattle.machine_alone.specs as machine_alone

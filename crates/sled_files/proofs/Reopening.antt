@@ -92,7 +92,7 @@ module _ {D : Type 0} (seen : D → List ℕ) (may_leave : D → List ℕ → Ty
 
   opens_as : Opens seen may_leave first second files m → OpensTo seen may_leave first second files (over (store_of m.pages).mark 0 (store_of m.pages))
   opens_as (inl o) = inl (record { durable = o.durable; stand = o.stand; alone = o.alone; ready = o.ready; first_stays = o.first_stays; second_stays = o.second_stays; reopened = reopened_over o.durable (store_of m.pages) o.reopened })
-  opens_as (inr n) = inr (record { blanks = n.blanks; ready = n.ready; empty = ap (λ (s : Store). over s.mark 0 s) n.empty })
+  opens_as (inr n) = inr (record { blanks = n.blanks; ready = n.ready; grown = n.grown; second_stays = n.second_stays; empty = ap (λ (s : Store). over s.mark 0 s) n.empty })
 
   pub opens_to : Opens seen may_leave first second files m → (f : Stored D) → f ≡ opened_with files m → OpensTo seen may_leave first second f.files (stored_as f)
   opens_to o f is = subst (λ (x : Stored D). OpensTo seen may_leave first second x.files (stored_as x)) (sym is) (opens_as o)

@@ -10,7 +10,7 @@ use Rattle.sled_files.specs.declared.found.OpenError.TheVariants.{NoMemory, Disk
 use Rattle.sled_files.specs.Change.{Durable, nothing_yet}
 use Rattle.sled_files.specs.Flaws.{is_flaw}
 use Rattle.sled_files.specs.Standing.{AreFor, AreBlank, IsBegun}
-use Rattle.sled_files.specs.Files.{Files, IsReady}
+use Rattle.sled_files.specs.Files.{Files, IsReady, GrowsTo}
 use Rattle.sled_files.specs.Stored.{Stored}
 
 -- two files are those of a store, or of one that is still to be made
@@ -105,10 +105,12 @@ pub record Recovers {D : Type 0} (seen : D → List ℕ) (may_leave : D → List
   pub second_stays : seen files.second ≡ second
   pub reopened : IsReopened durable s
 
--- both files were blank, and a new store was begun
+-- Both files were blank, and a new store was begun in the first. No byte was added behind its gate, and the second stays as it was
 pub record Begins {D : Type 0} (seen : D → List ℕ) (may_leave : D → List ℕ → Type 0) (first second : List ℕ) (files : Files D) (s : Store) : Type 0 where
   pub blanks : AreBlank first second
   pub ready : IsReady seen may_leave files nothing_yet
+  pub grown : GrowsTo files.gate first (seen files.first)
+  pub second_stays : seen files.second ≡ second
   pub empty : s ≡ empty_store
 
 -- what two files are opened to, as a store

@@ -4,7 +4,7 @@ ghost use Rattle.sled_disk.specs.Disk.{Only, NoMore, LeavesOnly, is_caused};
 ghost use Rattle.sled_pages.specs.Memory.{store_of, empty_store};
 ghost use Rattle.sled_files.specs.Change.{nothing_yet};
 ghost use Rattle.sled_files.specs.Standing.{IsBlank, IsBegun};
-ghost use Rattle.sled_files.specs.Files.{picked, faults_in, IsReady};
+ghost use Rattle.sled_files.specs.Files.{picked, faults_in, IsReady, GrowsTo};
 ghost use Rattle.sled_files.specs.theory.Found.{AreReadOrLent};
 ghost use Rattle.sled_files.specs.theory.Chosen.{IsOpened};
 ghost use Rattle.sled_files.specs.theory.Reopened.{Opens, OpensStore};
@@ -136,6 +136,7 @@ fn begin<D: Disk>(
     ensures empty { IfOk result (λ x. (store_of x.1.pages ≡ empty_store) × (x.1.pids ≡ 0) × (x.1.versions ≡ 0)) }
     ensures first { IfOk result (λ x. LeavesOnly D.moment D.left_since first x.0.first (IsBegun (D.seen first) 1 nothing_yet)) }
     ensures first_now { IfOk result (λ x. (c : List ℕ) → D.may_leave x.0.first c → IsBegun (D.seen first) 1 nothing_yet c) }
+    ensures grown { IfOk result (λ x. GrowsTo x.0.gate (D.seen first) (D.seen x.0.first)) }
     ensures second { IfOk result (λ x. x.0.second ≡ second) }
     ensures calm { IfOk result (λ x. D.faults x.0.first ≡ D.faults first) }
     ensures refused { IfErr result (λ x. LeavesOnly D.moment D.left_since first x.first (IsBegun (D.seen first) 1 nothing_yet)) }

@@ -4,7 +4,7 @@ use Rattle.sled_pages.specs.Memory.{store_of, calls_refused, empty_store}
 use Rattle.sled_files.specs.declared.replay.Made.{Made}
 use Rattle.sled_files.specs.Change.{Durable, nothing_yet}
 use Rattle.sled_files.specs.Standing.{AreFor, AreBlank}
-use Rattle.sled_files.specs.Files.{Files, IsReady}
+use Rattle.sled_files.specs.Files.{Files, IsReady, GrowsTo}
 use Rattle.sled_files.specs.Opening.{IsReopened}
 
 -- the store that the files stand for, and for nothing else
@@ -24,6 +24,8 @@ pub record OpensStore {D : Type 0} (seen : D → List ℕ) (may_leave : D → Li
 pub record OpensNew {D : Type 0} (seen : D → List ℕ) (may_leave : D → List ℕ → Type 0) (first second : List ℕ) (f : Files D) (store : Made) : Type 0 where
   pub blanks : AreBlank first second
   pub ready : IsReady seen may_leave f nothing_yet
+  pub grown : GrowsTo f.gate first (seen f.first)
+  pub second_stays : seen f.second ≡ second
   pub empty : store_of store.pages ≡ empty_store
   pub pids : store.pids ≡ 0
   pub versions : store.versions ≡ 0

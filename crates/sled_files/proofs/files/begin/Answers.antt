@@ -2,7 +2,7 @@ use Rattle.std.proofs.Common.{[], sym, ap, subst}
 use Rattle.sled_disk.specs.Disk.{LeavesOnly}
 use Rattle.sled_files.specs.Change.{nothing_yet}
 use Rattle.sled_files.specs.Standing.{IsBegun}
-use Rattle.sled_files.specs.Files.{Files}
+use Rattle.sled_files.specs.Files.{Files, GrowsTo}
 use Rattle.sled_files.proofs.OfStore.{of_none}
 use Rattle.sled_files.proofs.Grows.{spells_none}
 use Rattle.sled_files.proofs.Readying.{ready_new}
@@ -21,6 +21,10 @@ returns-in-Ok-clause-first g c =
 pub returns-in-Ok-clause-first_now : goal.returns-in-Ok-clause-first_now
 returns-in-Ok-clause-first_now g c left may =
     left_now g.D.Disk.may_leave (c.begin_file-begun.ensures.any_moment [] spells_none of_none) c.law_counts_now.ensures left (subst (λ (x : g.row.D.Denot). g.D.Disk.may_leave x left) (ap (λ (f : Files g.row.D.Denot). f.first) c.new.ensures) may)
+
+pub returns-in-Ok-clause-grown : goal.returns-in-Ok-clause-grown
+returns-in-Ok-clause-grown g c =
+    subst (λ (f : Files g.row.D.Denot). GrowsTo f.gate (g.D.Disk.seen c.args.first) (g.D.Disk.seen f.first)) (sym c.new.ensures) c.in-Ok.ensures.grown
 
 pub returns-in-Err-clause-refused : goal.returns-in-Err-clause-refused
 returns-in-Err-clause-refused g c = c.begin_file-begun.ensures.any_moment [] spells_none of_none
