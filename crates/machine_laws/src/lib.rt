@@ -2,8 +2,9 @@
 //!
 //! A machine's calls in flight share their pages: each repairs what others left half done, and what one changes sends others back to the
 //! root. Here it is said that they do not do so for ever. No more steps come out as `Moved` in a row than `moves_bound` of `move_laws`
-//! says, a number of the pages and of the calls in flight, whichever slot each step is of. So of one step more at least one returns
-//! something: a reply, a pair, or why the call is refused. As each of them ends a call on a key, steps of such calls end (`law_ends`).
+//! says, a number of the pages and of the calls in flight, whichever slot each step is of. So of one step more, each of a slot that has a
+//! call, at least one returns something: a reply, a pair, or why the call is refused. As a reply and a refusal end a call on a key, steps of
+//! such calls end (`law_ends`).
 //!
 //! It is said of the calls together: one of them may be overtaken for ever by others that are decided, if new calls begin. Nothing is said
 //! of the time that a step takes.

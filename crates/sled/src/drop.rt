@@ -21,8 +21,9 @@ impl<P: Pages, M: MergeOperator> Db<P, M> {
     ghost use Rattle.sled.specs.Promises.{DropsMap, RefusesCall};
     ghost use Rattle.sled.specs.Wholes.{LeavesAfter};
 
-    /// Drops the tree of a name, and answers whether there was one. The name can be opened anew, as an empty tree; every
-    /// `Tree` of before is answered with `CollectionNotFound` from now on, and so is each call in flight on it at its next step.
+    /// Drops the tree of a name, and answers whether there was one. The name can be opened anew, as an empty tree. Until the
+    /// next opening of the database every `Tree` of before is answered with `CollectionNotFound`, and so is each call in flight
+    /// on it at its next step.
     ///
     /// The tree's first pages are read, its root is taken out, which decides, and its pages are freed (tested, not proved).
     /// Refused with `Closed`; for the default tree with `Unsupported`; and with `Io` and `NoMemory` before the root goes:

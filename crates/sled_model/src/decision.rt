@@ -63,8 +63,8 @@ impl Call {
         Ok(Some(Reply::Value(value)))
     }
 
-    /// What the call does and replies if this value is at its key, by the merge operator of its tree, which is called once,
-    /// and by a merge alone. Refused with `NoMemory` alone.
+    /// What the call does and replies if this value is at its key, by the merge operator of its tree. Refused with `NoMemory`
+    /// alone.
     ///
     /// ```
     /// let decision = call.at_link(alloc, Some(value), Some(&Adds))?; // Its effect on the key, and its reply.

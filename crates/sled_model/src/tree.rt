@@ -5,14 +5,15 @@ ghost use Rattle.sled_nodes.specs.declared.error.Error.TheVariants.{NoMemory};
 use sled_nodes::{IVec, Result};
 
 /// Names a tree of a database: by the database's name, the tree's name, and the number that the tree was given when it
-/// was made. Once the tree is dropped the value is refused with `CollectionNotFound`, also after the name is opened anew.
+/// was made or the database opened. Once the tree is dropped the value is refused with `CollectionNotFound`, also after the
+/// name is opened anew, until the database itself is opened again.
 #[derive(Debug, Drop, PartialEq, Eq)]
 pub struct Tree {
     /// The name that the database was opened under.
     pub database: IVec,
     /// The tree's name.
     pub name: IVec,
-    /// The tree's number, which is never given twice.
+    /// The tree's number. None is given twice between one opening of a database and the next.
     pub number: u64,
 }
 
