@@ -351,6 +351,8 @@ impl<D: Disk> FilePages<D> {
         // The file that counted is the other one now, no byte was added behind the gate of the one that counts, and the limits are far.
         ensures renewed { (now (stored_as self.old)).in_group ≡ false → OnOk result (FlushesAnew D.seen self.old self.new) }
         ensures kept { OnErr result (self.new.limits ≡ self.old.limits) }
+        // What was to be flushed stays.
+        ensures pending { OnErr result (self.new.pending ≡ self.old.pending) }
         ensures up { (now (stored_as self.old)).in_group ≡ false → OnOk result ((self.old.files.failed ≡ false) × (self.new.files.failed ≡ false)) }
         ensures err { IfErr result (λ e. IsRefused e (stored_as self.old) (stored_as self.new)) }
         ensures cause { IfErr result (λ e. IsUnstored D.faults (IsLast self.old) self.old.files self.new.files self.old.faults e) }
@@ -464,6 +466,7 @@ impl<D: Disk> FilePages<D> {
         ensures number { IfOk result (λ n. n ≡ length (stored_as self.old).recent) }
         ensures grown { OnOk result (FlushesOn D.seen self.old self.new) }
         ensures kept { OnErr result (self.new.limits ≡ self.old.limits) }
+        ensures pending { OnErr result (self.new.pending ≡ self.old.pending) }
         ensures up { OnOk result ((self.old.files.failed ≡ false) × (self.new.files.failed ≡ false)) }
         ensures err { IfErr result (λ e. IsRefused e (stored_as self.old) (stored_as self.new)) }
         ensures cause { IfErr result (λ e. IsUnstored D.faults (LacksRoom self.old) self.old.files self.new.files self.old.faults e) }
@@ -510,6 +513,7 @@ impl<D: Disk> FilePages<D> {
         ensures number { IfOk result (λ n. n ≡ length (stored_as self.old).recent) }
         ensures renewed { OnOk result (FlushesAnew D.seen self.old self.new) }
         ensures kept { OnErr result (self.new.limits ≡ self.old.limits) }
+        ensures pending { OnErr result (self.new.pending ≡ self.old.pending) }
         ensures up { OnOk result ((self.old.files.failed ≡ false) × (self.new.files.failed ≡ false)) }
         ensures err { IfErr result (λ e. IsRefused e (stored_as self.old) (stored_as self.new)) }
         ensures cause { IfErr result (λ e. IsUnstored D.faults (IsLast self.old) self.old.files self.new.files self.old.faults e) }
@@ -537,6 +541,7 @@ impl<D: Disk> FilePages<D> {
         ensures number { IfOk result (λ n. n ≡ length (stored_as self.old).recent) }
         ensures renewed { OnOk result (FlushesAnew D.seen self.old self.new) }
         ensures kept { OnErr result (self.new.limits ≡ self.old.limits) }
+        ensures pending { OnErr result (self.new.pending ≡ self.old.pending) }
         ensures up { OnOk result ((self.old.files.failed ≡ false) × (self.new.files.failed ≡ false)) }
         ensures err { IfErr result (λ e. IsRefused e (stored_as self.old) (stored_as self.new)) }
         ensures cause { IfErr result (λ e. IsUnstored D.faults (IsLast self.old) self.old.files self.new.files self.old.faults e) }
@@ -773,6 +778,8 @@ impl<D: Disk + Send> Pages for FilePages<D> {
         ensures cause { IfErr result (λ e. is_due self.old ≡ false → IsUnstored D.faults (LacksRoom self.old) self.old.files self.new.files self.old.faults e) }
         ensures cause_due { IfErr result (λ e. is_due self.old ≡ true → FailsAnew D.faults self.old self.new e ⊎ FailsOn D.faults self.old self.new e) }
         ensures kept { OnErr result (self.new.limits ≡ self.old.limits) }
+        // What was to be flushed stays.
+        ensures pending { OnErr result (self.new.pending ≡ self.old.pending) }
         ensures asked { self.new.asked ≡ self.old.asked }
         ensures limits { AreRaised self.old.limits self.new.limits }
         ensures any_moment { LeavesPairs D.moment D.left_since D.may_leave self.old.files self.new.files (IsLasting (asked_of self.old.asked) self.old.limits (stored_as self.old)) }

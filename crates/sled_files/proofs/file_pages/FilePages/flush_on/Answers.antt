@@ -103,3 +103,8 @@ returns-then-failed-clause-any_moment g c = rw (← c.self.view_is) (moments_non
 
 pub invariant_of-self : goal.invariant_of-self
 invariant_of-self g c = sound_faults g.D.Disk.seen g.D.Disk.may_leave _ c.fault.new.faults c.self.invariant
+
+pub returns-in-Err-add-clause-pending : goal.returns-in-Err-add-clause-pending
+returns-in-Err-add-clause-pending g c =
+    let same : c.len-len.result ≡ length c.self.inside.pending.items = search rules in
+    rw (← c.self.view_is) (c.truncate.ensures.items ∙ taken_out c.len-len.result c.in_default.ensures.ok same)
