@@ -16,6 +16,7 @@ pub mod Ungiven
 pub mod Pairs
 pub mod Grows
 pub mod Over
+pub mod Sizing
 pub mod Snapping
 pub mod Anew
 pub mod Raising

@@ -1,5 +1,5 @@
 -- Changes that make of nothing what a store is now.
-use Rattle.std.proofs.Common.{Bool, ◌+◌, ◌≡◌, ◌<◌, ℕ, nat_eq, nat_lt, nat_le, cond, true, false, List, [], ◌∷◌, ◌++◌, Option, Some, None, refl, sym, ◌∙◌, ap, subst, arith, append_assoc}
+use Rattle.std.proofs.Common.{Bool, length, length-append, ◌+◌, ◌≡◌, ◌<◌, ℕ, nat_eq, nat_lt, nat_le, cond, true, false, List, [], ◌∷◌, ◌++◌, Option, Some, None, refl, sym, ◌∙◌, ap, subst, arith, append_assoc}
 use Rattle.std.proofs.Math.Path.{fun_ext}
 use Rattle.std.proofs.lemmas.Bool.Decides.{nat_tests}
 use Rattle.std.proofs.lemmas.Bool.{eqb-true}
@@ -15,13 +15,15 @@ use Rattle.sled_store.specs.declared.page.Page.{Page}
 use Rattle.sled_store.specs.State.{State}
 use Rattle.sled_store.specs.Store.{Store, now, AreGiven, IsRoots, view_of}
 use Rattle.sled_store.specs.declared.page.View.{View}
-use Rattle.std.specs.Prelude.{Result, Ok, Err, OnOk}
+use Rattle.std.specs.Prelude.{Result, Ok, Err, OnOk, map}
+use Rattle.std.specs.List.{flat_map}
+use Rattle.sled_files.specs.Snapshot.{given_as, rooted_as, changes_length}
 use Rattle.sled_store.specs.theory.Facts.{fresh_page}
 use Rattle.sled_bytes.specs.declared.change.Change.{Change}
 use Rattle.sled_bytes.specs.declared.change.Change.TheVariants.{Given, Rooted, Marked, Limited}
 use Rattle.sled_bytes.specs.Spelling.{change_bytes, FitsChange}
 use Rattle.sled_files.specs.Change.{Durable, nothing_yet, changed}
-use Rattle.sled_files.specs.theory.Snapshot.{Makes, with_page, only, pages_below, pages_rooted, durable_now}
+use Rattle.sled_files.specs.theory.Snapshot.{Makes, with_page, only, pages_below, pages_rooted, durable_now, page_length}
 use Rattle.sled_files.specs.theory.Spelled.{WereGiven}
 use Rattle.sled_files.proofs.Adding.{changed_both}
 use Rattle.sled_files.proofs.Grows.{spells_none, spells_more}
@@ -70,6 +72,15 @@ pub spells_page : {E : Type 0} (store : Store) (before after : List ℕ) (pid : 
     → OnOk spelled ((d : Durable) → Makes store before d → Makes store after (with_page pid ((now store).pages pid) d))
 spells_page store before after pid v node spelled given is same bytes fits =
     on_both spelled bytes fits (λ b f d m. makes_page pid (record { version = v.version; node = node }) given (seen pid ((now store).pages pid) v is ∙ ap (λ (n : Node). Some (record { version = v.version; node = n })) (sym same)) m f b)
+
+-- and how much longer that is
+pub sizes_page : {E : Type 0} (store : Store) (before after : List ℕ) (pid : ℕ) (v : View) (node : Node) (spelled : Result (Unit {0}) E) → Some v ≡ view_of pid ((now store).pages pid) → node ≡ v.node → OnOk spelled (after ≡ before ++ change_bytes (Given pid v.version node))
+    → OnOk spelled (length after ≡ length before + page_length pid ((now store).pages pid))
+sizes_page store before after pid v node spelled is same bytes =
+    on_both spelled bytes bytes (λ b _. ap length b ∙ length-append before (change_bytes (Given pid v.version node)) ∙ ap (λ (o : Option Page). length before + page_length pid o) (sym (seen pid ((now store).pages pid) v is ∙ ap (λ (n : Node). Some (record { version = v.version; node = n })) (sym same))))
+
+pub sizes_no_page : (pid : ℕ) (page : Option Page) (n : ℕ) → None ≡ view_of pid page → n ≡ n + page_length pid page
+sizes_no_page pid page n is = subst (λ (o : Option Page). n ≡ n + page_length pid o) (sym (missing pid page is)) (omega arith)
 
 pub spells_no_page : {store : Store} {bytes : List ℕ} (pid : ℕ) (page : Option Page) → None ≡ view_of pid page → (d : Durable) → Makes store bytes d → Makes store bytes (with_page pid page d)
 spells_no_page {store} {bytes} pid page is d m = subst (λ (o : Option Page). Makes store bytes (with_page pid o d)) (sym (missing pid page is)) m
@@ -155,9 +166,13 @@ pub record Roots (store : Store) (before : List ℕ) (left : List (Key × ℕ)) 
   pub done : List (Key × ℕ)
   pub are : left ++ done ≡ all
   pub made : Makes store before (only (now store).pages (λ _. None)) → Makes store bytes (pages_rooted (now store) done)
+  pub long : length bytes ≡ length before + changes_length (map rooted_as done)
 
 pub roots_none : {store : Store} {all : List (Key × ℕ)} (bytes : List ℕ) → IsRoots (now store) all → Roots store bytes all bytes
-roots_none {store} {all} bytes is = record { all = all; is = is; done = []; are = append-nil all; made = λ m. m }
+roots_none {store} {all} bytes is = record { all = all; is = is; done = []; are = append-nil all; made = λ m. m; long = omega arith }
+
+root_length : (after bytes before c done all : ℕ) → after ≡ bytes + c → bytes ≡ before + done → all ≡ c + done → after ≡ before + all
+root_length after bytes before c done all first second third = omega (arith, first, second, third)
 
 pub roots_push : {store : Store} {before bytes after : List ℕ} {left rest : List (Key × ℕ)} (key name : Key) (pid : ℕ) → key ≡ name → Roots store before left bytes → left ≡ rest ++ (key, pid) ∷ [] → FitsChange (Rooted name (Some pid)) → after ≡ bytes ++ change_bytes (Rooted name (Some pid))
     → Roots store before rest after
@@ -167,6 +182,7 @@ roots_push {store} {before} {bytes} {after} {left} {rest} key name pid same r is
   done = (name, pid) ∷ r.done;
   are = sym (append_assoc rest ((name, pid) ∷ []) r.done) ∙ ap (λ (l : List (Key × ℕ)). l ++ r.done) (ap (λ (k : Key). rest ++ (k, pid) ∷ []) (sym same) ∙ sym is) ∙ r.are;
   made = λ m. makes_same (root_more (now store) r.done name pid) (makes_more (Rooted name (Some pid)) (r.made m) fits tt more);
+  long = root_length _ _ _ _ _ _ (ap length more ∙ length-append bytes (change_bytes (Rooted name (Some pid)))) r.long (length-append (change_bytes (Rooted name (Some pid))) (flat_map change_bytes (map rooted_as r.done)));
 }
 
 pub roots_done : {store : Store} {before bytes : List ℕ} {left : List (Key × ℕ)} → Roots store before left bytes → left ≡ [] → Makes store before (only (now store).pages (λ _. None)) → Makes store bytes (only (now store).pages (now store).roots)

@@ -7,6 +7,7 @@ pub mod Pending
 pub mod Files
 pub mod Opening
 pub mod Stored
+pub mod Snapshot
 pub mod Raised
 pub mod Codes
 pub mod Laws

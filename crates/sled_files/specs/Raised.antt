@@ -1,8 +1,9 @@
 -- How far the limits of page numbers and versions are raised, by which call, and how many bytes that adds to the log.
 use Rattle.std.specs.Prelude.{◌≡◌, ◌⊎◌, ◌+◌, ◌-◌, ◌≤◌, ◌<◌, ◌^◌, ◌&&◌, ◌==◌, ℕ, Bool, true, min, max, nat_lt, if◌then◌else◌, List, [], length}
-use Rattle.sled_store.specs.Store.{Store}
+use Rattle.sled_store.specs.Store.{Store, now}
 use Rattle.sled_files.specs.Lasting.{Limits}
 use Rattle.sled_files.specs.Files.{IsGrown, IsRenewed}
+use Rattle.sled_files.specs.Snapshot.{IsSnapshot}
 use Rattle.sled_files.specs.Stored.{Stored, stored_as}
 
 -- the page numbers that were given are those below the first of these, and the versions those below the second
@@ -55,9 +56,10 @@ pub record FlushesOn {D : Type 0} (seen : D → List ℕ) (old new : Stored D) :
   pub idle : old.pending ≡ [] → new.limits ≡ old.limits
   pub limits : 0 < length old.pending → RaisesNear (stored_as old) old.limits new.limits
 
--- a flush began the other file anew, with limits that are far, as far as 64 bits go
+-- a flush began the other file anew with a snapshot, and with limits that are far, as far as 64 bits go
 pub record FlushesAnew {D : Type 0} (seen : D → List ℕ) (old new : Stored D) : Type 0 where
   pub files : IsRenewed seen old.files new.files
+  pub snapshot : IsSnapshot (now (stored_as old)) old.mark new.limits new.files.snapshot
   pub limits : RaisesNear (stored_as old) old.limits new.limits
 
 -- before a number was given, the limits were raised by a block of their own

@@ -334,6 +334,7 @@ impl<D: Disk> FilePages<D> {
     ghost use Rattle.sled_files.specs.Stored.{stored_as, asked_of, KeepsRule};
     ghost use Rattle.sled_files.specs.Codes.{IsUnstored, LacksRoom, IsLast, StopsOnlyAsFailed, SaysThatItFailed};
     ghost use Rattle.sled_files.specs.Raised.{FlushesOn, FlushesAnew};
+    ghost use Rattle.sled_files.specs.Snapshot.{IsSnapshot};
     ghost use Rattle.sled_files.specs.theory.Snapshot.{Makes, durable_now};
     ghost use Rattle.sled_files.specs.Files.{LeavesPairs};
     ghost use Rattle.sled_files.specs.Lasting.{IsLasting};
@@ -437,6 +438,7 @@ impl<D: Disk> FilePages<D> {
     // What the store is now, with these limits.
     fn whole_with(&self, pids: u64, versions: u64) -> Result<Vec<u8>>
         ensures ok { IfOk result (λ bytes. Makes (store_of self.now.pages) bytes.items (durable_now (stored_as self.now) self.now.mark pids versions)) }
+        ensures long { IfOk result (λ bytes. IsSnapshot (now (stored_as self.now)) self.now.mark (record { pids = pids; versions = versions }) (length bytes.items)) }
         ensures err { IfErr result (λ e. e ≡ NoMemory) }
     {
         match snapshot(self.alloc, &self.pages, self.mark, pids, versions) {
@@ -507,6 +509,7 @@ impl<D: Disk> FilePages<D> {
     fn flush_anew(&mut self, whole: &[u8], pids: u64, versions: u64) -> Result<usize>
         requires out { (now (stored_as self.old)).in_group ≡ false }
         requires whole { Makes (store_of self.old.pages) whole.now (durable_now (stored_as self.old) self.old.mark pids versions) }
+        requires long { IsSnapshot (now (stored_as self.old)) self.old.mark (record { pids = pids; versions = versions }) (length whole.now) }
         requires raised { AreRaised self.old.limits (record { pids = pids; versions = versions }) }
         requires near { RaisesNear (stored_as self.old) self.old.limits (record { pids = pids; versions = versions }) }
         ensures ok { OnOk result (stored_as self.new ≡ after_flush (stored_as self.old)) }

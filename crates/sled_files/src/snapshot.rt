@@ -1,10 +1,11 @@
 //! What a store is now, spelled as changes that make it of nothing.
-ghost use Rattle.std.specs.Prelude.{◌≡◌, IfOk, IfErr, OnOk, None};
+ghost use Rattle.std.specs.Prelude.{◌≡◌, ◌+◌, length, IfOk, IfErr, OnOk, None};
 ghost use Rattle.sled_nodes.specs.declared.error.Error.TheVariants.{NoMemory};
 ghost use Rattle.sled_store.specs.Store.{now};
 ghost use Rattle.sled_pages.specs.Memory.{store_of};
 ghost use Rattle.sled_files.specs.Change.{Durable};
-ghost use Rattle.sled_files.specs.theory.Snapshot.{Makes, with_page, only, durable_now};
+ghost use Rattle.sled_files.specs.Snapshot.{IsSnapshot};
+ghost use Rattle.sled_files.specs.theory.Snapshot.{Makes, with_page, only, durable_now, page_length, GivesPages, SetsRoots};
 
 use crate::spelled::spell;
 use sled_bytes::{Change, encode_given, encode_rooted};
@@ -16,6 +17,7 @@ use std::alloc::Global;
 // Adds what makes a page, if there is the page.
 fn spell_page(alloc: Global, pages: &MemPages, out: &mut Vec<u8>, pid: Pid) -> Result<()>
     ensures ok { OnOk result ((d : Durable) → Makes (store_of pages.now) out.old.items d → Makes (store_of pages.now) out.new.items (with_page pid ((now (store_of pages.now)).pages pid) d)) }
+    ensures long { OnOk result (length out.new.items ≡ length out.old.items + page_length pid ((now (store_of pages.now)).pages pid)) }
     ensures err { IfErr result (λ e. e ≡ NoMemory) }
 {
     match pages.read(alloc, pid) {
@@ -35,6 +37,7 @@ fn spell_page(alloc: Global, pages: &MemPages, out: &mut Vec<u8>, pid: Pid) -> R
 // What makes all pages.
 fn spell_pages(alloc: Global, pages: &MemPages) -> Result<Vec<u8>>
     ensures ok { IfOk result (λ bytes. Makes (store_of pages.now) bytes.items (only (now (store_of pages.now)).pages (λ _. None))) }
+    ensures long { IfOk result (λ bytes. GivesPages (now (store_of pages.now)) (length bytes.items)) }
     ensures err { IfErr result (λ e. e ≡ NoMemory) }
 {
     law_given(pages);
@@ -54,6 +57,7 @@ fn spell_pages(alloc: Global, pages: &MemPages) -> Result<Vec<u8>>
 // Adds what makes all roots. The last of them is spelled first.
 fn spell_roots(alloc: Global, pages: &MemPages, out: &mut Vec<u8>) -> Result<()>
     ensures ok { OnOk result (Makes (store_of pages.now) out.old.items (only (now (store_of pages.now)).pages (λ _. None)) → Makes (store_of pages.now) out.new.items (only (now (store_of pages.now)).pages (now (store_of pages.now)).roots)) }
+    ensures long { OnOk result (SetsRoots (now (store_of pages.now)) (length out.old.items) (length out.new.items)) }
     ensures err { IfErr result (λ e. e ≡ NoMemory) }
 {
     let mut roots = match pages.roots(alloc) {
@@ -82,6 +86,7 @@ pub fn snapshot(
     versions: u64,
 ) -> Result<Vec<u8>>
     ensures ok { IfOk result (λ bytes. Makes (store_of pages.now) bytes.items (durable_now (store_of pages.now) mark pids versions)) }
+    ensures long { IfOk result (λ bytes. IsSnapshot (now (store_of pages.now)) mark (record { pids = pids; versions = versions }) (length bytes.items)) }
     ensures err { IfErr result (λ e. e ≡ NoMemory) }
 {
     let mut out = match spell_pages(alloc, pages) {

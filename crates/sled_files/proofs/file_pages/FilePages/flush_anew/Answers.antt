@@ -1,4 +1,4 @@
-use Rattle.std.proofs.Common.{◌≡◌, ◌∙◌, inl, inr, ⊎_elim, refl, ap, sym, subst, false}
+use Rattle.std.proofs.Common.{length, ℕ, ◌≡◌, ◌∙◌, inl, inr, ⊎_elim, refl, ap, sym, subst, false}
 use Rattle.sled_store.specs.Store.{now}
 use Rattle.sled_pages.specs.Memory.{store_of}
 use Rattle.sled_files.specs.Stored.{Stored, stored_as}
@@ -9,6 +9,7 @@ use Rattle.sled_files.proofs.Over.{own_fault}
 use Rattle.sled_files.proofs.Added.{sound_refused}
 use Rattle.sled_files.proofs.Anew.{whole_of, sound_anew, moments_anew, unchanged}
 use Rattle.sled_files.specs.Raised.{RaisesNear}
+use Rattle.sled_files.specs.Snapshot.{IsSnapshot}
 use Rattle.sled_files.proofs.file_pages.FilePages.flush_anew.Goals as goal
 
 pub invariant_of-self : goal.invariant_of-self
@@ -58,8 +59,10 @@ pub returns-clause-renewed : goal.returns-clause-renewed
 returns-clause-renewed g c =
     let raised : Limits = record { pids = c.args.pids; versions = c.args.versions } in
     let near : RaisesNear (stored_as c.args.self.now) c.args.self.now.limits raised = c.requires.near in
+    let whole : IsSnapshot (now (store_of c.self.inside.pages)) c.self.inside.mark raised (length c.args.whole.now) = subst (λ (v : Stored g.row.D.Denot). IsSnapshot (now (stored_as v)) v.mark raised (length c.args.whole.now)) (sym c.self.view_is) c.requires.long in
     rw (← c.self.view_is) (record {
       files = c.in_default.ensures.renewed;
+      snapshot = subst (λ (long : ℕ). IsSnapshot (now (store_of c.self.inside.pages)) c.self.inside.mark raised long) (sym c.in_default.ensures.snapshot) whole;
       limits = subst (λ (v : Stored g.row.D.Denot). RaisesNear (stored_as v) v.limits raised) (sym c.self.view_is) near;
     })
 
