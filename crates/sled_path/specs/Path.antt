@@ -1,8 +1,8 @@
 -- The outcome of opening a database in a folder.
-use Rattle.std.specs.Prelude.{◌≡◌, ◌⊎◌, ℕ, List, length, Bool, true}
+use Rattle.std.specs.Prelude.{ℕ, List, length, Bool, true}
 use Rattle.sled_nodes.specs.Order.{Key}
-use Rattle.sled_nodes.specs.declared.error.Error.{Error}
-use Rattle.sled_nodes.specs.declared.error.Error.TheVariants as error
+use Rattle.sled_nodes.specs.declared.error.Error.TheVariants.{NoMemory, Corruption}
+use Rattle.sled_nodes.specs.declared.error.Fault.{Fault}
 use Rattle.sled_store.specs.Store.{Store, now}
 use Rattle.sled_files.specs.Files.{Files}
 use Rattle.sled_files.specs.Stored.{Stored, stored_as, asked_of}
@@ -17,7 +17,7 @@ use Rattle.sled_host.specs.declared.pair.Opening.{Opening}
 use Rattle.sled_host.specs.declared.pair.HostError.TheVariants as host
 use Rattle.sled.specs.Values.{DbValue}
 use Rattle.sled.specs.Opens.{Opens}
-use Rattle.sled.specs.Checked.{RefusesChecked, IsFit}
+use Rattle.sled.specs.Checked.{RefusesFit, IsFit}
 use Rattle.sled_path.specs.declared.error.OpenError.{OpenError}
 use Rattle.sled_path.specs.declared.error.OpenError.TheVariants.{NotAStore, OtherFormat, Decayed, Locked, Io, Disk, Database}
 
@@ -44,14 +44,13 @@ pub record AreRefused (known : Bool → HostFile → HostFile → Type 0) (e : f
   pub are : known is_locked first second
   pub why : is_why_unopened e (bytes_of first) (bytes_of second)
 
--- the store that was opened is refused by a database for this
-pub record IsUnfit {D : Type 0} (seen : D → List ℕ) (may_leave : D → List ℕ → Type 0) (known : Bool → HostFile → HostFile → Type 0) (e : Error) : Type 0 where
+-- a store was opened whose pages are not those of a database. The check of them found this
+pub record IsUnfit {D : Type 0} (seen : D → List ℕ) (may_leave : D → List ℕ → Type 0) (known : Bool → HostFile → HostFile → Type 0) (finding : Fault) : Type 0 where
   pub files : Files D
   pub store : Store
-  pub left : Store
   pub is_locked : Bool
   pub is : StoreOver seen may_leave (known is_locked) files store
-  pub why : RefusesChecked store e left
+  pub why : RefusesFit store (Corruption finding)
 
 -- What the operating system refused: want of memory, and a database that is open elsewhere, have names of their own. That there are no
 -- locks is no cause unless they are needed
@@ -74,7 +73,7 @@ GoesOnFrom old found = GoesOn (asked_of old.asked) old.limits (stored_as old) fo
 -- `NotAStore`, `OtherFormat`, `Decayed`: what was read of the two files is not a store, and this is wrong with it.
 -- `Locked`: nothing is claimed. The code returns it if the system answered that a file is open elsewhere.
 -- `Io`: want of memory and `Locked` have names of their own, and that there are no locks is a cause only if they are needed.
--- `Disk`: no want of memory. The code returns it if both files were opened, and a later call of one was refused.
+-- `Disk`: no want of memory. The code returns it if both files were opened, and a later call of one was refused, or one of the store for a fault.
 -- `Database`: want of memory, or the files have a store and its pages are not those of a database.
 abbrev pub is_why_closed_over : {D : Type 0} → (D → List ℕ) → (D → List ℕ → Type 0) → (Bool → HostFile → HostFile → Type 0) → Opening → OpenError → Type 0
 is_why_closed_over seen may_leave known opening NotAStore = AreRefused known file.TheVariants.NotAStore
@@ -83,7 +82,9 @@ is_why_closed_over seen may_leave known opening (Decayed place) = AreRefused kno
 is_why_closed_over seen may_leave known opening Locked = Unit {0}
 is_why_closed_over seen may_leave known opening (Io e) = is_of_system opening e
 is_why_closed_over seen may_leave known opening (Disk e) = is_fault e
-is_why_closed_over seen may_leave known opening (Database e) = (e ≡ error.NoMemory) ⊎ IsUnfit seen may_leave known e
+is_why_closed_over seen may_leave known opening (Database NoMemory) = Unit {0}
+is_why_closed_over seen may_leave known opening (Database (Corruption finding)) = IsUnfit seen may_leave known finding
+is_why_closed_over seen may_leave known opening (Database e) = ⊥
 
 -- two files as they were found
 abbrev pub AreAsFound : Opening → Bool → HostFile → HostFile → Type 0

@@ -1,16 +1,21 @@
 //! Why a database is not opened in a folder.
 ghost use Rattle.std.specs.Prelude.{Bool};
-ghost use Rattle.sled_files.specs.Opening.{is_why_closed as is_why_unfiled};
+ghost use Rattle.sled_store.specs.Store.{Store};
+ghost use Rattle.sled_files.specs.Files.{Files};
+ghost use Rattle.sled_files.specs.Opening.{is_fault, is_why_closed as is_why_unfiled};
 ghost use Rattle.sled_host.specs.Host.{bytes_of};
 ghost use Rattle.sled_host.specs.Pair.{OpensPair, is_why_unpaired};
 ghost use Rattle.sled_host.specs.declared.host.HostFile.{HostFile};
 ghost use Rattle.sled_host.specs.declared.pair.Opening.{Opening};
-ghost use Rattle.sled_path.specs.Path.{is_why_closed};
-ghost use Rattle.sled_path.specs.Once.{AreWhole, is_why_closed_once};
+ghost use Rattle.sled_once.specs.Once.{Once};
+ghost use Rattle.sled.specs.Checked.{RefusesChecked};
+ghost use Rattle.sled_path.specs.Path.{StoreIn, is_why_closed};
+ghost use Rattle.sled_path.specs.Once.{AreWhole, StoreOnceIn, is_why_closed_once};
 
 use sled_disk::DiskError;
+use sled_files::DISK_FULL;
 use sled_host::HostError;
-use sled_nodes::Error;
+use sled_nodes::{Error, Fault};
 use std::fmt::{self, Display, Formatter, Write};
 
 /// Why a database is not opened in a folder.
@@ -65,6 +70,28 @@ pub(crate) fn of_disk(e: DiskError) -> OpenError
     match e {
         DiskError::NoMemory => OpenError::Database(Error::NoMemory),
         e => OpenError::Disk(e),
+    }
+}
+
+// What a disk did, by the fault of the store.
+fn of_fault(fault: Fault) -> DiskError
+    ensures { is_fault result }
+{
+    if fault.0 == DISK_FULL {
+        DiskError::Full
+    } else {
+        DiskError::Failed
+    }
+}
+
+// Why no database was opened over the store. A fault of the store is one of its disks, but that its numbers are used up.
+pub(crate) fn of_database(e: Error) -> OpenError
+    ensures why { (opening : Opening) (is_locked : Bool) (files : Files HostFile) (store left : Store) → StoreIn opening is_locked files store → RefusesChecked store e left → is_why_closed opening result }
+    ensures why_once { (opening : Opening) (is_locked : Bool) (files : Files (Once HostFile)) (store left : Store) → StoreOnceIn opening is_locked files store → RefusesChecked store e left → is_why_closed_once opening result }
+{
+    match e {
+        Error::Io(fault) => OpenError::Disk(of_fault(fault)),
+        e => OpenError::Database(e),
     }
 }
 

@@ -3,7 +3,7 @@ ghost use Rattle.std.specs.Prelude.{◌≡◌, true, IfOk, IfErr};
 ghost use Rattle.sled_host.specs.Pair.{OpensPair};
 ghost use Rattle.sled_path.specs.Once.{AreWhole, OpensOnceIn, GoesOnOnce, again_of, is_why_closed_once};
 
-use crate::error::{OpenError, of_disk, of_files, of_host};
+use crate::error::{OpenError, of_database, of_disk, of_files, of_host};
 use files_once::{OneSync, law_lasts_as_read, mend_both, open_mended};
 use sled::Db;
 use sled_files::FilePages;
@@ -94,7 +94,7 @@ pub fn open_once<M: MergeOperator>(
         Ok(db) => Ok((db.with_operators::<M>(), is_locked)),
         Err((pages, e)) => {
             drop(pages);
-            Err(OpenError::Database(e))
+            Err(of_database(e))
         }
     }
 }

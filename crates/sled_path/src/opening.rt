@@ -2,7 +2,7 @@
 ghost use Rattle.std.specs.Prelude.{◌≡◌, true, IfOk, IfErr};
 ghost use Rattle.sled_path.specs.Path.{OpensIn, GoesOnIn, is_why_closed, usual};
 
-use crate::error::{OpenError, of_files, of_host};
+use crate::error::{OpenError, of_database, of_files, of_host};
 use sled::Db;
 use sled_files::{FilePages, law_lasts};
 use sled_host::{HostFile, Opening, Pair, open_pair};
@@ -78,7 +78,7 @@ pub fn open_with<M: MergeOperator>(
         Ok(db) => Ok((db.with_operators::<M>(), is_locked)),
         Err((pages, e)) => {
             drop(pages);
-            Err(OpenError::Database(e))
+            Err(of_database(e))
         }
     }
 }

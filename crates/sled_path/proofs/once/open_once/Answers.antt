@@ -1,4 +1,3 @@
-use Rattle.std.proofs.Common.{inr}
 use Rattle.sled_files.specs.Stored.{stored_as}
 use Rattle.sled.proofs.Operating.{bare_opens}
 use Rattle.sled_path.proofs.once.open_once.Goals as goal
@@ -15,11 +14,6 @@ returns-in-Ok-open_checked-clause-ok g c = let pages = c.in-Ok-open_mended.pages
 
 pub returns-in-Err-open_checked-clause-err : goal.returns-in-Err-open_checked-clause-err
 returns-in-Err-open_checked-clause-err g c = let pages = c.in-Ok-open_mended.pages in
-    inr (record {
-      files = pages.files;
-      store = stored_as pages;
-      left = stored_as c.in-Err-open_checked.pages;
-      is_locked = c.in-Ok.pair.is_locked;
-      is = record { first = c.in-Ok.pair.first; second = c.in-Ok.pair.second; are = c.in-Ok.ensures.whole; opens = c.in-Ok-open_mended.ensures.opens };
-      why = c.in-Err-open_checked.ensures.err;
-    })
+    c.of_database.ensures.why_once c.args.opening c.in-Ok.pair.is_locked pages.files (stored_as pages) (stored_as c.in-Err-open_checked.pages)
+    (record { first = c.in-Ok.pair.first; second = c.in-Ok.pair.second; are = c.in-Ok.ensures.whole; opens = c.in-Ok-open_mended.ensures.opens })
+    c.in-Err-open_checked.ensures.err

@@ -1,4 +1,3 @@
-use Rattle.std.proofs.Common.{inr}
 use Rattle.sled_files.specs.Stored.{stored_as}
 use Rattle.sled.proofs.Operating.{bare_opens}
 use Rattle.sled_path.proofs.opening.open_with.Goals as goal
@@ -24,11 +23,6 @@ returns-in-Err-open-clause-err g c = c.of_files-why.ensures.why c.args.opening c
 
 pub returns-in-Err-open_checked-clause-err : goal.returns-in-Err-open_checked-clause-err
 returns-in-Err-open_checked-clause-err g c = let pages = c.in-Ok-open.pages in
-    inr (record {
-      files = pages.files;
-      store = stored_as pages;
-      left = stored_as c.in-Err-open_checked.pages;
-      is_locked = c.in-Ok.pair.is_locked;
-      is = record { first = c.in-Ok.pair.first; second = c.in-Ok.pair.second; are = c.in-Ok.ensures.pair; opens = c.in-Ok-open.ensures.opens };
-      why = c.in-Err-open_checked.ensures.err;
-    })
+    c.of_database.ensures.why c.args.opening c.in-Ok.pair.is_locked pages.files (stored_as pages) (stored_as c.in-Err-open_checked.pages)
+    (record { first = c.in-Ok.pair.first; second = c.in-Ok.pair.second; are = c.in-Ok.ensures.pair; opens = c.in-Ok-open.ensures.opens })
+    c.in-Err-open_checked.ensures.err
