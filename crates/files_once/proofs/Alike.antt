@@ -54,7 +54,7 @@ module _ (file c : List ℕ) (read : IsReadAs file c) where
         let read_as : log_to_tear digest c ≡ (header generation ++ first) ∷ others = same_read ∙ whole_is file ((header generation ++ first) ∷ others) log in
         ⊎_elim
         (λ it. absurd (it.1 (record { generation = generation; first = first; others = others; read = read_as })))
-        (λ it. it.1 ∙ ap (λ (ps : List (List ℕ)). Ok ps) read_as)
+        (λ it. it.log ∙ ap (λ (ps : List (List ℕ)). Ok ps) read_as)
         m
 
     stands_mended : (generation : ℕ) (d : Durable) → StandsFor file generation d → StandsFor mended generation d
@@ -74,7 +74,7 @@ module _ (file c : List ℕ) (read : IsReadAs file c) where
         let is : c ≡ file = ⊎_elim (λ is. is) (λ it. absurd (it.1 none)) read in
         ⊎_elim
         (λ it. subst (λ (l : List ℕ). IsBlank l) (sym (it.0 ∙ is)) blank)
-        (λ it. inr (it.1 ∙ ap (λ (ps : List (List ℕ)). Ok ps) (same_read ∙ none)))
+        (λ it. inr (it.log ∙ ap (λ (ps : List (List ℕ)). Ok ps) (same_read ∙ none)))
         m
 
     behind_mended : (generation : ℕ) → IsBlank file ⊎ IsOlder generation file → IsBlank mended ⊎ IsOlder generation mended

@@ -1,6 +1,6 @@
 -- What a crash leaves of the disks of an opening that was refused.
-use Rattle.std.proofs.Common.{◌≡◌, ◌∙◌, inl, inr, ⊎_elim, ℕ, List, [], ◌∷◌, ◌++◌, refl, sym, ap, subst}
-use Rattle.std.specs.Prelude.{◌⊎◌, Ok}
+use Rattle.std.proofs.Common.{◌≡◌, ◌∙◌, inl, inr, ℕ, List, [], ◌∷◌, refl, sym, subst}
+use Rattle.std.specs.Prelude.{◌⊎◌}
 use Rattle.sled_disk.specs.Disk.{Only, NoMore}
 use Rattle.sled_log.specs.Digest.{digest}
 use Rattle.sled_log.specs.Tear.{log_to_tear}
@@ -10,7 +10,7 @@ use Rattle.sled_files.specs.Standing.{IsBlank, AreBlank, IsBegun}
 use Rattle.sled_files.specs.declared.found.OpenError.{OpenError}
 use Rattle.sled_once.specs.Stages.{IsReadAs, IsReadAsOne, LeavesReadAs}
 use Rattle.sled_once.proofs.Reading.{torn_of, told_of_none}
-use Rattle.files_once.specs.Mended.{IsMended, BeginsAsStore, LeftMeanwhile, LeftOrBegun}
+use Rattle.files_once.specs.Mended.{IsMended, IsMadeWhole, BeginsAsStore, LeftMeanwhile, LeftOrBegun}
 use Rattle.files_once.proofs.Alike.{of_equal, whole_is, blank_is}
 
 pub no_more : (files may_leave : List ℕ → Type 0) → NoMore files may_leave → LeavesReadAs files may_leave
@@ -41,16 +41,18 @@ only_seen file before may_leave only stays c left = (file, stays, inl (only c le
 pub mended_read : (before after : List ℕ) → IsMended before after → IsReadAs before after
 mended_read before after (inl same) = inl same.0
 mended_read before after (inr m) =
-    let b : BeginsAsStore before = m.0 in
-    inr (whole_is after (log_to_tear digest before) m.1, λ none. let read : log_to_tear digest before ≡ b.payload ∷ b.others = b.read in cc)
+    let w : IsMadeWhole before after = m in
+    let b : BeginsAsStore before = w.began in
+    inr (whole_is after (log_to_tear digest before) w.log, λ none. let read : log_to_tear digest before ≡ b.payload ∷ b.others = b.read in cc)
 
 -- one that is blank then was not changed
 pub blank_same : (before after : List ℕ) → IsMended before after → IsBlank after → after ≡ before
 blank_same before after (inl same) blank = same.0
 blank_same before after (inr m) blank =
-    let b : BeginsAsStore before = m.0 in
+    let w : IsMadeWhole before after = m in
+    let b : BeginsAsStore before = w.began in
     let read : log_to_tear digest before ≡ b.payload ∷ b.others = b.read in
-    let none : log_to_tear digest before ≡ [] = sym (whole_is after (log_to_tear digest before) m.1) ∙ blank_is after blank in
+    let none : log_to_tear digest before ≡ [] = sym (whole_is after (log_to_tear digest before) w.log) ∙ blank_is after blank in
     absurd (cc)
 
 pub left_meanwhile : (before : List ℕ → Type 0) (file : List ℕ) → before file → (c : List ℕ) → LeftMeanwhile before file c → IsReadAsOne before c

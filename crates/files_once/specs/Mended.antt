@@ -1,8 +1,8 @@
 -- A file of a store that a crash may have torn, and what is made of it before it is opened.
-use Rattle.std.specs.Prelude.{◌≡◌, ◌⊎◌, ℕ, List, ◌∷◌, ◌++◌, take, Ok}
+use Rattle.std.specs.Prelude.{◌≡◌, ◌⊎◌, ℕ, List, [], ◌∷◌, ◌++◌, take, Ok}
 use Rattle.sled_disk.specs.Disk.{Only}
 use Rattle.sled_log.specs.Digest.{digest}
-use Rattle.sled_log.specs.Log.{log_of}
+use Rattle.sled_log.specs.Log.{closed, blocks, log_of}
 use Rattle.sled_log.specs.Tear.{log_to_tear}
 use Rattle.sled_files.specs.Change.{nothing_yet}
 use Rattle.sled_files.specs.Header.{magic, header, format}
@@ -25,9 +25,16 @@ pub record BeginsAsStore (file : List ℕ) : Type 0 where
   pub begins : take 8 payload ≡ magic
   pub same : format_in payload ≡ format
 
--- A file after it was mended: a log of what was read up to the tear, if it began as one of a store. One that is none of a store stays as it is
+-- A file that began as one of a store was made whole: a log of what was read up to the tear, whose closed gate is the last byte. So one that
+-- was whole stays as it is, but for what was behind its gate
+pub record IsMadeWhole (before after : List ℕ) : Type 0 where
+  pub began : BeginsAsStore before
+  pub log : log_of digest after ≡ Ok (log_to_tear digest before)
+  pub is : after ≡ blocks digest (log_to_tear digest before) ++ closed ∷ []
+
+-- A file after it was mended. One that is none of a store stays as it is
 abbrev pub IsMended : List ℕ → List ℕ → Type 0
-IsMended before after = ((after ≡ before) × (IsOfStore before → ⊥)) ⊎ (BeginsAsStore before × (log_of digest after ≡ Ok (log_to_tear digest before)))
+IsMended before after = ((after ≡ before) × (IsOfStore before → ⊥)) ⊎ IsMadeWhole before after
 
 -- Both disks have what they had, mended where a crash had torn it, and nothing else is left by a crash
 pub record StayMended {D : Type 0} (seen : D → List ℕ) (may_leave : D → List ℕ → Type 0) (first second first_then second_then : D) : Type 0 where

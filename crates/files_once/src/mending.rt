@@ -1,13 +1,11 @@
 //! A file of a store that a crash may have torn is made whole.
-ghost use Rattle.std.specs.Prelude.{◌≡◌, ◌⊎◌, ◌↔◌, ◌∷◌, [], ◌++◌, ℕ, List, true, false, take, IsTrue, IfOk, IfErr, OnOk, Ok};
+ghost use Rattle.std.specs.Prelude.{◌≡◌, ◌⊎◌, ◌↔◌, ◌∷◌, [], ◌++◌, ℕ, List, true, false, take, IsTrue, IfOk, IfErr, OnOk};
 ghost use Rattle.sled_disk.specs.Disk.{Only, LeavesOnly, HasCause};
 ghost use Rattle.sled_disk.specs.declared.disk.DiskError.TheVariants.{NoMemory};
-ghost use Rattle.sled_log.specs.Digest.{digest};
-ghost use Rattle.sled_log.specs.Log.{closed, log_of};
-ghost use Rattle.sled_log.specs.Tear.{log_to_tear};
+ghost use Rattle.sled_log.specs.Log.{closed};
 ghost use Rattle.sled_files.specs.Flaws.{format_in};
 ghost use Rattle.sled_files.specs.Header.{magic, header, format};
-ghost use Rattle.files_once.specs.Mended.{IsOfStore, BeginsAsStore, IsMended, LeftMeanwhile};
+ghost use Rattle.files_once.specs.Mended.{IsOfStore, BeginsAsStore, IsMadeWhole, IsMended, LeftMeanwhile};
 
 use sled_disk::{Disk, DiskError, Result, law_only_now};
 use sled_log::{mend, read_all, read_to_tear};
@@ -58,8 +56,7 @@ fn is_gate(bytes: &[u8]) -> bool
 
 // Whether a file is one of a store, and not all of it is a log that ends with its closed gate.
 fn is_torn(alloc: Global, bytes: &[u8]) -> Result<bool>
-    ensures no { IfOk result (λ is. is ≡ false → (IsOfStore bytes.now → ⊥) ⊎ (log_of digest bytes.now ≡ Ok (log_to_tear digest bytes.now))) }
-    ensures headed { IfOk result (λ is. is ≡ false → (IsOfStore bytes.now → ⊥) ⊎ BeginsAsStore bytes.now) }
+    ensures no { IfOk result (λ is. is ≡ false → (IsOfStore bytes.now → ⊥) ⊎ IsMadeWhole bytes.now bytes.now) }
     ensures yes { IfOk result (λ is. is ≡ true → BeginsAsStore bytes.now) }
     ensures err { IfErr result (λ e. e ≡ NoMemory) }
 {
@@ -77,7 +74,8 @@ fn is_torn(alloc: Global, bytes: &[u8]) -> Result<bool>
 }
 
 /// Makes the log of a file whole that a crash may have torn while a block was brought to the disk in one sync, if the file is one of a
-/// store, and says whether the file was changed. All of it is brought to the disk first. Refused for want of memory or by the disk.
+/// store, and says whether the file was changed. What is behind the log's end is cut off, also of a log that was whole. All of it is brought
+/// to the disk first. Refused for want of memory or by the disk.
 ///
 /// ```
 /// let was_torn = mend_store(alloc, &mut first)?;

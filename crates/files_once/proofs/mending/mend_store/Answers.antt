@@ -1,15 +1,22 @@
-use Rattle.std.proofs.Common.{◌∙◌, inr, ap, subst, List, ℕ}
-use Rattle.std.specs.Prelude.{Ok}
-use Rattle.sled_log.specs.Digest.{digest}
-use Rattle.sled_log.specs.Tear.{log_to_tear}
-use Rattle.sled_log.proofs.ReadingLemmas.{digest_small, log_read}
-use Rattle.files_once.specs.Mended.{BeginsAsStore}
+use Rattle.std.proofs.Common.{◌∙◌, inr, subst, sym, List, ℕ}
+use Rattle.files_once.specs.Mended.{BeginsAsStore, IsMended, IsMadeWhole}
+use Rattle.files_once.proofs.Alike.{of_equal}
+use Rattle.files_once.proofs.Whole.{made_whole, mended_same}
 use Rattle.files_once.proofs.Meanwhile.{synced, looked_at, mended_then}
 use Rattle.files_once.proofs.mending.mend_store.Goals as goal
 
 pub returns-clause-mended : goal.returns-clause-mended
 returns-clause-mended g c =
-    inr (subst (λ (l : List ℕ). BeginsAsStore l) (c.deref.ensures.value ∙ c.in_ok-bytes.ensures.bytes ∙ c.sync.ensures.seen) (c.in_ok-is_torn.ensures.yes c.if-not-is_torn.false), log_read digest_small c.in_ok-mend.ensures.log ∙ ap (λ (l : List ℕ). Ok (log_to_tear digest l)) (c.read_all.ensures.seen ∙ c.sync.ensures.seen))
+    let d = g.D.Disk in
+    let read = c.deref.ensures.value ∙ c.in_ok-bytes.ensures.bytes in
+    inr (subst (λ (l : List ℕ). IsMadeWhole l (d.seen c.mend.new.disk)) (c.read_all.ensures.seen ∙ c.sync.ensures.seen)
+    (made_whole (d.seen c.read_all.new.disk) (d.seen c.mend.new.disk) c.in_ok-mend.field-0 (subst (λ (l : List ℕ). BeginsAsStore l) (read ∙ sym c.read_all.ensures.seen) (c.in_ok-is_torn.ensures.yes c.if-not-is_torn.false)) c.in_ok-mend.ensures.log c.in_ok-mend.ensures.last))
+
+pub returns-then-not-is_torn-clause-mended : goal.returns-then-not-is_torn-clause-mended
+returns-then-not-is_torn-clause-mended g c =
+    let d = g.D.Disk in
+    let read = c.deref.ensures.value ∙ c.in_ok-bytes.ensures.bytes in
+    of_equal IsMended (read ∙ c.sync.ensures.seen) (read ∙ sym c.read_all.ensures.seen) (mended_same _ (c.in_ok-is_torn.ensures.no c.if-not-is_torn.true))
 
 pub returns-in_err-sync-clause-any_moment : goal.returns-in_err-sync-clause-any_moment
 returns-in_err-sync-clause-any_moment g c =

@@ -5,7 +5,7 @@ use Rattle.sled_files.specs.Opening.{AreOpenable}
 use Rattle.sled_once.specs.Once.{outcomes_of}
 use Rattle.files_once.specs.Mended.{LeftOrBegun}
 use Rattle.files_once.proofs.Alike.{of_equal}
-use Rattle.files_once.proofs.Left.{or_begun, opened_or_begun, only_seen, read_on, refused_then, told_then}
+use Rattle.files_once.proofs.Left.{opened_or_begun, only_seen, read_on, refused_then, told_then}
 use Rattle.files_once.proofs.opening.open_mended.Goals as goal
 
 pub returns-in-Ok-open-clause-recovers : goal.returns-in-Ok-open-clause-recovers
