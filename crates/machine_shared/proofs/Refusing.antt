@@ -18,7 +18,7 @@ use Rattle.sled.specs.Sound.{IsDb}
 use Rattle.sled.specs.Values.{db_state}
 use Rattle.sled.proofs.Reading.{refuses}
 use Rattle.machine_alone.specs.Values.{MachineValue}
-use Rattle.machine_shared.specs.Reads.{Asked, OfAll, OfTree, pages_asked, pages_walked, refuses_look_as, stops_look, trees_asked}
+use Rattle.machine_shared.specs.Reads.{Asked, OfAll, OfNames, OfTree, pages_asked, pages_walked, refuses_look_as, refuses_names_as, stops_look, trees_asked}
 use Rattle.machine_shared.specs.theory.Orders.{StopsWalk}
 use Rattle.machine_shared.specs.UnderLock.{ReadsNow, RefusesNow, gives_up_as}
 use Rattle.machine_shared.specs.declared.read.Question.{Question}
@@ -93,6 +93,7 @@ module _ {P M : Type 0} (store : P → Store) (meant : M → Merge) (m : Machine
   -- where no test fails want of memory refuses what is asked
   pub as_memory : (asked : Asked) (e : Error) → must_refuse_of (db_state store meant m.db) (trees_asked asked) ≡ None → e ≡ NoMemory → RefusesNow store meant m asked e
   as_memory (OfTree tree question) e tested is = record { is = (reading_lacks tree e (pages_asked question) tested is, memory_gives_up tree e question is) }
+  as_memory OfNames e tested is = record { is = subst (λ t. refuses_names_as t e) (sym tested) is }
   as_memory OfAll e tested is = record { is = subst (λ t. refuses_look_as (store m.db.pages) t e) (sym tested) (lacks (store m.db.pages) e is) }
 
   -- .. once it was read
@@ -100,30 +101,30 @@ module _ {P M : Type 0} (store : P → Store) (meant : M → Merge) (m : Machine
   after_read asked it e r is = as_memory asked e r.tested is
 
   -- what is asked of no tree is refused if the database is closed
-  closed_or : (e : Error) → ((now (store m.db.pages)).in_group ≡ true → e ≡ Closed) → ((now (store m.db.pages)).in_group ≡ false → stops_look (store m.db.pages) e) → RefusesNow store meant m OfAll e
-  closed_or e closed stops = record { is = go (now (store m.db.pages)).in_group refl }
+  closed_or : (refused : Option MustRefuse → Type 0) → ((now (store m.db.pages)).in_group ≡ true → refused (Some IsClosed)) → ((now (store m.db.pages)).in_group ≡ false → refused None) → refused (must_refuse_of (db_state store meant m.db) [])
+  closed_or refused closed stops = go (now (store m.db.pages)).in_group refl
     where
-      go : (b : Bool) → (now (store m.db.pages)).in_group ≡ b → refuses_look_as (store m.db.pages) (must_refuse_of (db_state store meant m.db) []) e
-      go true k = subst (λ t. refuses_look_as (store m.db.pages) t e) (sym (ap (λ b. first_of (cond (not b) None (Some IsClosed)) None) k)) (closed k)
-      go false k = subst (λ t. refuses_look_as (store m.db.pages) t e) (sym (ap (λ b. first_of (cond (not b) None (Some IsClosed)) None) k)) (stops k)
+      go : (b : Bool) → (now (store m.db.pages)).in_group ≡ b → refused (must_refuse_of (db_state store meant m.db) [])
+      go true k = subst refused (sym (ap (λ b. first_of (cond (not b) None (Some IsClosed)) None) k)) (closed k)
+      go false k = subst refused (sym (ap (λ b. first_of (cond (not b) None (Some IsClosed)) None) k)) (stops k)
 
   -- the names of all trees
-  pub as_names : (e : Error) → RefusesHandle (store m.db.pages) e → RefusesNow store meant m OfAll e
-  as_names e r = closed_or e (λ k. closed e r.is k) (λ k. stop e r.is k)
+  pub as_names : (e : Error) → RefusesHandle (store m.db.pages) e → RefusesNow store meant m OfNames e
+  as_names e r = record { is = closed_or (λ t. refuses_names_as t e) (λ k. closed e r.is k) (λ k. stop e r.is k) }
     where
       closed : (e : Error) → refuses_handle_as (store m.db.pages) e → (now (store m.db.pages)).in_group ≡ true → e ≡ Closed
       closed Closed r k = refl
       closed NoMemory r k = false_true (sym r ∙ k)
       closed other r k = absurd r
 
-      stop : (e : Error) → refuses_handle_as (store m.db.pages) e → (now (store m.db.pages)).in_group ≡ false → stops_look (store m.db.pages) e
+      stop : (e : Error) → refuses_handle_as (store m.db.pages) e → (now (store m.db.pages)).in_group ≡ false → e ≡ NoMemory
       stop Closed r k = false_true (sym k ∙ r)
-      stop NoMemory r k = tt
+      stop NoMemory r k = refl
       stop other r k = absurd r
 
   -- an export
   pub as_export : (e : Error) → RefusesExport (store m.db.pages) e → RefusesNow store meant m OfAll e
-  as_export e r = closed_or e (λ k. closed e r.is k) (λ k. stop e r.is k)
+  as_export e r = record { is = closed_or (λ t. refuses_look_as (store m.db.pages) t e) (λ k. closed e r.is k) (λ k. stop e r.is k) }
     where
       closed : (e : Error) → refuses_export_as (store m.db.pages) e → (now (store m.db.pages)).in_group ≡ true → e ≡ Closed
       closed Closed r k = refl

@@ -6,7 +6,7 @@ use Rattle.std.specs.declared.ops.Bound.TheVariants.{Excluded, Unbounded}
 use Rattle.sled_nodes.specs.Among.{IsSuccessor, IsPredecessor, is_from, is_up_to}
 use Rattle.sled_nodes.specs.Order.{Key, key_cmp}
 use Rattle.sled_nodes.specs.declared.error.Error.{Error}
-use Rattle.sled_nodes.specs.declared.error.Error.TheVariants.{ReportableBug}
+use Rattle.sled_nodes.specs.declared.error.Error.TheVariants.{NoMemory, ReportableBug}
 use Rattle.sled_store.specs.In.{In}
 use Rattle.sled_store.specs.Store.{Store, refuses_read_as}
 use Rattle.sled_model.specs.Collections.{Content, are_trees}
@@ -110,14 +110,16 @@ IsAnswerTo Len answer = IsCount answer
 IsAnswerTo IsEmpty answer = IsFlag answer
 IsAnswerTo (Page lo hi back most) answer = IsPageOf lo hi back most answer
 
--- what is asked of a database: a question about one of its trees, or what concerns them all
+-- what is asked of a database: a question about one of its trees, the names of all trees, or all that they have
 pub data Asked : Type 0 where
   OfTree : Tree → Question → Asked
+  OfNames : Asked
   OfAll : Asked
 
 -- the tree that is named
 abbrev pub trees_asked : Asked → List Tree
 trees_asked (OfTree tree question) = tree ∷ []
+trees_asked OfNames = []
 trees_asked OfAll = []
 
 -- how many pages a walk in this direction looks at, in a tree of so many: each once or, back, all of them for each
@@ -141,3 +143,8 @@ stops_look s e = refuses_read_as s e
 abbrev pub refuses_look_as : Store → Option MustRefuse → Error → Type 0
 refuses_look_as s (Some must) e = tells must e
 refuses_look_as s None e = stops_look s e
+
+-- why the names of all trees are refused: by a test, or for want of memory alone, since no page is looked at
+abbrev pub refuses_names_as : Option MustRefuse → Error → Type 0
+refuses_names_as (Some must) e = tells must e
+refuses_names_as None e = e ≡ NoMemory

@@ -23,7 +23,7 @@ use Rattle.machine_alone.specs.Step.{MachineStepContract}
 use Rattle.machine_alone.specs.Values.{MachineValue, job_of_call, slots_of}
 use Rattle.machine_shared.specs.Made.{MadeValue, ReadMade}
 use Rattle.machine_shared.specs.Notes.{entries_of, noted_in, noted_of}
-use Rattle.machine_shared.specs.Reads.{Asked, OfAll, OfTree, pages_asked, reads_as, refuses_look_as, trees_asked}
+use Rattle.machine_shared.specs.Reads.{Asked, OfAll, OfNames, OfTree, pages_asked, reads_as, refuses_look_as, refuses_names_as, trees_asked}
 use Rattle.machine_shared.specs.Scans.{AreInOrder, NotesScan, begun_of, noted_at, scanned_of}
 use Rattle.machine_shared.specs.Sound.{HasCrashMaps, HasHistory, HasLegalHistory, HasRisingIds, HasScans, maps_now}
 use Rattle.machine_shared.specs.Steps.{SlotStep}
@@ -164,10 +164,11 @@ module _ {P M : Type 0} (store : P → Store) (meant : M → Merge) where
 
   abbrev pub refuses_asked_as : MachineValue P M → Asked → Error → Type 0
   refuses_asked_as m (OfTree tree question) e = RefusesReading store meant m.db tree (pages_asked question) e × gives_up_as m tree question e
+  refuses_asked_as m OfNames e = refuses_names_as (must_refuse_of (db_state store meant m.db) []) e
   refuses_asked_as m OfAll e = refuses_look_as (store m.db.pages) (must_refuse_of (db_state store meant m.db) []) e
 
   -- What is asked is refused, as the same read of the database is: by the first test that fails; or if none fails for want of memory, for a
-  -- page that is not readable or, of one tree, for as many pages looked at as may be
+  -- page that is not readable, except of names, or, of one tree, for as many pages looked at as may be
   pub record RefusesNow (m : MachineValue P M) (asked : Asked) (e : Error) : Type 0 where
     pub is : refuses_asked_as m asked e
 

@@ -6,7 +6,7 @@ ghost use Rattle.tree_pages.specs.Export.{collections};
 ghost use Rattle.sled.specs.Names.{AreNames};
 ghost use Rattle.sled.specs.Reads.{ReadsMap};
 ghost use Rattle.sled.specs.Values.{db_state};
-ghost use Rattle.machine_shared.specs.Reads.{OfAll, OfTree, answers_as};
+ghost use Rattle.machine_shared.specs.Reads.{OfAll, OfNames, OfTree, answers_as};
 ghost use Rattle.machine_shared.specs.UnderLock.{RefusesNow};
 ghost use Rattle.machine_shared.specs.declared.read.Question.TheVariants as question;
 
@@ -160,7 +160,7 @@ pub(crate) fn answer_to<P: Pages, M: MergeOperator>(
 #[tactic(auto, using(crate::proofs::Refusing::as_names))]
 pub(crate) fn names_of<P: Pages, M: MergeOperator>(machine: &Machine<P, M>) -> Result<Names>
     ensures ok { IfOk result (AreNames (db_state P.store M.meant machine.now.db)) }
-    ensures err { IfErr result (RefusesNow P.store M.meant machine.now OfAll) }
+    ensures err { IfErr result (RefusesNow P.store M.meant machine.now OfNames) }
 {
     let names = machine.db().tree_names()?;
     Names::new(machine.db().allocator(), names)

@@ -4,7 +4,7 @@ ghost use Rattle.std.specs.Prelude.{◌≡◌, ◌++◌, ◌∷◌, [], IfErr, I
 ghost use Rattle.sled_nodes.specs.Among.{bound_of};
 ghost use Rattle.sled_nodes.specs.declared.error.Error.TheVariants.{NoMemory};
 ghost use Rattle.machine_shared.specs.Made.{ReadMade};
-ghost use Rattle.machine_shared.specs.Reads.{IsAnswerTo, IsCount, IsFlag, IsPair, IsPart, OfAll, OfTree};
+ghost use Rattle.machine_shared.specs.Reads.{IsAnswerTo, IsCount, IsFlag, IsPair, IsPart, OfAll, OfNames, OfTree};
 ghost use Rattle.machine_shared.specs.declared.read.Answer.TheVariants as told;
 ghost use Rattle.machine_shared.specs.theory.Orders.{IsPage};
 ghost use Rattle.machine_shared.specs.declared.read.Question.TheVariants as asks;
@@ -327,7 +327,7 @@ impl<P: Pages, L: Ledger, M: MergeOperator> Handle<P, L, M> {
         ensures ok { IfOk result (λ names. self.new.made ≡ self.old.made ++ ReadMade (read.Names names) ∷ []) }
         ensures err { OnErr result (self.new.made ≡ self.old.made) }
         ensures number { self.new.number ≡ self.old.number }
-        ensures looks { ReadsUnderLock P.store M.meant OfAll read.Names result self.old self.new }
+        ensures looks { ReadsUnderLock P.store M.meant OfNames read.Names result self.old self.new }
     {
         let mut guard = locked(rt, &self.lock);
         let names = tree_names_in(&mut *guard, &mut self.me);

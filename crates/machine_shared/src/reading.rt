@@ -3,7 +3,7 @@ ghost use Rattle.std.specs.Prelude.{◌≡◌, ◌<◌, ◌+◌, ◌++◌, ◌�
 ghost use Rattle.sled_nodes.specs.declared.error.Error.TheVariants.{NoMemory};
 ghost use Rattle.machine_shared.specs.Made.{ReadMade, entry_values, made_value, made_values};
 ghost use Rattle.machine_shared.specs.Notes.{entries_of};
-ghost use Rattle.machine_shared.specs.Reads.{IsAnswerTo, OfAll, OfTree};
+ghost use Rattle.machine_shared.specs.Reads.{IsAnswerTo, OfAll, OfNames, OfTree};
 ghost use Rattle.machine_shared.specs.declared.read.Read.TheVariants as read;
 ghost use Rattle.machine_shared.specs.theory.Noting.{first_noted, second_noted};
 ghost use Rattle.machine_shared.specs.UnderLock.{ReadsNow, RefusesNow, read_made};
@@ -196,7 +196,7 @@ pub(crate) fn answer_noting<P: Pages, L: Ledger, M: MergeOperator>(
 #[tactic(auto, using(crate::proofs::ReadMakes::named))]
 fn names_now<P: Pages, M: MergeOperator>(machine: &Machine<P, M>) -> Result<Names>
     ensures ok { IfOk result (λ names. ReadsNow P.store M.meant machine.now [] (read.Names names)) }
-    ensures err { IfErr result (RefusesNow P.store M.meant machine.now OfAll) }
+    ensures err { IfErr result (RefusesNow P.store M.meant machine.now OfNames) }
 {
     names_of(machine)
 }
@@ -219,7 +219,7 @@ pub(crate) fn names_noting<P: Pages, M: MergeOperator>(
     ensures ok { IfOk result.0 (λ names. first_noted result.1 ≡ ReadMade (read.Names names) ∷ []) }
     ensures err { OnErr result.0 (first_noted result.1 ≡ []) }
     ensures reads { IfOk result.0 (λ names. ReadsNow P.store M.meant machine.now [] (read.Names names)) }
-    ensures refused { IfErr result.0 (RefusesNow P.store M.meant machine.now OfAll) }
+    ensures refused { IfErr result.0 (RefusesNow P.store M.meant machine.now OfNames) }
     ensures again { second_noted result.1 ≡ first_noted result.1 }
     ensures history { history.new.items ≡ history.old.items }
     ensures made { made.new.items ≡ made.old.items }

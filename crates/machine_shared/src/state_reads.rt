@@ -1,7 +1,7 @@
 //! Reads of a state, each in one step. They are noted as the caller's, and change nothing else.
 ghost use Rattle.std.specs.Prelude.{◌≡◌, ◌++◌, ◌∷◌, [], IfOk, OnErr};
 ghost use Rattle.machine_shared.specs.Made.{ReadMade};
-ghost use Rattle.machine_shared.specs.Reads.{IsAnswerTo, OfAll, OfTree};
+ghost use Rattle.machine_shared.specs.Reads.{IsAnswerTo, OfAll, OfNames, OfTree};
 ghost use Rattle.machine_shared.specs.declared.read.Answer.TheVariants as told;
 ghost use Rattle.machine_shared.specs.declared.read.Question.TheVariants as asks;
 ghost use Rattle.machine_shared.specs.declared.read.Read.TheVariants as read;
@@ -82,7 +82,7 @@ impl<P: Pages, L: Ledger, M: MergeOperator> State<P, L, M> {
         ensures number { me.new.number ≡ me.old.number }
         ensures machine { self.new.machine ≡ self.old.machine }
         ensures scans { self.new.scans ≡ self.old.scans }
-        ensures looks { Looks P.store M.meant OfAll read.Names result me.old me.new self.old self.new }
+        ensures looks { Looks P.store M.meant OfNames read.Names result me.old me.new self.old self.new }
     {
         self.machine.audit();
         let Caller {
@@ -193,7 +193,7 @@ pub(crate) fn tree_names_in<P: Pages, L: Ledger, M: MergeOperator>(
     ensures ok { IfOk result (λ names. me.new.made ≡ me.old.made ++ ReadMade (read.Names names) ∷ []) }
     ensures err { OnErr result (me.new.made ≡ me.old.made) }
     ensures number { me.new.number ≡ me.old.number }
-    ensures looks { ReadsUnderLock P.store M.meant OfAll read.Names result me.old me.new }
+    ensures looks { ReadsUnderLock P.store M.meant OfNames read.Names result me.old me.new }
 {
     match held {
         None => Err(Error::Closed),

@@ -2,7 +2,7 @@ use Rattle.std.proofs.Common.{◌∙◌, [], ◌++◌, refl, ap}
 use Rattle.std.proofs.lemmas.List.{length-map}
 use Rattle.machine_shared.specs.Made.{entry_value, entry_values, made_values}
 use Rattle.machine_shared.specs.Notes.{entries_of}
-use Rattle.machine_shared.specs.Reads.{OfAll}
+use Rattle.machine_shared.specs.Reads.{OfNames}
 use Rattle.machine_shared.specs.theory.Noting.{first_noted}
 use Rattle.machine_shared.specs.declared.read.Read.TheVariants as read
 use Rattle.machine_shared.proofs.UnderLocks.{looked, read_noted}
@@ -27,7 +27,7 @@ invariant_of-self g c =
 pub returns-clause-looks : goal.returns-clause-looks
 returns-clause-looks g c =
     let noted = read_noted read.Names c.names_noting-names.result.0 (first_noted c.names_noting-names.result.1) c.names_noting-names.ensures.ok c.names_noting-names.ensures.err in
-    looked g.P.Pages.store g.M.MergeOperator.meant OfAll read.Names c.names_noting-names.result.0 c.self.inside.machine c.self.inside.opening c.self.inside.scans (entry_values c.self.inside.history.items) (entry_values c.note_and_count.new.history.items) c.me.inside.number (made_values c.me.inside.made.items) (made_values c.note_and_count.new.made.items)
+    looked g.P.Pages.store g.M.MergeOperator.meant OfNames read.Names c.names_noting-names.result.0 c.self.inside.machine c.self.inside.opening c.self.inside.scans (entry_values c.self.inside.history.items) (entry_values c.note_and_count.new.history.items) c.me.inside.number (made_values c.me.inside.made.items) (made_values c.note_and_count.new.made.items)
     _ c.self.view_is _ c.me.view_is c.names_noting-names.ensures.reads c.names_noting-names.ensures.refused
     (c.note_and_count.ensures.history ∙ ap (λ es. entry_values es ++ entries_of c.me.inside.number (first_noted c.names_noting-names.result.1)) c.names_noting-names.ensures.history ∙ ap (λ m. entry_values c.self.inside.history.items ++ entries_of c.me.inside.number m) noted)
     (c.note_and_count.ensures.made ∙ ap (λ ms. made_values ms ++ first_noted c.names_noting-names.result.1) c.names_noting-names.ensures.made ∙ ap (λ m. made_values c.me.inside.made.items ++ m) noted)
