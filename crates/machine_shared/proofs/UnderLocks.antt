@@ -127,8 +127,8 @@ looked store meant asked read_of r machine opening scans history longer number l
 pub told_as : {P M A B : Type 0} (store : P → Store) (meant : M → Merge) (asked : Asked) (read_of : A → Read) (tell : B → A) (a : A) (b : B) (me more : CallerValue) → a ≡ tell b
     → ReadsUnderLock store meant asked read_of (Ok a) me more → ReadsUnderLock store meant asked (λ x. read_of (tell x)) (Ok b) me more
 told_as store meant asked read_of tell a b me more is reads = elim reads [
-  | inl x ↦ ok_err a x.cause (Ok a) refl x.refused
-  | inr u ↦ inr (record {
+  | IsTakenOut x ↦ ok_err a Closed (Ok a) refl x.0
+  | IsDone u ↦ IsDone (record {
     old = u.old;
     new = u.new;
     before = u.before;
@@ -147,13 +147,13 @@ told_as store meant asked read_of tell a b me more is reads = elim reads [
 pub refused_as : {P M A B : Type 0} (store : P → Store) (meant : M → Merge) (asked : Asked) (read_of : A → Read) (other : B → Read) (e : Error) (me more : CallerValue)
     → ReadsUnderLock store meant asked read_of (Err e) me more → ReadsUnderLock store meant asked other (Err e) me more
 refused_as store meant asked read_of other e me more reads = elim reads [
-  | inl x ↦ inl (record { cause = x.cause; unmade = x.unmade; refused = ap (λ c. Err c) (err_is e x.cause (Err e) refl x.refused); same = x.same })
-  | inr u ↦ inr (record { old = u.old; new = u.new; before = u.before; after = u.after; is = record { reads = tt; refused = u.is.refused; machine = u.is.machine; adds = u.is.adds; scans = u.is.scans } })
+  | IsTakenOut x ↦ IsTakenOut (ap (λ c. Err c) (err_is e Closed (Err e) refl x.0), x.1)
+  | IsDone u ↦ IsDone (record { old = u.old; new = u.new; before = u.before; after = u.after; is = record { reads = tt; refused = u.is.refused; machine = u.is.machine; adds = u.is.adds; scans = u.is.scans } })
 ]
 
--- a read that there was no memory for
-pub unread : {P M A : Type 0} (store : P → Store) (meant : M → Merge) (asked : Asked) (read_of : A → Read) (r : Result A Error) (e cause : Error) (me : CallerValue) → r ≡ Err e → e ≡ cause → cause ≡ NoMemory → ReadsUnderLock store meant asked read_of r me me
-unread store meant asked read_of r e cause me is same lacks = inl (record { cause = NoMemory; unmade = tt; refused = is ∙ ap (λ c. Err c) (same ∙ lacks); same = refl })
+-- there was no memory for what is to be asked
+pub unread : {A B : Type 0} (r : Result A Error) (e cause : Error) (me : CallerValue) → r ≡ Err e → e ≡ cause → cause ≡ NoMemory → ((r ≡ Err NoMemory) × (me ≡ me)) ⊎ B
+unread r e cause me is same lacks = inl (is ∙ ap (λ c. Err c) (same ∙ lacks), refl)
 
 -- a fetch, by how it came out
 pub fetched : {P M : Type 0} (store : P → Store) (meant : M → Merge) (machine after : MachineValue P M) (opening : OpeningValue) (scans : ScansValue) (history longer : List EntryValue) (number : ℕ) (list more : List MadeValue)

@@ -9,8 +9,8 @@ use Rattle.sled_nodes.specs.declared.error.Error.TheVariants.{NoMemory}
 use Rattle.sled_store.specs.Store.{Store}
 use Rattle.sled_model.specs.Maps.{Merge}
 use Rattle.machine_shared.specs.Made.{MadeValue, ReadMade}
-use Rattle.machine_shared.specs.Reads.{IsPart, OfTree}
-use Rattle.machine_shared.specs.UnderLock.{ReadsUnderLock}
+use Rattle.machine_shared.specs.Reads.{Asked, IsPart, OfTree}
+use Rattle.machine_shared.specs.UnderLock.{AsksUnderLock, ReadsUnderLock}
 use Rattle.machine_shared.specs.Values.{CallerValue}
 use Rattle.machine_shared.specs.declared.range_pages.RangePages.{RangePages}
 use Rattle.machine_shared.specs.declared.read.Answer.TheVariants as told
@@ -41,7 +41,10 @@ is_last_page most count = nat_lt count most || nat_eq count 0
 abbrev pub behind : RangePages → List (Key × Key) → RangePages
 behind r pairs = record r { lo = lo_behind r.back (last_key pairs) r.lo; hi = hi_behind r.back (last_key pairs) r.hi; ended = is_last_page r.most (length pairs) }
 
--- the next page, as it is read, and as it is noted
+-- the next page, as it is asked for, as it is read, and as it is noted
+abbrev pub page_asked : RangePages → Asked
+page_asked r = OfTree r.tree (asks.Page r.lo r.hi r.back r.most)
+
 abbrev pub page_read : RangePages → List (Key × Key) → Read
 page_read r pairs = read.Tree r.tree (asks.Page r.lo r.hi r.back r.most) (told.Pairs pairs)
 
@@ -71,9 +74,10 @@ pub record RefusesPage (old new : RangePages) (made more : List MadeValue) (e : 
 module _ {P M : Type 0} (store : P → Store) (meant : M → Merge) (r : RangePages) (me more : CallerValue) where
   -- the next page came of a read under the lock
   abbrev pub ReadsPage : Result (List (Key × Key)) Error → Type 0
-  ReadsPage result = ReadsUnderLock store meant (OfTree r.tree (asks.Page r.lo r.hi r.back r.most)) (page_read r) result me more
+  ReadsPage result = ReadsUnderLock store meant (page_asked r) (page_read r) result me more
 
-  -- so did a page that is given; one that is refused was refused there, or it was read and there was no memory to go past it
+  -- So did a page that is given. One that is refused was refused there or before, by want of memory to ask for it; or it was read, and there
+  -- was no memory to go past it
   abbrev pub PagesUnderLock : Result (List (Key × Key)) Error → Type 0
   PagesUnderLock (Ok pairs) = ReadsPage (Ok pairs)
-  PagesUnderLock (Err e) = ReadsPage (Err e) ⊎ ((e ≡ NoMemory) × (pairs : List (Key × Key)) × ReadsPage (Ok pairs))
+  PagesUnderLock (Err e) = AsksUnderLock store meant (page_asked r) (page_read r) (Err e) me more ⊎ ((e ≡ NoMemory) × (pairs : List (Key × Key)) × ReadsPage (Ok pairs))

@@ -180,19 +180,10 @@ module _ {P M : Type 0} (store : P → Store) (meant : M → Merge) where
     pub adds : AddsMade old me (read_made read_of result) new more
     pub scans : new.scans ≡ old.scans
 
--- for want of memory, or since the database was taken out of its lock
-abbrev pub is_unmade : Error → Type 0
-is_unmade NoMemory = Unit {0}
-is_unmade Closed = Unit {0}
-is_unmade e = ⊥
+  -- .. under the lock
+  abbrev pub ReadsUnderLock : {A : Type 0} → Asked → (A → Read) → Result A Error → CallerValue → CallerValue → Type 0
+  ReadsUnderLock asked read_of result me more = AsHeld store ((result ≡ Err Closed) × (more ≡ me)) (Looks asked read_of result me more)
 
--- a read was not made, and nothing was done
-pub record IsUnread {A : Type 0} (result : Result A Error) (me more : CallerValue) : Type 0 where
-  pub cause : Error
-  pub unmade : is_unmade cause
-  pub refused : result ≡ Err cause
-  pub same : more ≡ me
-
--- .. or it was made under the lock
-abbrev pub ReadsUnderLock : {P M A : Type 0} → (P → Store) → (M → Merge) → Asked → (A → Read) → Result A Error → CallerValue → CallerValue → Type 0
-ReadsUnderLock store meant asked read_of result me more = IsUnread result me more ⊎ UnderLock store (Looks store meant asked read_of result me more)
+  -- a read of what a caller gives and the call copies, for which there may be no memory; then nothing is done
+  abbrev pub AsksUnderLock : {A : Type 0} → Asked → (A → Read) → Result A Error → CallerValue → CallerValue → Type 0
+  AsksUnderLock asked read_of result me more = ((result ≡ Err NoMemory) × (more ≡ me)) ⊎ ReadsUnderLock asked read_of result me more

@@ -9,7 +9,7 @@ ghost use Rattle.machine_shared.specs.declared.read.Answer.TheVariants as told;
 ghost use Rattle.machine_shared.specs.theory.Orders.{IsPage};
 ghost use Rattle.machine_shared.specs.declared.read.Question.TheVariants as asks;
 ghost use Rattle.machine_shared.specs.declared.read.Read.TheVariants as read;
-ghost use Rattle.machine_shared.specs.UnderLock.{ReadsUnderLock};
+ghost use Rattle.machine_shared.specs.UnderLock.{AsksUnderLock, ReadsUnderLock};
 
 use crate::handle::Handle;
 use crate::locked::locked;
@@ -123,7 +123,8 @@ impl<P: Pages, L: Ledger, M: MergeOperator> Handle<P, L, M> {
         value
     }
 
-    /// The value at a key, or `None` if it is absent, in one step under the lock. Refused as `read` is, as all that follow.
+    /// The value at a key, or `None` if it is absent, in one step under the lock. Refused as `read` is, as all that follow; first with
+    /// `NoMemory` if there is none to copy a key or bounds that are given.
     ///
     /// ```
     /// let value = handle.get_now(rt, alloc, &tree, b"ulm")?;
@@ -138,7 +139,7 @@ impl<P: Pages, L: Ledger, M: MergeOperator> Handle<P, L, M> {
         ensures ok { IfOk result (λ it. self.new.made ≡ self.old.made ++ ReadMade (read.Tree tree.now (asks.Get key.now) (told.Value it)) ∷ []) }
         ensures err { OnErr result (self.new.made ≡ self.old.made) }
         ensures number { self.new.number ≡ self.old.number }
-        ensures looks { ReadsUnderLock P.store M.meant (OfTree tree.now (asks.Get key.now)) (λ it. read.Tree tree.now (asks.Get key.now) (told.Value it)) result self.old self.new }
+        ensures looks { AsksUnderLock P.store M.meant (OfTree tree.now (asks.Get key.now)) (λ it. read.Tree tree.now (asks.Get key.now) (told.Value it)) result self.old self.new }
     {
         let key = IVec::from_slice(alloc, key)?;
         self.value(rt, tree, key)
@@ -159,7 +160,7 @@ impl<P: Pages, L: Ledger, M: MergeOperator> Handle<P, L, M> {
         ensures ok { IfOk result (λ it. self.new.made ≡ self.old.made ++ ReadMade (read.Tree tree.now (asks.ContainsKey key.now) (told.Flag it)) ∷ []) }
         ensures err { OnErr result (self.new.made ≡ self.old.made) }
         ensures number { self.new.number ≡ self.old.number }
-        ensures looks { ReadsUnderLock P.store M.meant (OfTree tree.now (asks.ContainsKey key.now)) (λ it. read.Tree tree.now (asks.ContainsKey key.now) (told.Flag it)) result self.old self.new }
+        ensures looks { AsksUnderLock P.store M.meant (OfTree tree.now (asks.ContainsKey key.now)) (λ it. read.Tree tree.now (asks.ContainsKey key.now) (told.Flag it)) result self.old self.new }
     {
         let question = Question::ContainsKey(IVec::from_slice(alloc, key)?);
         match self.read(rt, tree, question) {
@@ -219,7 +220,7 @@ impl<P: Pages, L: Ledger, M: MergeOperator> Handle<P, L, M> {
         ensures ok { IfOk result (λ it. self.new.made ≡ self.old.made ++ ReadMade (read.Tree tree.now (asks.GetLt key.now) (told.Pair it)) ∷ []) }
         ensures err { OnErr result (self.new.made ≡ self.old.made) }
         ensures number { self.new.number ≡ self.old.number }
-        ensures looks { ReadsUnderLock P.store M.meant (OfTree tree.now (asks.GetLt key.now)) (λ it. read.Tree tree.now (asks.GetLt key.now) (told.Pair it)) result self.old self.new }
+        ensures looks { AsksUnderLock P.store M.meant (OfTree tree.now (asks.GetLt key.now)) (λ it. read.Tree tree.now (asks.GetLt key.now) (told.Pair it)) result self.old self.new }
     {
         let question = Question::GetLt(IVec::from_slice(alloc, key)?);
         match self.read(rt, tree, question) {
@@ -243,7 +244,7 @@ impl<P: Pages, L: Ledger, M: MergeOperator> Handle<P, L, M> {
         ensures ok { IfOk result (λ it. self.new.made ≡ self.old.made ++ ReadMade (read.Tree tree.now (asks.GetGt key.now) (told.Pair it)) ∷ []) }
         ensures err { OnErr result (self.new.made ≡ self.old.made) }
         ensures number { self.new.number ≡ self.old.number }
-        ensures looks { ReadsUnderLock P.store M.meant (OfTree tree.now (asks.GetGt key.now)) (λ it. read.Tree tree.now (asks.GetGt key.now) (told.Pair it)) result self.old self.new }
+        ensures looks { AsksUnderLock P.store M.meant (OfTree tree.now (asks.GetGt key.now)) (λ it. read.Tree tree.now (asks.GetGt key.now) (told.Pair it)) result self.old self.new }
     {
         let question = Question::GetGt(IVec::from_slice(alloc, key)?);
         match self.read(rt, tree, question) {
@@ -309,7 +310,7 @@ impl<P: Pages, L: Ledger, M: MergeOperator> Handle<P, L, M> {
         ensures ok { IfOk result (λ it. self.new.made ≡ self.old.made ++ ReadMade (read.Tree tree.now (asks.Page (bound_of lo.entry) (bound_of hi.entry) back most) (told.Pairs it)) ∷ []) }
         ensures err { OnErr result (self.new.made ≡ self.old.made) }
         ensures number { self.new.number ≡ self.old.number }
-        ensures looks { ReadsUnderLock P.store M.meant (OfTree tree.now (asks.Page (bound_of lo.entry) (bound_of hi.entry) back most)) (λ it. read.Tree tree.now (asks.Page (bound_of lo.entry) (bound_of hi.entry) back most) (told.Pairs it)) result self.old self.new }
+        ensures looks { AsksUnderLock P.store M.meant (OfTree tree.now (asks.Page (bound_of lo.entry) (bound_of hi.entry) back most)) (λ it. read.Tree tree.now (asks.Page (bound_of lo.entry) (bound_of hi.entry) back most) (told.Pairs it)) result self.old self.new }
     {
         let question = page_between(alloc, lo, hi, back, most)?;
         match self.read(rt, tree, question) {

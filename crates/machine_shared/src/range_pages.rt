@@ -154,8 +154,8 @@ impl RangePages {
     /// The next page, in one step under the lock, or `None` if the last one was given: one of fewer pairs than there may be, or of none. It
     /// is added to the handle's list as a read, and begins after the last key of the page before. After the last page there is only `None`.
     ///
-    /// Refused as a read is, and may be asked for again. If there is no memory to go past it (`NoMemory`), what was read is in the list all
-    /// the same.
+    /// Refused as `page` of a handle is, and may be asked for again. If there is no memory to go past it (`NoMemory`), what was read is in the
+    /// list all the same.
     ///
     /// ```
     /// let mut pages = RangePages::new(alloc, &tree, Bound::Unbounded, Bound::Unbounded, false, 10)?;

@@ -1,5 +1,5 @@
-use Rattle.std.proofs.Common.{inr}
+use Rattle.machine_shared.specs.UnderLock.{IsDone}
 use Rattle.machine_shared.proofs.state_reads.read_in.Goals as goal
 
 pub returns-in-Some-clause-looks : goal.returns-in-Some-clause-looks
-returns-in-Some-clause-looks g c = inr (record { old = _; new = c.read-answer.new.self; before = c.audit.ensures.held; after = c.audit-in-Some.ensures.held; is = c.read-answer.ensures.looks })
+returns-in-Some-clause-looks g c = IsDone (record { old = _; new = c.read-answer.new.self; before = c.audit.ensures.held; after = c.audit-in-Some.ensures.held; is = c.read-answer.ensures.looks })

@@ -1,19 +1,17 @@
-use Rattle.std.proofs.Common.{ap}
+use Rattle.std.proofs.Common.{inr, ap}
 use Rattle.std.proofs.lemmas.Result.{err_from_is_err_and}
-use Rattle.machine_shared.specs.Reads.{OfTree}
 use Rattle.machine_shared.specs.declared.read.Answer.TheVariants as told
 use Rattle.machine_shared.specs.declared.read.Question.TheVariants as asks
-use Rattle.machine_shared.specs.declared.read.Read.TheVariants as read
 use Rattle.machine_shared.proofs.UnderLocks.{read_refused, read_told, unread}
 use Rattle.machine_shared.proofs.handle.Handle.contains_key.Goals as goal
 
 pub returns-in_err-from_slice-clause-looks : goal.returns-in_err-from_slice-clause-looks
 returns-in_err-from_slice-clause-looks g c =
     let is = err_from_is_err_and c.from_residual.result c.from_residual.ensures.1 in
-    unread g.P.Pages.store g.M.MergeOperator.meant (OfTree c.args.tree.now (asks.ContainsKey c.args.key.now)) (λ it. read.Tree c.args.tree.now (asks.ContainsKey c.args.key.now) (told.Flag it)) c.from_residual.result is.0 c.in_err-from_slice.field-0.0 c.args.self.now is.1 is.2 c.in_err-from_slice.ensures.err
+    unread c.from_residual.result is.0 c.in_err-from_slice.field-0.0 c.args.self.now is.1 is.2 c.in_err-from_slice.ensures.err
 
 pub returns-in-Ok-clause-looks : goal.returns-in-Ok-clause-looks
-returns-in-Ok-clause-looks g c = read_told g.P.Pages.store g.M.MergeOperator.meant c.args.tree.now (asks.ContainsKey c.args.key.now) (λ it. told.Flag it) c.args.self.now c.read.new.self _ c.in-Ok.answer c.flag_of.result (ap (λ k. asks.ContainsKey k) c.in_ok-from_slice.ensures.ok) c.flag_of.ensures c.in-Ok.ensures.looks
+returns-in-Ok-clause-looks g c = inr (read_told g.P.Pages.store g.M.MergeOperator.meant c.args.tree.now (asks.ContainsKey c.args.key.now) (λ it. told.Flag it) c.args.self.now c.read.new.self _ c.in-Ok.answer c.flag_of.result (ap (λ k. asks.ContainsKey k) c.in_ok-from_slice.ensures.ok) c.flag_of.ensures c.in-Ok.ensures.looks)
 
 pub returns-in-Err-clause-looks : goal.returns-in-Err-clause-looks
-returns-in-Err-clause-looks g c = read_refused g.P.Pages.store g.M.MergeOperator.meant c.args.tree.now (asks.ContainsKey c.args.key.now) (λ it. told.Flag it) c.args.self.now c.read.new.self _ c.in-Err.e (ap (λ k. asks.ContainsKey k) c.in_ok-from_slice.ensures.ok) c.in-Err.ensures.looks
+returns-in-Err-clause-looks g c = inr (read_refused g.P.Pages.store g.M.MergeOperator.meant c.args.tree.now (asks.ContainsKey c.args.key.now) (λ it. told.Flag it) c.args.self.now c.read.new.self _ c.in-Err.e (ap (λ k. asks.ContainsKey k) c.in_ok-from_slice.ensures.ok) c.in-Err.ensures.looks)
