@@ -19,7 +19,7 @@ times callers n = count_by (λ c. nat_eq n c.number) callers
 abbrev pub EachOnce : ℕ → List CallerValue → Type 0
 EachOnce given callers = (n : ℕ) → IsGiven given n → times callers n ≡ 1
 
--- .. and so each number above those of callers before
+-- .. and so each number above the greatest in the history that was shared
 abbrev pub EachOnceBehind : ℕ → ℕ → List CallerValue → Type 0
 EachOnceBehind before given callers = (n : ℕ) → IsGiven given n → times callers (before + n) ≡ 1
 

@@ -22,8 +22,8 @@ pub record CallerValue : Type 0 where
   pub number : ℕ
   pub made : List MadeValue
 
--- how many callers there may be, how many of them have a handle, up to which number callers had theirs before it was shared, and what the
--- database had then
+-- how many callers there may be, how many of them have a handle, the greatest number in the history that was shared, and what the database
+-- had then
 pub record SharedValue : Type 0 where
   pub callers : ℕ
   pub given : ℕ

@@ -295,8 +295,8 @@ impl<P: Pages, L: Ledger, M: MergeOperator> Db<P, L, M> {
         ))
     }
 
-    /// A handle for one caller more, whose number is the next, from 1 or above those of callers before. Refused with `Unsupported`
-    /// (`numbers used up`) if all callers have one, and with `NoMemory`; nothing changes then.
+    /// A handle for one caller more, whose number is the next, from 1 or above the greatest in the history that was shared. Refused with
+    /// `Unsupported` (`numbers used up`) if all callers have one, and with `NoMemory`; nothing changes then.
     ///
     /// ```
     /// let one = shared.handle(alloc)?; // For one thread,

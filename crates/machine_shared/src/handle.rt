@@ -63,7 +63,8 @@ impl<P: Pages, L: Ledger, M> Handle<P, L, M> {
         Handle { lock, me }
     }
 
-    /// The caller's number: handles are numbered from 1, or above those of callers before, in order of the calls that made them.
+    /// The caller's number: handles are numbered from 1, or above the greatest in the history that was shared, in order of the calls that
+    /// made them.
     ///
     /// ```
     /// let number = handle.number(); // As each of its entries in the history has it.
@@ -74,8 +75,9 @@ impl<P: Pages, L: Ledger, M> Handle<P, L, M> {
         self.me.number
     }
 
-    /// What this caller made, in order. It has each of its calls on a key and of its whole calls that was decided, with its reply, and the
-    /// parts of those that were refused after some. It has each of its reads, with what it returned, and each of its transactions.
+    /// What this caller made, in order. It has each call on a key that its steps decided and each of its whole calls that was decided, with
+    /// its reply, and the parts of those that were refused after some. It has each of its reads, with what it returned, and each of its
+    /// transactions.
     ///
     /// ```
     /// let count = handle.made().len();
