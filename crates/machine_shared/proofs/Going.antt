@@ -17,7 +17,7 @@ use Rattle.sled_model.proofs.Shapes.{call_begun}
 use Rattle.scan_laws.proofs.Staying.{whole_stays}
 use Rattle.machine_shared.specs.Scanned.{AreOfScans, HasBegun, IsBegin, is_of_scan}
 use Rattle.machine_shared.specs.Scans.{noted_at, scanned_of}
-use Rattle.machine_shared.specs.UnderWay.{AreGoing, IsQuiet}
+use Rattle.machine_shared.specs.UnderWay.{AreGoing, IsNoted, IsQuiet}
 use Rattle.machine_shared.specs.declared.scans.Scanned.TheVariants as did
 use Rattle.machine_shared.specs.declared.scans.ScanNote.{ScanNote}
 use Rattle.machine_shared.proofs.Gave.{note_left}
@@ -30,14 +30,18 @@ note_last : (n : ScanNote) (ns : List ScanNote) → In n (ns ++ n ∷ [])
 note_last n [] = inl refl
 note_last n (x ∷ ns) = inr (note_last n ns)
 
-still_begun : (notes more : List ScanNote) (slot : ℕ) → HasBegun notes slot → HasBegun (notes ++ more) slot
-still_begun notes more slot b = record { note = b.note; there = note_left b.note notes more b.there; here = b.here; begins = b.begins }
+still_begun : (notes more : List ScanNote) (slot : ℕ) (f : CallInFlight) → IsNoted notes slot f → IsNoted (notes ++ more) slot f
+still_begun notes more slot f b = record { note = b.note; there = note_left b.note notes more b.there; here = b.here; is = b.is }
+
+-- the begin of a scan that is noted is one
+has_begun : (notes : List ScanNote) (slot : ℕ) (f : CallInFlight) → IsNoted notes slot f → HasBegun notes slot
+has_begun notes slot f b = record { note = b.note; there = b.there; here = b.here; begins = subst (λ d. IsBegin d) (sym b.is) tt }
 
 abbrev Going : List ScanNote → ℕ → CallInFlight → Type 0
-Going notes slot f = HasBegun notes slot ⊎ IsQuiet f
+Going notes slot f = IsNoted notes slot f ⊎ IsQuiet f
 
 still_going : (notes more : List ScanNote) (slot : ℕ) (f : CallInFlight) → Going notes slot f → Going (notes ++ more) slot f
-still_going notes more slot f (inl b) = inl (still_begun notes more slot b)
+still_going notes more slot f (inl b) = inl (still_begun notes more slot f b)
 still_going notes more slot f (inr q) = inr q
 
 abbrev Slots : Type 0
@@ -55,16 +59,16 @@ put_going slots others i x notes more same h new slot f e = go (nat_eq slot i) r
 
 -- a scan that begins is noted
 abbrev pub begin_noted : Step → Outcome → List ScanNote → Type 0
-begin_noted (step.Begin tree call) (outcome.Begun slot) notes = IsOnKey call ⊎ HasBegun notes slot
+begin_noted (step.Begin tree call) (outcome.Begun slot) notes = IsOnKey call ⊎ IsNoted notes slot (call_begun tree call)
 begin_noted s o notes = Unit {0}
 
-quiet_begun : (notes : List ScanNote) (slot : ℕ) (b f : CallInFlight) → IsOnKey b.call ⊎ HasBegun notes slot → b.waiting ≡ [] → b.rest ≡ range_of b.call → Some b ≡ Some f → Going notes slot f
+quiet_begun : (notes : List ScanNote) (slot : ℕ) (b f : CallInFlight) → IsOnKey b.call ⊎ IsNoted notes slot b → b.waiting ≡ [] → b.rest ≡ range_of b.call → Some b ≡ Some f → Going notes slot f
 quiet_begun notes slot b f (inl key) none range e = subst (λ (z : CallInFlight). Going notes slot z) (some_is e) (inr (record { key = key; waits = none; reads = range ∙ key }))
-quiet_begun notes slot b f (inr begun) none range e = inl begun
+quiet_begun notes slot b f (inr begun) none range e = subst (λ (z : CallInFlight). Going notes slot z) (some_is e) (inl begun)
 
-goes_on : (notes : List ScanNote) (slot : ℕ) (f g : CallInFlight) → Going notes slot f → g.call ≡ f.call → (IsQuiet f → (g.waiting ≡ []) × (g.rest ≡ None)) → Going notes slot g
-goes_on notes slot f g (inl b) same quiet = inl b
-goes_on notes slot f g (inr q) same quiet = inr (record { key = ap range_of same ∙ q.key; waits = (quiet q).0; reads = (quiet q).1 })
+goes_on : (notes : List ScanNote) (slot : ℕ) (f g : CallInFlight) → Going notes slot f → g.tree ≡ f.tree → g.call ≡ f.call → (IsQuiet f → (g.waiting ≡ []) × (g.rest ≡ None)) → Going notes slot g
+goes_on notes slot f g (inl b) tree same quiet = inl (record { note = b.note; there = b.there; here = b.here; is = b.is ∙ ap (λ t. did.Begun t f.call) (sym tree) ∙ ap (λ c. did.Begun g.tree c) (sym same) })
+goes_on notes slot f g (inr q) tree same quiet = inr (record { key = ap range_of same ∙ q.key; waits = (quiet q).0; reads = (quiet q).1 })
 
 -- after each step of the model
 pub going_after : (a b : Configuration) (s : Step) (o : Outcome) (maps : List Maps) → transition_as a s o b maps → (notes more : List ScanNote) → AreGoing a.state.slots notes → begin_noted s o (notes ++ more) → AreGoing b.state.slots (notes ++ more)
@@ -75,7 +79,7 @@ going_after a b (step.Step i) outcome.NoSuchSlot maps t notes more h new = same_
 going_after a b (step.Step i) outcome.Moved maps t notes more h new =
     put_going a.state.slots b.state.slots i _ notes more (ap (λ (z : State). z.slots) t.0.is) h (λ f e.
     subst (λ (z : CallInFlight). Going (notes ++ more) i z) (some_is e)
-    (goes_on (notes ++ more) i t.0.flying _ (still_going notes more i t.0.flying (h i t.0.flying t.0.here)) refl
+    (goes_on (notes ++ more) i t.0.flying _ (still_going notes more i t.0.flying (h i t.0.flying t.0.here)) refl refl
     (λ q. elim t.0.reads [
       | inl same ↦ (same.0 ∙ q.waits, same.1 ∙ q.reads)
       | inr part ↦ none_some (sym q.reads ∙ part.had)
@@ -83,7 +87,7 @@ going_after a b (step.Step i) outcome.Moved maps t notes more h new =
 going_after a b (step.Step i) (outcome.Yielded key value) maps t notes more h new =
     put_going a.state.slots b.state.slots i _ notes more (ap (λ (z : State). z.slots) t.0.is) h (λ f e.
     subst (λ (z : CallInFlight). Going (notes ++ more) i z) (some_is e)
-    (goes_on (notes ++ more) i t.0.flying _ (still_going notes more i t.0.flying (h i t.0.flying t.0.here)) refl
+    (goes_on (notes ++ more) i t.0.flying _ (still_going notes more i t.0.flying (h i t.0.flying t.0.here)) refl refl
     (λ q. no_pair (sym q.waits ∙ t.0.waits))))
 going_after a b (step.Step i) (outcome.Decided reply) maps t notes more h new = put_going a.state.slots b.state.slots i None notes more (ap (λ (z : State). z.slots) t.0.is) h (λ f e. none_some e)
 going_after a b (step.Step i) (outcome.Refused x) maps t notes more h new = put_going a.state.slots b.state.slots i None notes more (ap (λ (z : State). z.slots) t.0.is) h (λ f e. none_some e)
@@ -107,7 +111,7 @@ of_step a b i at o maps t notes h of = go o t
     nothing = subst (λ ns. AreOfScans [] ns) (sym (append-nil notes)) of
 
     begun : (f : CallInFlight) → a.state.slots i ≡ Some f → (IsQuiet f → ⊥) → HasBegun notes i
-    begun f here never = elim (h i f here) [ inl b ↦ b | inr q ↦ absurd (never q) ]
+    begun f here never = elim (h i f here) [ inl b ↦ has_begun notes i f b | inr q ↦ absurd (never q) ]
 
     go : (o : Outcome) → transition_as a (step.Step i) o b maps → AreOfScans [] (notes ++ noted_at i at (scanned_of o))
     go (outcome.Yielded key value) t = of_one_more [] notes (record { slot = i; at = at; did = did.Gave key value }) of (begun t.0.flying t.0.here (λ q. no_pair (sym q.waits ∙ t.0.waits)))
@@ -116,5 +120,5 @@ of_step a b i at o maps t notes h of = go o t
     go other t = nothing
 
 -- the begin of a scan, as it is noted
-pub begun_last : (notes : List ScanNote) (slot : ℕ) (n : ScanNote) → n.slot ≡ slot → IsBegin n.did → HasBegun (notes ++ n ∷ []) slot
-begun_last notes slot n here is = record { note = n; there = note_last n notes; here = here; begins = is }
+pub begun_last : (notes : List ScanNote) (slot : ℕ) (n : ScanNote) (f : CallInFlight) → n.slot ≡ slot → n.did ≡ did.Begun f.tree f.call → IsNoted (notes ++ n ∷ []) slot f
+begun_last notes slot n f here is = record { note = n; there = note_last n notes; here = here; is = is }

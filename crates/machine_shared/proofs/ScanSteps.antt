@@ -17,6 +17,7 @@ use Rattle.sled_model.specs.declared.outcome.Step.{Step}
 use Rattle.sled_model.specs.declared.outcome.Step.TheVariants as step
 use Rattle.sled_model.specs.declared.outcome.Outcome.{Outcome}
 use Rattle.sled_model.specs.declared.outcome.Outcome.TheVariants as outcome
+use Rattle.sled_model.proofs.Shapes.{call_begun}
 use Rattle.scan_laws.specs.Scanned.{Ascend, NoSteps, InOrder, given_by, is_own}
 use Rattle.scan_laws.proofs.Lists.{in_right}
 use Rattle.sled_queues.proofs.Closing.{opens_none}
@@ -320,7 +321,7 @@ module _ (A B : Configuration) (moments after : List Maps) (to later : ℕ) (goe
       scans_begun k = record {
         gave = are_later goes gave_begun;
         of_scans = of_one_more [] scans.notes (begin_note lo hi back) h.of_scans (record { lo = lo; hi = hi; back = back }, refl);
-        going = λ kept. going_after A B (step.Begin tree call) (outcome.Begun slot) maps t.is scans.notes (begin_note lo hi back ∷ []) (h.going k) (inr (begun_last scans.notes slot (begin_note lo hi back) refl tt));
+        going = λ kept. going_after A B (step.Begin tree call) (outcome.Begun slot) maps t.is scans.notes (begin_note lo hi back ∷ []) (h.going k) (inr (begun_last scans.notes slot (begin_note lo hi back) (call_begun tree call) refl (ap (λ c. did.Begun tree c) (sym is))));
         bounded = λ n i. elim (note_either n scans.notes (begin_note lo hi back) i) [
           | inl old ↦ bounded_later (given_rises (step.Begin tree call) (outcome.Begun slot) maps t) n old
           | inr same ↦ subst (λ (m : ScanNote). (m.slot ≤ B.state.slots_given) × (m.at ≤ later)) (sym same) (le_of_eq (sym (ap (λ (z : State). z.slots_given) t.is.0.is)), more)

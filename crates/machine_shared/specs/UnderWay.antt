@@ -16,7 +16,7 @@ use Rattle.sled_model.specs.declared.outcome.Outcome.TheVariants.{Begun}
 use Rattle.scan_laws.specs.Scanned.{Ascend, RunsBeside, NoSteps, OneMore, OneBeside, AtOwnSteps, yielded}
 use Rattle.machine_alone.specs.Values.{MachineValue, slots_of}
 use Rattle.machine_shared.specs.Moments.{AtOneMoment}
-use Rattle.machine_shared.specs.Scanned.{AreOfScans, AreScanned, HasBegun, gave_in}
+use Rattle.machine_shared.specs.Scanned.{AreOfScans, AreScanned, gave_in}
 use Rattle.machine_shared.specs.Scans.{ScansValue}
 use Rattle.machine_shared.specs.declared.scans.Scanned.TheVariants as did
 use Rattle.machine_shared.specs.declared.scans.ScanNote.{ScanNote}
@@ -62,9 +62,16 @@ pub record IsQuiet (f : CallInFlight) : Type 0 where
   pub waits : f.waiting ≡ []
   pub reads : f.rest ≡ None
 
+-- it is noted that this call began in this slot, on its tree
+pub record IsNoted (notes : List ScanNote) (slot : ℕ) (f : CallInFlight) : Type 0 where
+  pub note : ScanNote
+  pub there : In note notes
+  pub here : note.slot ≡ slot
+  pub is : note.did ≡ did.Begun f.tree f.call
+
 -- of each scan in flight the begin is noted
 abbrev pub AreGoing : (ℕ → Option CallInFlight) → List ScanNote → Type 0
-AreGoing slots notes = (slot : ℕ) (f : CallInFlight) → slots slot ≡ Some f → HasBegun notes slot ⊎ IsQuiet f
+AreGoing slots notes = (slot : ℕ) (f : CallInFlight) → slots slot ≡ Some f → IsNoted notes slot f ⊎ IsQuiet f
 
 -- What is known of the scans that were noted: what they gave; while notes are kept, that those in flight are noted; and while the database
 -- is open too, by which steps these gave it
