@@ -5,16 +5,13 @@ use Rattle.sled_log.specs.Digest.{digest}
 use Rattle.sled_log.specs.Log.{closed, blocks, IsLog}
 use Rattle.sled_log.specs.Tear.{EndsAt, log_to_tear}
 use Rattle.sled_log.proofs.ReadingLemmas.{digest_small, log_read}
+use Rattle.sled_files.proofs.Moments.{none_long}
 use Rattle.files_once.specs.Mended.{IsOfStore, BeginsAsStore, IsMadeWhole, IsMended}
-
-none_behind : (rest : List ℕ) → length rest ≡ 0 → rest ≡ []
-none_behind [] is = refl
-none_behind (x ∷ rest) is = absurd (omega (arith, is))
 
 -- nothing is behind the gate of a log that is the last byte
 last_rest : {file : List ℕ} {payloads : List (List ℕ)} {gate : ℕ} → (l : IsLog digest file payloads gate) → gate + 1 ≡ length file → l.rest ≡ []
 last_rest {file} {payloads} {gate} l last =
-    none_behind l.rest (omega (arith, last, l.gate_is, ap length l.file_is, length-append (blocks digest payloads) (closed ∷ l.rest)))
+    none_long l.rest (omega (arith, last, l.gate_is, ap length l.file_is, length-append (blocks digest payloads) (closed ∷ l.rest)))
 
 -- a file that began as one of a store is whole, once it is such a log
 pub made_whole : (before after : List ℕ) (gate : ℕ) → BeginsAsStore before → IsLog digest after (log_to_tear digest before) gate → gate + 1 ≡ length after → IsMadeWhole before after

@@ -1,5 +1,5 @@
 -- What a crash may leave of two files while a payload is added to them, against the store.
-use Rattle.std.proofs.Common.{◌≡◌, inl, inr, ⊎_elim, ℕ, Bool, true, false, List, [], ◌∷◌, refl, sym, ◌∙◌, subst, arith, ◌⊎◌}
+use Rattle.std.proofs.Common.{◌≡◌, inl, inr, ⊎_elim, ℕ, Bool, true, false, List, [], ◌∷◌, length, refl, sym, ◌∙◌, subst, arith, ◌⊎◌}
 use Rattle.sled_store.specs.In.{In}
 use Rattle.sled_store.specs.Store.{Store}
 use Rattle.std.specs.List.{flat_map}
@@ -69,6 +69,10 @@ none_spelled (Begun ∷ changes) is = absurd (cc)
 none_spelled (Sealed ∷ changes) is = absurd (cc)
 none_spelled (Marked upto ∷ changes) is = absurd (cc)
 none_spelled (Limited pids versions ∷ changes) is = absurd (cc)
+
+pub none_long : (bytes : List ℕ) → length bytes ≡ 0 → bytes ≡ []
+none_long [] is = refl
+none_long (b ∷ bytes) is = absurd (omega (arith, is))
 
 pub empty_spells : {bytes : List ℕ} {changes : List Change} → bytes ≡ [] → Spells bytes changes → changes ≡ []
 empty_spells {bytes} {changes} empty s = none_spelled changes (sym s.spelled ∙ empty)

@@ -1,5 +1,5 @@
 -- How many bytes the changes take that make of nothing what a store is now.
-use Rattle.std.proofs.Common.{arith, ◌+◌, ◌≡◌, ◌<◌, ℕ, nat_eq, nat_lt, cond, Bool, T, true, false, List, [], ◌∷◌, ◌++◌, length, Option, Some, None, refl, sym, ◌∙◌, ap, subst, length-append}
+use Rattle.std.proofs.Common.{arith, ◌+◌, ◌≡◌, ◌<◌, ℕ, nat_eq, nat_lt, cond, Bool, true, false, List, [], ◌∷◌, ◌++◌, length, Option, Some, None, refl, sym, ◌∙◌, ap, subst, length-append}
 use Rattle.std.specs.Prelude.{map, Result, Ok, Err, OnOk}
 use Rattle.std.specs.List.{flat_map}
 use Rattle.std.specs.Cmp.{nat_cmp_total, unsigned_tied}
@@ -9,6 +9,7 @@ use Rattle.std.specs.declared.cmp.Ordering.TheVariants.{Less, Equal, Greater}
 use Rattle.std.specs.FinMap.Entries.{find, put, by_order, is_sorted, is_sorted-put, find-put}
 use Rattle.std.proofs.lemmas.Bool.Decides.{nat_tests}
 use Rattle.std.proofs.lemmas.Grind.{flat_map-append}
+use Rattle.sled_nodes.proofs.Basics.{true_of, of_true}
 use Rattle.sled_nodes.specs.Order.{Key}
 use Rattle.sled_nodes.specs.declared.node.Node.{Node}
 use Rattle.sled_store.specs.declared.page.Page.{Page}
@@ -48,14 +49,6 @@ given_more pid g (e ∷ es) none =
       | Greater ↦ λ n. deeper _ _ _ _ _ _ (longer (given_as e) (map given_as (put nat_cmp pid g es))) (longer (given_as e) (map given_as es)) (given_more pid g es n)
     ] none
 
--- as a test and as a type
-is_true : (b : Bool) → T b → b ≡ true
-is_true true h = refl
-is_true false h = absurd h
-
-holds : (b : Bool) → b ≡ true → T b
-holds b is = subst T (sym is) tt
-
 -- no page is below 0
 pub sized_none : {bytes : List ℕ} (s : State) → bytes ≡ [] → GivesPages (pages_below s 0).state (length bytes)
 sized_none s is = record { pages = []; are = record { ascends = refl; is = λ pid. ap (λ (d : Durable). d.state.pages pid) (none_below s) }; is = ap length is }
@@ -75,7 +68,7 @@ sized_more s n before after given more = subst (λ (d : Durable). GivesPages d.s
     go (Some g) long = record {
       pages = put nat_cmp n g given.pages;
       are = record {
-        ascends = is_true _ (is_sorted-put nat_cmp nat_cmp_total n g given.pages (holds _ given.are.ascends));
+        ascends = true_of _ (is_sorted-put nat_cmp nat_cmp_total n g given.pages (of_true _ given.are.ascends));
         is = λ pid. ap (cond (nat_eq pid n) (Some g)) (given.are.is pid) ∙ ap (λ b. cond b (Some g) (find nat_cmp pid given.pages)) (sym (unsigned_tied pid n)) ∙ sym (find-put nat_cmp nat_cmp_total pid n g given.pages);
       };
       is = long ∙ ap (λ (k : ℕ). k + page_length n (Some g)) given.is ∙ sym (given_more n g given.pages new);
@@ -110,10 +103,10 @@ sized one two {three} {four} s mark pids versions given set marked limited =
       roots = set.roots;
       all_roots = set.are;
       is = adds_up (length one) (length two) (length three) (length four) _ _ (changes_length front) (length (change_bytes (Marked mark))) (length (change_bytes (Limited pids versions))) (changes_length rest) (changes_length last) _ given.is set.is
-        (ap length marked ∙ length-append two (change_bytes (Marked mark)))
-        (ap length limited ∙ length-append three (change_bytes (Limited pids versions)))
-        (longer (Limited pids versions) [])
-        (longer (Marked mark) last)
-        (both (map given_as given.pages) (map rooted_as set.roots))
-        (both front rest);
+          (ap length marked ∙ length-append two (change_bytes (Marked mark)))
+          (ap length limited ∙ length-append three (change_bytes (Limited pids versions)))
+          (longer (Limited pids versions) [])
+          (longer (Marked mark) last)
+          (both (map given_as given.pages) (map rooted_as set.roots))
+          (both front rest);
     }
