@@ -5,20 +5,19 @@ use Rattle.sled_log.specs.Digest.{digest}
 use Rattle.sled_log.specs.Log.{closed, blocks, IsLog}
 use Rattle.sled_log.specs.Tear.{EndsAt, log_to_tear}
 use Rattle.sled_log.proofs.ReadingLemmas.{digest_small, log_read}
-use Rattle.sled_files.proofs.Moments.{none_long}
 use Rattle.files_once.specs.Mended.{IsOfStore, BeginsAsStore, IsMadeWhole, IsMended}
 
--- nothing is behind the gate of a log that is the last byte
-last_rest : {file : List ℕ} {payloads : List (List ℕ)} {gate : ℕ} → (l : IsLog digest file payloads gate) → gate + 1 ≡ length file → l.rest ≡ []
-last_rest {file} {payloads} {gate} l last =
-    none_long l.rest (omega (arith, last, l.gate_is, ap length l.file_is, length-append (blocks digest payloads) (closed ∷ l.rest)))
+-- nothing is behind a gate that is the last byte
+none_behind : (file front rest : List ℕ) (gate : ℕ) → file ≡ front ++ closed ∷ rest → length front ≡ gate → gate + 1 ≡ length file → rest ≡ []
+none_behind file front [] gate is there last = refl
+none_behind file front (x ∷ rest) gate is there last = absurd (omega (arith, last, there, ap length is, length-append front (closed ∷ x ∷ rest)))
 
 -- a file that began as one of a store is whole, once it is such a log
 pub made_whole : (before after : List ℕ) (gate : ℕ) → BeginsAsStore before → IsLog digest after (log_to_tear digest before) gate → gate + 1 ≡ length after → IsMadeWhole before after
 made_whole before after gate began l last = record {
   began = began;
   log = log_read digest_small l;
-  is = l.file_is ∙ ap (λ (r : List ℕ). blocks digest (log_to_tear digest before) ++ closed ∷ r) (last_rest l last);
+  is = l.file_is ∙ ap (λ (r : List ℕ). blocks digest (log_to_tear digest before) ++ closed ∷ r) (none_behind after (blocks digest (log_to_tear digest before)) l.rest gate l.file_is l.gate_is last);
 }
 
 -- one that needs nothing is mended
