@@ -6,7 +6,8 @@ use Rattle.sled_nodes.specs.Order.{Key, Below}
 use Rattle.sled_nodes.specs.Among.{is_up_to}
 use Rattle.sled_nodes.specs.Node.{pairs}
 use Rattle.sled_store.specs.State.{State, Nodes, nodes_of}
-use Rattle.sled_store.specs.Store.{Store, now, AreGiven, view_of}
+use Rattle.sled_store.specs.Store.{Store, now, AreGiven, IsReadRefused, view_of}
+use Rattle.sled_nodes.specs.declared.error.Error.{Error}
 use Rattle.sled_nodes.specs.declared.node.Node.{Node}
 use Rattle.sled_store.specs.declared.page.Page.{Page}
 use Rattle.sled_store.specs.declared.page.View.{View}
@@ -18,10 +19,11 @@ use Rattle.tree_laws.proofs.Runs.{run_to}
 use Rattle.tree_laws.proofs.Looking.{next_in}
 use Rattle.tree_laws.proofs.Pairs.{not_below_empty}
 use Rattle.tree_laws.proofs.Viewed.{viewed, gone}
-use Rattle.tree_reads.specs.Walk.{IsLeafFor, HasTooMany, once}
+use Rattle.tree_reads.specs.Walk.{IsLeafFor, HasTooMany, RefusesWalk, once}
 use Rattle.tree_reads.specs.Leaves.{OfContents}
 use Rattle.tree_reads.specs.theory.Leaves.{Counts}
 use Rattle.tree_reads.specs.declared.TheConstants.{MOST_PAGES}
+use Rattle.tree_reads.proofs.Walking.{page_refused}
 use Rattle.tree_reads.proofs.Seeking.{node_at}
 use Rattle.tree_reads.proofs.Backing.{chain_at}
 
@@ -104,3 +106,8 @@ module _ (s : State) (root : ℕ) (v : View) (looked total : ℕ) (k : Counts s 
     where
       enough : (l b m : ℕ) → MOST_PAGES ≤ l → l + b ≤ m → MOST_PAGES ≤ m
       enough l b m h g = omega arith
+
+-- the leaf after one of the tree is not read
+pub count_refused : (s : Store) (root : ℕ) (v : View) (looked total : ℕ) → Counts (now s) root v looked total → (m : Node) → m ≡ v.node → (q : ℕ) → m.next ≡ Some q → (e : Error) → IsReadRefused q s e → RefusesWalk once s root e
+count_refused s root v looked total k m at q next = page_refused once s root q
+    (λ t is w f. let a = k.is w f t is in (0, (next_in f (place t 0) v.pid q v.node (chain_at w t v.pid a.0 a.1 a.2) (node_at (now s) v k.read.live) (ap (λ (z : Node). z.next) (sym at) ∙ next)).1))

@@ -15,7 +15,8 @@ use Rattle.sled_nodes.specs.Node.{pairs, value_at, Covers}
 use Rattle.sled_nodes.specs.declared.node.Data.{Data}
 use Rattle.sled_nodes.specs.declared.node.Data.TheVariants.{Leaf, Index}
 use Rattle.sled_store.specs.State.{State, nodes_of}
-use Rattle.sled_store.specs.Store.{Store, now, AreGiven, view_of}
+use Rattle.sled_store.specs.Store.{Store, now, AreGiven, IsReadRefused, view_of}
+use Rattle.sled_nodes.specs.declared.error.Error.{Error}
 use Rattle.sled_nodes.specs.declared.node.Node.{Node}
 use Rattle.sled_store.specs.declared.page.Page.{Page}
 use Rattle.sled_store.specs.declared.page.View.{View}
@@ -27,11 +28,11 @@ use Rattle.tree_laws.proofs.Looking.{next_in, next_some, ahead_next}
 use Rattle.tree_laws.proofs.Reading.{range_law, find_law}
 use Rattle.tree_laws.proofs.Pairs.{not_below_empty, above}
 use Rattle.tree_laws.proofs.Viewed.{viewed, gone}
-use Rattle.tree_reads.specs.Walk.{IsUnder, IsLeafFor, HasTooMany, once}
+use Rattle.tree_reads.specs.Walk.{IsUnder, IsLeafFor, HasTooMany, RefusesWalk, once}
 use Rattle.tree_reads.specs.Leaves.{OfContents, Seeks}
 use Rattle.tree_reads.specs.theory.Leaves.{StartsAt}
 use Rattle.tree_reads.specs.declared.TheConstants.{MOST_PAGES}
-use Rattle.tree_reads.proofs.Walking.{one_less}
+use Rattle.tree_reads.proofs.Walking.{one_less, page_refused}
 
 pub under : (a c : Key) → key_cmp a c ≡ Greater → Below c a
 under a c e = key_total.antisymm c a ∙ ap ordering_reverse e
@@ -236,3 +237,8 @@ value_found s root key from v looked leaf n same value is = record {
       let k = leaf.is w f t there in
       is ∙ ap (λ (z : Node). value_at z.content key) same ∙ value_is v.node.content key ∙ sym (find_law (nodes_of s) s.roots w f t v.pid v.node key (in_chain k.2) (node_at s v leaf.live) (covered key v.node k.0));
 }
+
+-- the leaf after one of the tree is not read
+pub next_refused : (s : Store) (root : ℕ) (lo : Bound Key) (v : View) (looked : ℕ) → Seeks (now s) root lo v looked → (m : Node) → m ≡ v.node → (q : ℕ) → m.next ≡ Some q → (e : Error) → IsReadRefused q s e → RefusesWalk once s root e
+next_refused s root lo v looked k m at q next = page_refused once s root q
+    (λ t is w f. (0, (next_in f (place t 0) v.pid q v.node (in_chain (k.is w f t is).1) (node_at (now s) v k.read.live) (ap (λ (z : Node). z.next) (sym at) ∙ next)).1))

@@ -8,7 +8,9 @@ use Rattle.sled_nodes.specs.Order.{Key}
 use Rattle.sled_store.specs.In.{In}
 use Rattle.sled_nodes.specs.Among.{is_up_to}
 use Rattle.sled_store.specs.State.{State, nodes_of}
-use Rattle.sled_store.specs.Store.{Store, now, AreGiven, view_of}
+use Rattle.sled_store.specs.Store.{Store, now, AreGiven, IsReadRefused, is_read_refused_as, view_of}
+use Rattle.sled_nodes.specs.declared.error.Error.{Error}
+use Rattle.sled_nodes.specs.declared.error.Error.TheVariants.{CollectionNotFound, Unsupported, ReportableBug, Io, Corruption, NoMemory, Closed}
 use Rattle.sled_store.specs.declared.page.Page.{Page}
 use Rattle.sled_store.specs.declared.page.View.{View}
 use Rattle.tree_laws.specs.Forest.{Tree, Forest, Place, place, WellFormed}
@@ -17,7 +19,7 @@ use Rattle.tree_laws.proofs.Known.{root_in}
 use Rattle.tree_laws.proofs.Runs.{In-left, In-right, In_cases}
 use Rattle.tree_laws.proofs.Looking.{ahead_at, ahead_few, pages_law}
 use Rattle.tree_laws.proofs.Viewed.{viewed, gone}
-use Rattle.tree_reads.specs.Walk.{IsLeafFor, IsOfTree, IsWay, HasTooMany}
+use Rattle.tree_reads.specs.Walk.{IsLeafFor, IsOfTree, IsWay, IsTreePage, HasTooMany, RefusesWalk, refuses_walk_as}
 use Rattle.tree_reads.specs.theory.Walk.{Stands, Turns, BeginsWalk, KeepsWay}
 use Rattle.tree_reads.specs.declared.TheConstants.{MOST_PAGES}
 
@@ -148,6 +150,25 @@ module _ (s : State) (root : ℕ) (target : Bound Key) (from pid looked : ℕ) (
     where
       enough : (l r m : ℕ) → l + r ≤ m → 1 ≤ r → MOST_PAGES ≤ l → MOST_PAGES < m
       enough l r m h e g = omega arith
+
+-- ---- pages that are not read
+
+-- the page was of the tree
+pub page_refused : (of : ℕ → ℕ) (s : Store) (root pid : ℕ) → ((t : Tree) → (now s).roots t ≡ Some root → IsTreePage (now s) t pid) → (e : Error) → IsReadRefused pid s e → RefusesWalk of s root e
+page_refused of s root pid page e r = record { is = go e r.is }
+  where
+    go : (e : Error) → is_read_refused_as pid s e → refuses_walk_as of s root e
+    go NoMemory k = tt
+    go (Io fault) k = (pid, k, page)
+    go (ReportableBug text) k = absurd k
+    go (CollectionNotFound name) k = absurd k
+    go (Unsupported text) k = absurd k
+    go (Corruption fault) k = absurd k
+    go Closed k = absurd k
+
+-- a walk stood at it
+pub walk_refused : (of : ℕ → ℕ) (s : Store) (root : ℕ) (target : Bound Key) (from pid looked : ℕ) → Goes (now s) root target from pid looked → (e : Error) → IsReadRefused pid s e → RefusesWalk of s root e
+walk_refused of s root target from pid looked k = page_refused of s root pid (λ t is w f. let a = (k.is w f t is).1 in (a.height, subst (In pid) (sym a.is.is) (In-right a.is.before (pid ∷ a.is.behind) pid (inl refl))))
 
 -- ---- ways that are kept
 

@@ -10,9 +10,9 @@ use Rattle.sled_store.specs.Store.{Store, now, refuses_read_as}
 use Rattle.sled_nodes.specs.declared.node.Node.{Node}
 use Rattle.sled_store.specs.declared.page.View.{View}
 use Rattle.sled_nodes.specs.declared.error.Error.{Error}
-use Rattle.sled_nodes.specs.declared.error.Error.TheVariants.{ReportableBug}
+use Rattle.sled_nodes.specs.declared.error.Error.TheVariants.{ReportableBug, Io}
 use Rattle.sled_nodes.specs.declared.texts.TheConstants.{WALK_PASSED_TURNS}
-use Rattle.tree_laws.specs.Forest.{Tree, Forest, WellFormed}
+use Rattle.tree_laws.specs.Forest.{Tree, Forest, place, WellFormed}
 use Rattle.tree_laws.specs.Paths.{CleanFrom, IsAhead, tree_pages}
 use Rattle.tree_reads.specs.declared.TheConstants.{MOST_PAGES}
 
@@ -49,12 +49,17 @@ IsWay s root way = (v : View) → In v way → IsOfTree s root v
 abbrev pub HasTooMany : (ℕ → ℕ) → State → ℕ → Type 0
 HasTooMany of s root = (w : Forest) → WellFormed (nodes_of s) s.roots w → (t : Tree) → s.roots t ≡ Some root → MOST_PAGES ≤ of (tree_pages s t)
 
+-- at every forest the page is on a level of the tree
+abbrev pub IsTreePage : State → Tree → ℕ → Type 0
+IsTreePage s t pid = (w : Forest) → WellFormed (nodes_of s) s.roots w → (height : ℕ) × In pid (w.chain (place t height))
+
 abbrev pub refuses_walk_as : (ℕ → ℕ) → Store → ℕ → Error → Type 0
+refuses_walk_as of s root (Io fault) = (pid : ℕ) × (s.is_readable pid ≡ false) × ((t : Tree) → (now s).roots t ≡ Some root → IsTreePage (now s) t pid)
 refuses_walk_as of s root (ReportableBug text) = (text.now ≡ WALK_PASSED_TURNS.now) × HasTooMany of (now s) root
 refuses_walk_as of s root e = refuses_read_as s e
 
--- Refused for want of memory, for a fault if some page is not readable, or for too many pages: from left to right no page is looked
--- at twice
+-- Refused for want of memory, for a fault if a page of the tree is not readable, or for too many pages: from left to right no page
+-- is looked at twice
 pub record RefusesWalk (of : ℕ → ℕ) (s : Store) (root : ℕ) (e : Error) : Type 0 where
   pub is : refuses_walk_as of s root e
 

@@ -2,7 +2,7 @@ use Rattle.std.proofs.Common.{sym, refl, ◌∙◌, subst, Some, None, ◌+◌}
 use Rattle.std.specs.declared.ops.Bound.TheVariants.{Included}
 use Rattle.tree_reads.specs.theory.Walk.{Turns}
 use Rattle.tree_reads.proofs.Seeking.{empty_least}
-use Rattle.tree_reads.proofs.Walking.{goes_on, goes_more, way_kept, way_less, walk_ends}
+use Rattle.tree_reads.proofs.Walking.{goes_on, goes_more, way_kept, way_less, walk_ends, walk_refused}
 use Rattle.tree_reads.proofs.walk.leaf_near.Goals as goal
 
 pub loop-looked-init : goal.loop-looked-init
@@ -23,3 +23,6 @@ loop-looked-preserved g c =
 
 pub returns-in_err-keep-clause-way : goal.returns-in_err-keep-clause-way
 returns-in_err-keep-clause-way g c = way_kept _ _ _ _ _ c.loop-looked.invariant.0 _ _ _ (sym c.in-Ok-Some.field-0-is ∙ c.in-Ok-Some.ensures.ok) c.loop-looked.invariant.1 c.keep.ensures.keeps
+
+pub returns-in-Err-clause-err : goal.returns-in-Err-clause-err
+returns-in-Err-clause-err g c = walk_refused _ _ _ _ _ _ _ c.loop-looked.invariant.0 _ c.in-Err.ensures.err
