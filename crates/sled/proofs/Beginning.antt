@@ -6,7 +6,7 @@ use Rattle.std.specs.declared.ops.Bound.TheVariants.{Included}
 use Rattle.sled_nodes.specs.Node.{value_at}
 use Rattle.sled_nodes.specs.Order.{Key, key_cmp}
 use Rattle.sled_nodes.specs.declared.error.Error.{Error}
-use Rattle.sled_nodes.specs.declared.error.Error.TheVariants.{ReportableBug}
+use Rattle.sled_nodes.specs.declared.error.Error.TheVariants.{ReportableBug, Io}
 use Rattle.sled_nodes.specs.declared.node.Node.{Node}
 use Rattle.sled_store.specs.In.{In}
 use Rattle.sled_store.specs.Store.{Store, now}
@@ -47,6 +47,7 @@ walk_unread : (of : ℕ → ℕ) (s : Store) (root : ℕ) (e : Error) → Refuse
 walk_unread of s root e r = go e r.is
   where
     go : (e : Error) → refuses_walk_as of s root e → unread s e
+    go (Io fault) k = (k.0, k.1)
     go (ReportableBug text) k = k.0
     go other k = k
 

@@ -132,7 +132,7 @@ module _ {P M F : Type 0} (store : P → Store) (meant : M → Merge) (closure :
     where
       read_cause : (e : Error) → stops_reading store meant old tree once e → cause_of_walk (store old.pages) (store new.pages) e
       read_cause error.NoMemory k = tt
-      read_cause (error.Io fault) k = inr k
+      read_cause (error.Io fault) k = inr (k.0, k.1)
       read_cause (error.ReportableBug text) k = k.0
       read_cause other k = k
 

@@ -310,6 +310,7 @@ module _ {P M : Type 0} (store : P → Store) (meant : M → Merge) where
     -- the key was not looked for
     read_cause : (e : Error) → stops_reading store meant old tree once e → unread_as None (store old.pages) e
     read_cause error.NoMemory k = tt
+    read_cause (error.Io fault) k = (k.0, k.1)
     read_cause (error.ReportableBug text) k = k.0
     read_cause other k = k
 

@@ -184,7 +184,7 @@ module _ {P M : Type 0} (store : P → Store) (meant : M → Merge) (old : DbVal
   -- what a read says, where it is refused
   read_cause : (of : ℕ → ℕ) (s : State) (e : Error) → stops_reading store meant old tree of e → cause_of_walk (store old.pages) (store old.pages) e
   read_cause of s error.NoMemory k = tt
-  read_cause of s (error.Io fault) k = inr k
+  read_cause of s (error.Io fault) k = inr (k.0, k.1)
   read_cause of s (error.ReportableBug text) k = k.0
   read_cause of s other k = absurd k
 
@@ -197,7 +197,7 @@ module _ {P M : Type 0} (store : P → Store) (meant : M → Merge) (old : DbVal
 
   read_quiet : (of : ℕ → ℕ) (e : Error) (o : Option MustRefuse) → refuses_reading_as store meant old tree of o e → IsStepRefused e (store old.pages) (store old.pages)
   read_quiet of error.NoMemory o k = refl
-  read_quiet of (error.Io fault) None k = inr (refl, k)
+  read_quiet of (error.Io fault) None k = inr (refl, k.0, k.1)
   read_quiet of (error.Io fault) (Some must) k = absurd (untold_fault (Some must) (error.Io fault) k fault refl)
   read_quiet of other o k = refl
 

@@ -124,7 +124,7 @@ module _ {P M : Type 0} (store : P → Store) (meant : M → Merge) (d : DbValue
         stopped : (e : Error) → stops_reading store meant d tree once e → unread (store d.pages) e
         stopped (error.ReportableBug text) k = k.0
         stopped error.NoMemory k = k
-        stopped (error.Io fault) k = k
+        stopped (error.Io fault) k = (k.0, k.1)
         stopped other k = k
 
         go : (o : Option MustRefuse) → must_refuse_of (db_state store meant d) (tree ∷ []) ≡ o → refuses_reading_as store meant d tree once o e → GroupRefused store meant d (range_group store meant d tree lo hi) e d

@@ -83,7 +83,7 @@ module _ {P M : Type 0} (store : P → Store) (meant : M → Merge) (d : DbValue
       where
         go : (e : Error) → refuses_walk_as of (store d.pages) root e → stops_reading store meant d tree of e
         go NoMemory k = tt
-        go (Io fault) k = k
+        go (Io fault) k = (k.0, k.1, k.2 tree.name there)
         go (ReportableBug text) k = (k.0, k.1 db.forest db.is.formed tree.name there)
         go other k = absurd k
 

@@ -7,13 +7,14 @@ use Rattle.sled_nodes.specs.Order.{Key}
 use Rattle.sled_nodes.specs.Ranges.{is_reversed}
 use Rattle.sled_store.specs.Store.{Store, now, refuses_read_as}
 use Rattle.sled_nodes.specs.declared.error.Error.{Error}
-use Rattle.sled_nodes.specs.declared.error.Error.TheVariants.{NoMemory, ReportableBug}
+use Rattle.sled_nodes.specs.declared.error.Error.TheVariants.{NoMemory, ReportableBug, Io}
 use Rattle.sled_nodes.specs.declared.texts.TheConstants.{WALK_PASSED_TURNS}
 use Rattle.sled_model.specs.Maps.{Map, Merge}
 use Rattle.sled_model.specs.State.{NamedTree}
 use Rattle.sled_model.specs.Refusal.{MustRefuse, must_refuse_of, tells}
 use Rattle.sled_model.specs.declared.tree.Tree.{Tree}
 use Rattle.tree_laws.specs.Paths.{IsClean, tree_pages}
+use Rattle.tree_reads.specs.Walk.{IsTreePage}
 use Rattle.tree_reads.specs.Ranges.{Coming, pairs_within}
 use Rattle.tree_reads.specs.Prefixes.{IsBytes, raised, pairs_beginning}
 use Rattle.tree_reads.specs.declared.TheConstants.{MOST_PAGES}
@@ -43,9 +44,10 @@ module _ {P M : Type 0} (store : P → Store) (meant : M → Merge) (d : DbValue
     pub beginning : AllByRecursion (λ e. IsBytes e.0) pairs.pairs → ReadsMap (λ map. pairs.pairs ≡ pairs_beginning prefix map)
     pub ended : pairs.ended ≡ false
 
-  -- want of memory, a page that is not readable, or as many pages looked at as may be: the tree has so many that this function of
-  -- their number reaches the limit
+  -- want of memory, a page of the tree that is not readable, or as many pages looked at as may be: the tree has so many that this
+  -- function of their number reaches the limit
   abbrev pub stops_reading : (ℕ → ℕ) → Error → Type 0
+  stops_reading of (Io fault) = (pid : ℕ) × ((store d.pages).is_readable pid ≡ false) × IsTreePage (now (store d.pages)) tree.name pid
   stops_reading of (ReportableBug text) = (text.now ≡ WALK_PASSED_TURNS.now) × (MOST_PAGES ≤ of (tree_pages (now (store d.pages)) tree.name))
   stops_reading of e = refuses_read_as (store d.pages) e
 
