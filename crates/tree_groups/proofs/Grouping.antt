@@ -16,7 +16,7 @@ use Rattle.tree_laws.specs.Snapshot.{Snapshot, snapshot_of, nodes_at, HasForest}
 use Rattle.tree_laws.proofs.Crashing.{extends_nothing, extends_same, extends_again}
 use Rattle.sled_tree.specs.declared.flight.Job.{Job}
 use Rattle.tree_groups.specs.declared.key_write.KeyWrite.{KeyWrite}
-use Rattle.tree_groups.specs.Groups.{job_of, jobs_of, AreNumbered, AreKnown, map_after_jobs, WrittenAll, all_by_steps, group_by_steps, seals_as, MakesGroup, KeepsForests, LeavesGroup}
+use Rattle.tree_groups.specs.Groups.{job_of, jobs_of, AreNumbered, AreKnown, map_after_jobs, WrittenAll, all_by_steps, group_by_steps, one_stops_by_steps, seals_as, MakesGroup, KeepsForests, LeavesGroup}
 use Rattle.tree_groups.specs.theory.Groups.{MakesKnown, StopsKnown, WritesAll, StopsWritingAll}
 use Rattle.tree_groups.specs.Writes.{ActsOften, NoAction, Keeps, WrittenAt}
 use Rattle.tree_groups.proofs.Ready.{keeps_then, all_known, refused_store}
@@ -63,6 +63,9 @@ pub record SoFar (all rest : List KeyWrite) (old new : Store) : Type 0 where
   -- the rest of the steps makes them all
   pub steps : (numbers : Tree → Option ℕ) (given : ℕ → Bool) (w : Forest) → HasForest (snapshot_of old numbers given) w → AreNumbered numbers (jobs_of all) → AreKnown (snapshot_of old numbers given) all
       → (last : Store) → all_by_steps (jobs_of rest) new last → all_by_steps (jobs_of all) old last
+  -- .. also if one of them is refused
+  pub stops : (numbers : Tree → Option ℕ) (given : ℕ → Bool) (w : Forest) → HasForest (snapshot_of old numbers given) w → AreNumbered numbers (jobs_of all) → AreKnown (snapshot_of old numbers given) all
+      → (last : Store) (e : Error) → one_stops_by_steps numbers given (jobs_of rest) new last e → one_stops_by_steps numbers given (jobs_of all) old last e
   pub told : (numbers : Tree → Option ℕ) (given : ℕ → Bool) (w : Forest) → HasForest (snapshot_of old numbers given) w → AreNumbered numbers (jobs_of all) → AreKnown (snapshot_of old numbers given) all
       → IsSoFar numbers (jobs_of all) rest (snapshot_of old numbers given) w (snapshot_of new numbers given)
 
@@ -70,6 +73,7 @@ pub so_far_first : (all rest : List KeyWrite) (s : Store) → rest ≡ all → S
 so_far_first all rest s e = subst (λ (l : List KeyWrite). SoFar all l s s) (sym e) (record {
   acts = NoAction;
   steps = λ numbers given w is named known last rest. rest;
+  stops = λ numbers given w is named known last e rest. rest;
   told = λ numbers given w is named known. record { after = w; keeps = keeps_first (snapshot_of s numbers given) w is; named = named; known = known; is = λ operator t. refl };
 })
 
@@ -83,6 +87,9 @@ so_far_more all f fs rest old a b e before x = go (subst (λ (l : List KeyWrite)
       steps = λ numbers given w is named known last rest.
           let p = k.told numbers given w is named known in
           k.steps numbers given w is named known last (b, x.steps numbers given p.after p.keeps.is p.named.0 p.known.0, rest);
+      stops = λ numbers given w is named known last e rest.
+          let p = k.told numbers given w is named known in
+          k.stops numbers given w is named known last e (inr (b, x.steps numbers given p.after p.keeps.is p.named.0 p.known.0, rest));
       told = λ numbers given w is named known.
           let p = k.told numbers given w is named known in
           let r = x.told numbers given p.after p.keeps.is p.named.0 p.known.0 in record {
@@ -104,6 +111,9 @@ so_far_refused all f fs rest old a b e here before x = go (subst (λ (l : List K
       last = x.last;
       acts = often_then k.acts x.acts;
       refused = x.refused;
+      stops = λ numbers given w is named known.
+          let p = k.told numbers given w is named known in
+          k.stops numbers given w is named known b e (inl (x.stops numbers given p.after p.keeps.is p.named.0 p.known.0));
       told = λ numbers given w is named known.
           let p = k.told numbers given w is named known in
           let r = x.told numbers given p.after p.keeps.is p.named.0 p.known.0 in record {
@@ -162,6 +172,7 @@ pub group_not_begun : (fs : List KeyWrite) (a b : Store) (e : Error) → jobs_of
 group_not_begun fs a b e some refused = record {
   some = some;
   acts = inl refused;
+  stops = λ numbers given w is named known. inl (record { is = refused });
   adds = refused_adds a b (refused_marks e a b refused);
   told = λ numbers given w is named known. forest_stays (snapshot_of a numbers given) (snapshot_of b numbers given) w (refused_shows a b (refused_marks e a b refused) numbers given) is;
 }
@@ -177,6 +188,9 @@ module _ (fs : List KeyWrite) (some : jobs_of fs ≢ []) (old begun : Store) (be
       let inside = refused_law old begun x.last new e begins x.acts x.refused in record {
         some = some;
         acts = inr (x.last, record { begun = begun; is = begins; acts = x.acts }, x.refused, inside.inside);
+        stops = λ numbers given w is named known.
+            let p = bounds_law old begun (inl begins) numbers given w is in
+            inr (inl (subst (λ (s : Store). one_stops_by_steps numbers given (jobs_of fs) s new e) begins (x.stops numbers given p.after p.keeps.is named (all_known (snapshot_of old numbers given) (snapshot_of begun numbers given) w p.after p.keeps fs known))));
         adds = inside.adds;
         told = λ numbers given w is named known.
             let p = bounds_law old begun (inl begins) numbers given w is in
@@ -197,6 +211,12 @@ module _ (fs : List KeyWrite) (some : jobs_of fs ≢ []) (old begun : Store) (be
           is = λ operator t. r.is operator t ∙ ap (map_after_jobs operator (jobs_of fs) t) (p.same t);
         }
 
+    made_by_steps : (numbers : Tree → Option ℕ) (given : ℕ → Bool) (w : Forest) → HasForest (snapshot_of old numbers given) w → AreNumbered numbers (jobs_of fs) → AreKnown (snapshot_of old numbers given) fs
+        → all_by_steps (jobs_of fs) (after_action GroupBegins old) last
+    made_by_steps numbers given w is named known =
+        let p = bounds_law old begun (inl begins) numbers given w is in
+        subst (λ (s : Store). all_by_steps (jobs_of fs) s last) begins (x.steps numbers given p.after p.keeps.is named (all_known (snapshot_of old numbers given) (snapshot_of begun numbers given) w p.after p.keeps fs known))
+
     -- it is not sealed
     pub group_not_sealed : (new : Store) (e : Error) → is_refused_as e last new → LeavesGroup fs old new e
     group_not_sealed new e refused =
@@ -204,6 +224,7 @@ module _ (fs : List KeyWrite) (some : jobs_of fs ≢ []) (old begun : Store) (be
         let inside = refused_law old begun last new e begins x.acts why in record {
           some = some;
           acts = inr (last, record { begun = begun; is = begins; acts = x.acts }, why, inside.inside);
+          stops = λ numbers given w is named known. inr (inr (last, made_by_steps numbers given w is named known, record { is = refused }));
           adds = inside.adds;
           told = λ numbers given w is named known.
               let p = written numbers given w is named known in
@@ -217,9 +238,7 @@ module _ (fs : List KeyWrite) (some : jobs_of fs ≢ []) (old begun : Store) (be
     pub group_sealed : (new : Store) → new ≡ after_action GroupEnds last → MakesGroup fs old new
     group_sealed new seals = record {
       acts = seals_so (jobs_of fs) some;
-      steps = λ numbers given w is named known.
-          let p = bounds_law old begun (inl begins) numbers given w is in
-          steps_so (jobs_of fs) some (x.steps numbers given p.after p.keeps.is named (all_known (snapshot_of old numbers given) (snapshot_of begun numbers given) w p.after p.keeps fs known));
+      steps = λ numbers given w is named known. steps_so (jobs_of fs) some (made_by_steps numbers given w is named known);
       adds = λ well. sealed_law old begun last new begins x.acts seals well;
       told = λ numbers given w is named known.
           let p = written numbers given w is named known in
@@ -234,9 +253,9 @@ module _ (fs : List KeyWrite) (some : jobs_of fs ≢ []) (old begun : Store) (be
         seals_so [] some = absurd (some refl)
         seals_so (j ∷ l) some = (last, record { begun = begun; is = begins; acts = x.acts }, seals)
 
-        steps_so : (l : List Job) → l ≢ [] → all_by_steps l begun last → group_by_steps l old new
+        steps_so : (l : List Job) → l ≢ [] → all_by_steps l (after_action GroupBegins old) last → group_by_steps l old new
         steps_so [] some made = absurd (some refl)
-        steps_so (j ∷ l) some made = (last, subst (λ (s : Store). all_by_steps (j ∷ l) s last) begins made, seals)
+        steps_so (j ∷ l) some made = (last, made, seals)
 
     -- as the store answers
     pub group_ends : (new : Store) (r : Result (Unit {0}) Error) → OnOk r (new ≡ after_action GroupEnds last) → OnOk r (MakesGroup fs old new)

@@ -39,8 +39,8 @@ use Rattle.sled_tree.specs.declared.flight.InFlight.{InFlight}
 use Rattle.sled_tree.specs.declared.flight.Job.{Job}
 use Rattle.sled_tree.specs.declared.flight.Sequel.TheVariants as sequel
 use Rattle.tree_groups.specs.declared.key_write.KeyWrite.{KeyWrite}
-use Rattle.tree_groups.specs.Groups.{IsSettled, job_of, at_leaf, IsLeafOf, AreKnown, MadeBySteps}
-use Rattle.tree_groups.specs.theory.Groups.{link_with, links_as, LinksWrite, IsReadAgain, KnowsLeaf, MakesAgain, StopsAgain, MakesKnown, StopsKnown}
+use Rattle.tree_groups.specs.Groups.{IsSettled, job_of, at_leaf, IsLeafOf, AreKnown, MadeBySteps, KnowsLeaf}
+use Rattle.tree_groups.specs.theory.Groups.{link_with, links_as, LinksWrite, IsReadAgain, MakesAgain, StopsAgain, MakesKnown, StopsKnown}
 use Rattle.tree_groups.specs.Steps.{WriteSteps, Ends}
 use Rattle.tree_groups.specs.Writes.{fresh_call, ActsOften, NoAction, OneAction, is_write_refused_as, Keeps, WrittenAt, KeepsMapsAt, MakesWrite, StopsWriting}
 use Rattle.sled_tree.proofs.Facts.{once_acts}
@@ -262,11 +262,14 @@ module _ (w : KeyWrite) (v : View) (a : Store) (numbers : Tree → Option ℕ) (
   settled_here : IsSettled v.node
   settled_here = let here = (known.is f is).0 in record { not_merging = here.0.seen.is_open.not_merging; free = here.0.seen.is_open.free; fits = here.1.fits }
 
+  under_here : LiesUnder (Included (key_of (job_of w).call)) v.node
+  under_here = subst (λ b. LiesUnder b v.node) ((aims w.tree.now (job_of w).call).key (on_key w.key.now w.value.now)) (known.is f is).0.0.under
+
   steps_here : (b : Store) (version : ℕ) → Changes (after_link (link_with w.key.now w.value.now)) v.pid v.version a b (Ok version) → MadeBySteps (job_of w) a b
   steps_here b version c =
       let s = (link_done (link_with w.key.now w.value.now) a b call_here v refl version call_here c).is None reply_here prepared in record {
         first = call_here;
-        begins = inr (v, refl, leaf_now version b c, settled_here);
+        begins = inr (v, refl, leaf_now version b c, settled_here, under_here);
         steps = Ends (one_step None (course_of call_here) a b call_here (sequel.Decided reply_here) numbers given f is named (known.is f is) (omega (arith, limit_is)) (inr (once_acts c.is.2)) s.advances.is s.follows.is);
       }
 
@@ -329,6 +332,7 @@ module _ (w : KeyWrite) (pid version : ℕ) (a b : Store) (done : Result Bool Er
       last = a;
       acts = NoAction;
       refused = refused_store e a b refusal.is;
+      stops = λ numbers given f is named known. let k = subst (IsLeafOf (snapshot_of a numbers given) (job_of w)) at known in record { is = inr (pid, (k.0, k.1, k.3), inr refusal) };
       told = λ numbers given f is named known. let k = subst (IsLeafOf (snapshot_of a numbers given) (job_of w)) at known in stopped_here w k.0 a numbers given f is named k.3 b e refusal;
     }
 
@@ -337,6 +341,7 @@ module _ (w : KeyWrite) (pid version : ℕ) (a b : Store) (done : Result Bool Er
       last = a;
       acts = NoAction;
       refused = refused_store e a b refusal.is;
+      stops = λ numbers given f is named before. record { is = inr (pid, before, inr refusal) };
       told = λ numbers given f is named before. stopped_here w r.view a numbers given f is named (known_again (snapshot_of a numbers given) w named pid before version r) b e refusal;
     }
 
@@ -355,7 +360,13 @@ root_made j pid a b (Err e) m = tt
 
 pub root_stopped : (j : Job) (pid : ℕ) (a b : Store) (r : Result (Unit {0}) Error) → IfErr r (StopsWriting j a b) → IfErr r (StopsAgain j pid a b)
 root_stopped j pid a b (Ok u) m = tt
-root_stopped j pid a b (Err e) m = record { last = m.last; acts = m.acts; refused = m.refused; told = λ numbers given f is named before. m.told numbers given f is named }
+root_stopped j pid a b (Err e) m = record {
+  last = m.last;
+  acts = m.acts;
+  refused = m.refused;
+  stops = λ numbers given f is named before. record { is = inl (m.stops numbers given f is named) };
+  told = λ numbers given f is named before. m.told numbers given f is named;
+}
 
 pub first_made : (w : KeyWrite) (a b : Store) (r : Result (Unit {0}) Error) → OnOk r (MakesWrite (job_of w) a b) → OnOk r (MakesKnown w a b)
 first_made w a b (Ok u) m = record {
@@ -367,7 +378,13 @@ first_made w a b (Err e) m = tt
 
 pub first_stopped : (w : KeyWrite) (a b : Store) (r : Result (Unit {0}) Error) → IfErr r (StopsWriting (job_of w) a b) → IfErr r (StopsKnown w a b)
 first_stopped w a b (Ok u) m = tt
-first_stopped w a b (Err e) m = record { last = m.last; acts = m.acts; refused = m.refused; told = λ numbers given f is named known. m.told numbers given f is named }
+first_stopped w a b (Err e) m = record {
+  last = m.last;
+  acts = m.acts;
+  refused = m.refused;
+  stops = λ numbers given f is named known. record { is = inl (m.stops numbers given f is named) };
+  told = λ numbers given f is named known. m.told numbers given f is named;
+}
 
 module _ (w : KeyWrite) (pid version : ℕ) (at : w.leaf ≡ Some (pid, version)) where
   knows_leaf : (m : Snapshot) → IsLeafOf m (job_of w) w.leaf → KnowsLeaf m (job_of w) pid
@@ -383,11 +400,20 @@ module _ (w : KeyWrite) (pid version : ℕ) (at : w.leaf ≡ Some (pid, version)
 
   pub leaf_read_stopped : (a b : Store) (r : Result (Unit {0}) Error) → IfErr r (StopsAgain (job_of w) pid a b) → IfErr r (StopsKnown w a b)
   leaf_read_stopped a b (Ok u) m = tt
-  leaf_read_stopped a b (Err e) m = record { last = m.last; acts = m.acts; refused = m.refused; told = λ numbers given f is named known. m.told numbers given f is named (knows_leaf (snapshot_of a numbers given) known) }
+  leaf_read_stopped a b (Err e) m = record {
+    last = m.last;
+    acts = m.acts;
+    refused = m.refused;
+    stops = λ numbers given f is named known. m.stops numbers given f is named (knows_leaf (snapshot_of a numbers given) known);
+    told = λ numbers given f is named known. m.told numbers given f is named (knows_leaf (snapshot_of a numbers given) known);
+  }
 
   -- .. after a link that came too late
   pub late_read_made : (a b c : Store) (done : Result Bool Error) → LinksWrite w pid version a done b → done ≡ Ok false → (r : Result (Unit {0}) Error) → OnOk r (MakesAgain (job_of w) pid b c) → OnOk r (MakesKnown w a c)
   late_read_made a b c done l late r m = leaf_read_made a c r (subst (λ (s : Store). OnOk r (MakesAgain (job_of w) pid s c)) (late_same w pid version a b done l late) m)
+
+  pub late_read_stopped : (a b c : Store) (done : Result Bool Error) → LinksWrite w pid version a done b → done ≡ Ok false → (r : Result (Unit {0}) Error) → IfErr r (StopsAgain (job_of w) pid b c) → IfErr r (StopsKnown w a c)
+  late_read_stopped a b c done l late r m = leaf_read_stopped a c r (subst (λ (s : Store). IfErr r (StopsAgain (job_of w) pid s c)) (late_same w pid version a b done l late) m)
 
 -- .. or it cannot be read
 pub unread_stopped : (j : Job) (pid : ℕ) (s : Store) (e : Error) → IsReadRefused pid s e → StopsAgain j pid s s e
@@ -395,6 +421,7 @@ unread_stopped j pid s e r = record {
   last = s;
   acts = NoAction;
   refused = go e r.is;
+  stops = λ numbers given w is named before. record { is = inr (pid, before, inl (refl, r)) };
   told = λ numbers given w is named before. record { after = w; keeps = keeps_first (snapshot_of s numbers given) w is; same = λ t. refl };
 }
   where
@@ -413,6 +440,7 @@ not_begun j s e none = subst (StopsWriting j s s) (sym none) (record {
   last = s;
   acts = NoAction;
   refused = refl;
+  stops = λ numbers given w is named. inl (refl, refl);
   turns = λ t. absurd t;
   told = λ numbers given w is named. record { after = w; keeps = keeps_first (snapshot_of s numbers given) w is; same = λ t. refl };
 })

@@ -44,7 +44,7 @@ use Rattle.sled_tree.proofs.Facts.{rests}
 use Rattle.sled_tree.proofs.Known.{known_kept, not_own, aims}
 use Rattle.tree_groups.proofs.Stepping.{one_step, turned}
 use Rattle.tree_groups.proofs.Ways.{stays_on_way}
-use Rattle.tree_groups.specs.Steps.{WriteStep, WriteSteps, Ends, GoesOn}
+use Rattle.tree_groups.specs.Steps.{WriteStep, WriteSteps, Ends, GoesOn, RefusedSteps, StopsAt, RunsOut, StopsLater}
 use Rattle.tree_groups.specs.Writes.{fresh_call, IsFresh, ActsOften, NoAction, OneAction, is_write_refused_as, Keeps, WrittenAt, MakesWrite, KeepsMapsAt, StopsWriting, IsInside, OpenGroupLaw, RefusedGroupLaw, SealedGroupLaw, GroupBoundsLaw}
 
 -- ---- the store's actions
@@ -183,6 +183,9 @@ pub record OnWay (j : Job) (old new : Store) (f : InFlight) : Type 0 where
   -- the rest of its steps makes them all
   pub steps : (numbers : Tree → Option ℕ) (given : ℕ → Bool) (w : Forest) → HasForest (snapshot_of old numbers given) w → numbers j.tree.name ≡ Some j.tree.number
       → (last : Store) → WriteSteps new f last → WriteSteps old (fresh_call j) last
+  -- .. also if one is refused
+  pub stops : (numbers : Tree → Option ℕ) (given : ℕ → Bool) (w : Forest) → HasForest (snapshot_of old numbers given) w → numbers j.tree.name ≡ Some j.tree.number
+      → (last : Store) (e : Error) → RefusedSteps new f last e → RefusedSteps old (fresh_call j) last e
   pub passes : (path : List ℕ) → IsClean (now old) j.tree.name (Included (key_of j.call)) path → HasPassed j new f path
   pub told : (numbers : Tree → Option ℕ) (given : ℕ → Bool) (w : Forest) → HasForest (snapshot_of old numbers given) w → numbers j.tree.name ≡ Some j.tree.number
       → IsOnWay j (snapshot_of old numbers given) w (snapshot_of new numbers given) f
@@ -193,6 +196,7 @@ on_way_first s f fresh key = record {
   way = subst IsOnItsWay (sym root) tt;
   acts = NoAction;
   steps = λ numbers given w is named last rest. subst (λ (g : InFlight). WriteSteps s g last) fresh rest;
+  stops = λ numbers given w is named last e rest. subst (λ (g : InFlight). RefusedSteps s g last e) fresh rest;
   passes = λ path clean. record {
     rest = path;
     count = none_passed f.turns (length path) (ap (λ (g : InFlight). g.turns) fresh);
@@ -282,6 +286,9 @@ module _ (j : Job) (old a : Store) (f : InFlight) (k : OnWay j old a f) (b : Sto
     steps = λ numbers given w is named last rest.
         k.steps numbers given w is named last
         (GoesOn (step_more (sequel.Go g.stage) room step.touches step follows.is numbers given w is named) (subst (λ (h : InFlight). WriteSteps b h last) (turned f g x.is.0 x.is.1 x.is.2) rest));
+    stops = λ numbers given w is named last e rest.
+        k.stops numbers given w is named last e
+        (StopsLater (step_more (sequel.Go g.stage) room step.touches step follows.is numbers given w is named) (subst (λ (h : InFlight). RefusedSteps b h last e) (turned f g x.is.0 x.is.1 x.is.2) rest));
     passes = λ path clean.
         let p = k.passes path clean in
         let r = further.is p.rest (subst (λ (z : Course). IsOnPath (now a) z f.stage p.rest) (sym k.course_is) p.ahead) in record {
@@ -313,11 +320,12 @@ module _ (j : Job) (old a : Store) (f : InFlight) (k : OnWay j old a f) (b : Sto
       step = on_course (sequel.Decided reply) x.is
 
   -- it is refused
-  pub on_way_refused : (e : Error) (g : InFlight) → FlightStepBy (Only None) a f (Refused e) b g → StopsWriting j old b e
-  on_way_refused e g x = record {
+  pub on_way_refused : f.turns < turns_limit → (e : Error) (g : InFlight) → FlightStepBy (Only None) a f (Refused e) b g → FollowsOn a f (Refused e) b g → StopsWriting j old b e
+  on_way_refused room e g x follows = record {
     last = a;
     acts = k.acts;
     refused = refused_so e a b step.touches;
+    stops = λ numbers given w is named. inr (k.stops numbers given w is named b e (StopsAt room follows.is));
     turns = λ tells path clean. absurd (untold e a b step.touches tells);
     told = λ numbers given w is named. refused_at j old a b f numbers given w is named (k.told numbers given w is named) e step;
   }
@@ -334,6 +342,7 @@ on_way_ends j old a f k e tells many = record {
   last = a;
   acts = k.acts;
   refused = used_up e a tells;
+  stops = λ numbers given w is named. inr (k.stops numbers given w is named a e (RunsOut many tells));
   turns = λ tells path clean. let p = k.passes path clean in longer (length path) f.turns (length p.rest) p.count many;
   told = λ numbers given w is named. let p = k.told numbers given w is named in record { after = p.after; keeps = p.keeps; same = p.same };
 }

@@ -1,19 +1,20 @@
 -- A group of writes, over the pages alone.
 use Rattle.std.specs.Prelude.{◌≡◌, ◌≢◌, ℕ, ◌≤◌, ◌⊎◌, Bool, true, false, List, [], ◌∷◌, map, Option, Some, None, if◌then◌else◌}
 use Rattle.std.specs.Str.{bytes_eq}
+use Rattle.std.specs.declared.ops.Bound.TheVariants.{Included}
 use Rattle.sled_nodes.specs.Node.{count}
 use Rattle.sled_nodes.specs.declared.error.Error.{Error}
 use Rattle.sled_nodes.specs.declared.node.Node.{Node}
 use Rattle.sled_store.specs.State.{GroupBegins, GroupEnds}
-use Rattle.sled_store.specs.Store.{Store, now, view_of, after_action, is_refused_as}
+use Rattle.sled_store.specs.Store.{Store, now, view_of, after_action, is_refused_as, IsRefused, IsReadRefused}
 use Rattle.sled_store.specs.declared.page.View.{View}
 use Rattle.sled_model.specs.Maps.{Map, Merge}
-use Rattle.sled_model.specs.Answer.{answer_of}
+use Rattle.sled_model.specs.Answer.{answer_of, key_of}
 use Rattle.sled_model.specs.Groups.{call_with}
 use Rattle.tree_laws.specs.Contents.{trees_of}
 use Rattle.tree_laws.specs.Crashes.{AddsCrashStates, IsValid}
 use Rattle.tree_laws.specs.Forest.{Tree, Forest, contents}
-use Rattle.tree_laws.specs.Snapshot.{Snapshot, snapshot_of, nodes_at, HasForest}
+use Rattle.tree_laws.specs.Snapshot.{Snapshot, snapshot_of, nodes_at, HasForest, LiesUnder}
 use Rattle.tree_laws.specs.declared.flight.Stage.TheVariants.{Act}
 use Rattle.sled_tree.specs.Known.{IsKnown}
 use Rattle.sled_tree.specs.declared.flight.Aim.TheVariants.{Own}
@@ -21,7 +22,7 @@ use Rattle.sled_tree.specs.declared.flight.InFlight.{InFlight}
 use Rattle.sled_tree.specs.declared.flight.Job.{Job}
 use Rattle.tree_groups.specs.declared.key_write.KeyWrite.{KeyWrite}
 use Rattle.tree_groups.specs.Steps.{WriteSteps}
-use Rattle.tree_groups.specs.Writes.{fresh_call, ActsOften, is_write_refused_as, Keeps}
+use Rattle.tree_groups.specs.Writes.{fresh_call, stops_from_root, ActsOften, is_write_refused_as, Keeps}
 
 -- nothing is to be repaired at a node
 pub record IsSettled (n : Node) : Type 0 where
@@ -66,9 +67,9 @@ pub record WrittenAll (js : List Job) (m : Snapshot) (w : Forest) (n : Snapshot)
   pub keeps : Keeps m w n after
   pub is : (operator : Option Merge) (t : Tree) → contents (nodes_at n) after t ≡ map_after_jobs operator js t (contents (nodes_at m) w t)
 
--- where a write begins: at the root of its tree, or at a leaf as it is now, at which nothing is to be repaired
+-- where a write begins: at the root of its tree, or at the leaf of its key as it is now, at which nothing is to be repaired
 abbrev pub begins_write : Job → Store → InFlight → Type 0
-begins_write j s f = (f ≡ fresh_call j) ⊎ ((v : View) × (f ≡ at_leaf j v) × (Some v ≡ view_of v.pid ((now s).pages v.pid)) × IsSettled v.node)
+begins_write j s f = (f ≡ fresh_call j) ⊎ ((v : View) × (f ≡ at_leaf j v) × (Some v ≡ view_of v.pid ((now s).pages v.pid)) × IsSettled v.node × LiesUnder (Included (key_of j.call)) v.node)
 
 -- a write is made by the steps of its call
 pub record MadeBySteps (j : Job) (old new : Store) : Type 0 where
@@ -85,6 +86,31 @@ all_by_steps (j ∷ js) old new = (mid : Store) × MadeBySteps j old mid × all_
 abbrev pub group_by_steps : List Job → Store → Store → Type 0
 group_by_steps [] old new = new ≡ old
 group_by_steps (j ∷ js) old new = (last : Store) × all_by_steps (j ∷ js) (after_action GroupBegins old) last × (new ≡ after_action GroupEnds last)
+
+-- what a call knew of a leaf of this number when it read it
+abbrev pub KnowsLeaf : Snapshot → Job → ℕ → Type 0
+KnowsLeaf m j pid = (v : View) × (v.pid ≡ pid) × IsKnown m (at_leaf j v)
+
+module _ (numbers : Tree → Option ℕ) (given : ℕ → Bool) where
+  -- a leaf that the call of a write knows cannot be read again, or the store refuses to change it
+  abbrev pub stops_at_leaf : Job → Store → Store → Error → Type 0
+  stops_at_leaf j old new e = (pid : ℕ) × KnowsLeaf (snapshot_of old numbers given) j pid × (((new ≡ old) × IsReadRefused pid old e) ⊎ IsRefused e old new)
+
+  -- a write is refused on its way from the root, or at its leaf
+  pub record StopsBySteps (j : Job) (old new : Store) (e : Error) : Type 0 where
+    pub is : stops_from_root j old new e ⊎ stops_at_leaf j old new e
+
+  -- .. and so is one of these, after those before it were made by their steps
+  abbrev pub one_stops_by_steps : List Job → Store → Store → Error → Type 0
+  one_stops_by_steps [] old new e = ⊥
+  one_stops_by_steps (j ∷ js) old new e = StopsBySteps j old new e ⊎ ((mid : Store) × MadeBySteps j old mid × one_stops_by_steps js mid new e)
+
+  -- The begin of a group is refused. Else it is begun, and one of its writes is refused; or all are made, and its end is refused
+  abbrev pub group_stops_by_steps : List Job → Store → Store → Error → Type 0
+  group_stops_by_steps js old new e =
+      IsRefused e old new
+      ⊎ (one_stops_by_steps js (after_action GroupBegins old) new e
+      ⊎ ((last : Store) × all_by_steps js (after_action GroupBegins old) last × IsRefused e last new))
 
 -- a group was begun, and these actions were done in it
 pub record ActsInside (old last : Store) : Type 0 where
@@ -117,6 +143,8 @@ pub record KeepsForests (m : Snapshot) (w : Forest) (n : Snapshot) : Type 0 wher
 pub record LeavesGroup (ws : List KeyWrite) (old new : Store) (e : Error) : Type 0 where
   pub some : jobs_of ws ≢ []
   pub acts : is_refused_as e old new ⊎ ((last : Store) × ActsInside old last × is_write_refused_as e last new × ((now new).in_group ≡ true))
+  pub stops : (numbers : Tree → Option ℕ) (given : ℕ → Bool) (w : Forest) → HasForest (snapshot_of old numbers given) w → AreNumbered numbers (jobs_of ws) → AreKnown (snapshot_of old numbers given) ws
+      → group_stops_by_steps numbers given (jobs_of ws) old new e
   pub adds : AddsCrashStates [] old new
   pub told : (numbers : Tree → Option ℕ) (given : ℕ → Bool) (w : Forest) → HasForest (snapshot_of old numbers given) w → AreNumbered numbers (jobs_of ws) → AreKnown (snapshot_of old numbers given) ws
       → KeepsForests (snapshot_of old numbers given) w (snapshot_of new numbers given)

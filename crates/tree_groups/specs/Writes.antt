@@ -21,7 +21,7 @@ use Rattle.sled_tree.specs.StageAction.{ActsOnce}
 use Rattle.sled_tree.specs.declared.flight.Aim.TheVariants.{Own}
 use Rattle.sled_tree.specs.declared.flight.InFlight.{InFlight}
 use Rattle.sled_tree.specs.declared.flight.Job.{Job}
-use Rattle.tree_groups.specs.Steps.{WriteSteps}
+use Rattle.tree_groups.specs.Steps.{WriteSteps, RefusedSteps}
 
 -- a call that has yet to begin
 abbrev pub fresh_call : Job → InFlight
@@ -77,12 +77,17 @@ pub record MakesWrite (j : Job) (old new : Store) : Type 0 where
   pub told : (numbers : Tree → Option ℕ) (given : ℕ → Bool) (w : Forest) → HasForest (snapshot_of old numbers given) w → numbers j.tree.name ≡ Some j.tree.number
       → WrittenAt j (snapshot_of old numbers given) w (snapshot_of new numbers given)
 
+-- a write from the root is refused for want of memory before its first step, or by its steps
+abbrev pub stops_from_root : Job → Store → Store → Error → Type 0
+stops_from_root j old new e = ((e ≡ NoMemory) × (new ≡ old)) ⊎ RefusedSteps old (fresh_call j) new e
+
 -- .. or it is refused, after which nothing more is done, and has written nothing. Its turns are used up only if there was something to
 -- repair on the way to its key, or if the way has so many levels
 pub record StopsWriting (j : Job) (old new : Store) (e : Error) : Type 0 where
   pub last : Store
   pub acts : ActsOften old last
   pub refused : is_write_refused_as e last new
+  pub stops : (numbers : Tree → Option ℕ) (given : ℕ → Bool) (w : Forest) → HasForest (snapshot_of old numbers given) w → numbers j.tree.name ≡ Some j.tree.number → stops_from_root j old new e
   pub turns : TellsTurns e → (path : List ℕ) → IsClean (now old) j.tree.name (Included (key_of j.call)) path → turns_limit ≤ length path
   pub told : (numbers : Tree → Option ℕ) (given : ℕ → Bool) (w : Forest) → HasForest (snapshot_of old numbers given) w → numbers j.tree.name ≡ Some j.tree.number
       → KeepsMapsAt (snapshot_of old numbers given) w (snapshot_of new numbers given)

@@ -15,7 +15,7 @@ pub returns-in-Decided-clause-ok : goal.returns-in-Decided-clause-ok
 returns-in-Decided-clause-ok g c = on_way_decided _ _ _ _ c.loop-flight.invariant _ (omega (arith, limit_is, c.loop-flight-test.true)) c.requires.plain _ _ c.in-Decided.ensures.advances c.in-Decided.ensures.follows
 
 pub returns-in-Refused-clause-err : goal.returns-in-Refused-clause-err
-returns-in-Refused-clause-err g c = on_way_refused _ _ _ _ c.loop-flight.invariant _ _ _ c.in-Refused.ensures.advances
+returns-in-Refused-clause-err g c = on_way_refused _ _ _ _ c.loop-flight.invariant _ (omega (arith, limit_is, c.loop-flight-test.true)) _ _ c.in-Refused.ensures.advances c.in-Refused.ensures.follows
 
 pub returns-clause-err : goal.returns-clause-err
 returns-clause-err g c = on_way_ends _ _ _ _ c.loop-flight.invariant _ refl (omega (arith, limit_is))

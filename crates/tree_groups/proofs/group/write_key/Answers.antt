@@ -1,5 +1,5 @@
 use Rattle.std.proofs.Common.{ap, ◌∙◌, Ok}
-use Rattle.tree_groups.proofs.Ready.{link_made, link_stopped, first_made, leaf_read_made, late_read_made}
+use Rattle.tree_groups.proofs.Ready.{link_made, link_stopped, first_made, first_stopped, leaf_read_made, leaf_read_stopped, late_read_made, late_read_stopped}
 use Rattle.tree_groups.proofs.group.write_key.Goals as goal
 
 pub returns-in-Ok-true-clause-ok : goal.returns-in-Ok-true-clause-ok
@@ -16,3 +16,12 @@ returns-then-eq-clause-ok g c = leaf_read_made _ _ _ c.in-Some.is _ _ _ c.write_
 
 pub returns-in-Ok-false-clause-ok : goal.returns-in-Ok-false-clause-ok
 returns-in-Ok-false-clause-ok g c = late_read_made _ _ _ c.in-Some.is _ _ _ _ c.link_write.ensures (c.in-Ok-false.is ∙ ap Ok c.in-Ok-false.field-0-test) _ c.write_again-in-Ok-false.ensures.ok
+
+pub returns-in_default-clause-err : goal.returns-in_default-clause-err
+returns-in_default-clause-err g c = first_stopped _ _ _ _ c.write_from_root.ensures.err
+
+pub returns-then-eq-clause-err : goal.returns-then-eq-clause-err
+returns-then-eq-clause-err g c = leaf_read_stopped _ _ _ c.in-Some.is _ _ _ c.write_again.ensures.err
+
+pub returns-in-Ok-false-clause-err : goal.returns-in-Ok-false-clause-err
+returns-in-Ok-false-clause-err g c = late_read_stopped _ _ _ c.in-Some.is _ _ _ _ c.link_write.ensures (c.in-Ok-false.is ∙ ap Ok c.in-Ok-false.field-0-test) _ c.write_again-in-Ok-false.ensures.err

@@ -1,5 +1,5 @@
 use Rattle.std.proofs.Common.{ap, ◌∙◌, Ok}
-use Rattle.tree_groups.proofs.Ready.{again_made, again_stopped, root_made, unread_stopped}
+use Rattle.tree_groups.proofs.Ready.{again_made, again_stopped, root_made, root_stopped, unread_stopped}
 use Rattle.tree_groups.proofs.leaf.write_again.Goals as goal
 
 pub returns-in-Err-clause-err : goal.returns-in-Err-clause-err
@@ -13,3 +13,6 @@ returns-in-Err-link_write-clause-err g c = again_stopped _ _ _ _ _ _ c.link_writ
 
 pub returns-in-Ok-None-clause-ok : goal.returns-in-Ok-None-clause-ok
 returns-in-Ok-None-clause-ok g c = root_made _ _ _ _ _ c.write_from_root.ensures.ok
+
+pub returns-in-Ok-None-clause-err : goal.returns-in-Ok-None-clause-err
+returns-in-Ok-None-clause-err g c = root_stopped _ _ _ _ _ c.write_from_root.ensures.err
