@@ -30,7 +30,7 @@ use Rattle.tree_laws.proofs.Crashing.{extends_same}
 use Rattle.tree_laws.proofs.Reading.{one_law}
 use Rattle.sled_tree.specs.declared.flight.Job.{Job}
 use Rattle.tree_groups.specs.declared.key_write.KeyWrite.{KeyWrite}
-use Rattle.tree_groups.specs.Groups.{jobs_of, AreNumbered, map_after_jobs, WrittenAll, ActsInside, seals_as, KeepsForests, LeavesGroup, group_by_steps}
+use Rattle.tree_groups.specs.Groups.{jobs_of, AreNumbered, map_after_jobs, WrittenAll, ActsInside, seals_as, KeepsForests, LeavesGroup, group_by_steps, group_stops_by_steps}
 use Rattle.tree_groups.specs.Writes.{ActsOften, NoAction, OneAction, is_write_refused_as, Keeps}
 use Rattle.tree_groups.proofs.Writing.{keeps_first}
 use Rattle.tree_groups.proofs.Ready.{refused_store}
@@ -39,7 +39,7 @@ use Rattle.sled.specs.Calls.{MustBeRefused, must_be_refused_as}
 use Rattle.sled.specs.Sound.{IsDb}
 use Rattle.sled.specs.Flights.{IsStepRefused}
 use Rattle.sled.specs.Direct.{is_left_open, effect_of_group, StaysInChainOrWent, KeepsOrFreesTreePages, LeavesAll, WholeDecided, WholeRefused}
-use Rattle.sled.specs.Groups.{jobs_of_writes, GroupDecided, GroupRefused, is_as_it_was, IsQuietGroup}
+use Rattle.sled.specs.Groups.{jobs_of_writes, GroupDecided, GroupRefused, is_as_it_was, is_stopped_by_steps, IsQuietGroup}
 use Rattle.sled.specs.theory.Groups.{Finds, unread, events_of_jobs, MakesAll, StopsAll}
 use Rattle.sled.proofs.Grouped.{AreCurrent, tree_after, with_slots, writes_change, writes_beside, trees_written, events_written, no_events, jobs_numbered, tested_current, tested_open}
 use Rattle.sled.proofs.Resting.{Rests, rests_same, rests_only_faults, rests_step, now_rests}
@@ -186,6 +186,7 @@ module _ {P M : Type 0} (store : P → Store) (meant : M → Merge) (old : DbVal
     same = refl;
     tested = λ must. refl;
     begun = inl (λ slots given. refl);
+    stops = inl refl;
   }
     where
       quietly : IsStepRefused e (store old.pages) (store old.pages)
@@ -218,6 +219,7 @@ module _ {P M : Type 0} (store : P → Store) (meant : M → Merge) (old : DbVal
       same = refl;
       tested = λ must. absurd (must tested);
       begun = inl (λ slots given. refl);
+      stops = inl refl;
     }
 
     pub group_short : (e : Error) → e ≡ error.NoMemory → GroupRefused store meant old batches e old
@@ -406,6 +408,10 @@ module _ {P M : Type 0} (store : P → Store) (meant : M → Merge) (old : DbVal
         stops_so slots given (inl r) = inl (rests_so r slots given)
         stops_so slots given (inr open_now) = inr (tested, closes slots given open_now)
 
+        stops_by_steps : ((e ≡ error.NoMemory) × (store p ≡ store old.pages)) ⊎ LeavesGroup writes (store old.pages) (store p) e → is_stopped_by_steps store meant old batches e new
+        stops_by_steps (inl (short, same)) = inl same
+        stops_by_steps (inr l) = inr (subst (λ js. group_stops_by_steps (numbers_of old.trees) (given_to old.trees_given) js (store old.pages) (store p) e) found.jobs (l.stops (numbers_of old.trees) (given_to old.trees_given) db.forest db.is numbered_found found.known))
+
         pub group_stopped : GroupRefused store meant old batches e new
         group_stopped = record {
           maps = [];
@@ -415,6 +421,7 @@ module _ {P M : Type 0} (store : P → Store) (meant : M → Merge) (old : DbVal
           same = refl;
           tested = λ must. absurd (must tested);
           begun = begun_so stops.acts;
+          stops = stops_by_steps m.is;
         }
 
         pub stopped_quiet : IsQuietGroup store meant old batches new

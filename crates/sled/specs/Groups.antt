@@ -13,8 +13,8 @@ use Rattle.sled_model.specs.State.{State, NamedTree, CallInFlight}
 use Rattle.sled_model.specs.declared.reply.Reply.TheVariants.{Done}
 use Rattle.sled_model.specs.declared.tree.Tree.{Tree}
 use Rattle.sled_tree.specs.declared.flight.Job.{Job}
-use Rattle.tree_groups.specs.Groups.{ActsInside, group_by_steps}
-use Rattle.sled.specs.Values.{DbValue, state_of, db_state}
+use Rattle.tree_groups.specs.Groups.{ActsInside, group_by_steps, group_stops_by_steps}
+use Rattle.sled.specs.Values.{DbValue, numbers_of, given_to, state_of, db_state}
 use Rattle.sled.specs.Direct.{LeavesAll, is_left_open, effect_of_group}
 
 -- the call of a write that brings an event, if it brings one
@@ -50,6 +50,11 @@ module _ {P M : Type 0} (store : P → Store) (meant : M → Merge) (old : DbVal
   abbrev pub is_as_it_was : DbValue P M → Type 0
   is_as_it_was new = (slots : ℕ → Option CallInFlight) (slots_given : ℕ) → state_of store meant new slots slots_given ≡ state_of store meant old slots slots_given
 
+  -- .. or they were up to the one that was refused, if the group was begun. Before that nothing was done
+  abbrev pub is_stopped_by_steps : Error → DbValue P M → Type 0
+  is_stopped_by_steps e new =
+      (store new.pages ≡ store old.pages) ⊎ group_stops_by_steps (numbers_of old.trees) (given_to old.trees_given) (jobs_of_writes (writes_of batches) (db_state store meant old)) (store old.pages) (store new.pages) e
+
   -- .. or it was refused
   pub record GroupRefused (e : Error) (new : DbValue P M) : Type 0 where
     pub maps : List Maps
@@ -61,6 +66,7 @@ module _ {P M : Type 0} (store : P → Store) (meant : M → Merge) (old : DbVal
     pub tested : must_refuse_of (db_state store meant old) (trees_of_batches batches) ≢ None → new ≡ old
     -- it closes the database only if the store began it, and leaves it open there; before that it changes nothing
     pub begun : is_as_it_was new ⊎ is_left_open e (store old.pages) (store new.pages)
+    pub stops : is_stopped_by_steps e new
 
   -- a group that brings no event does no changing action, and counts no fault
   pub record IsQuietGroup (new : DbValue P M) : Type 0 where
