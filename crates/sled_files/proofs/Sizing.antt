@@ -1,25 +1,23 @@
 -- How many bytes the changes take that make of nothing what a store is now.
-use Rattle.std.proofs.Common.{arith, ◌+◌, ◌≡◌, ◌<◌, ℕ, nat_eq, nat_lt, cond, Bool, true, false, List, [], ◌∷◌, ◌++◌, length, Option, Some, None, refl, sym, ◌∙◌, ap, subst, length-append}
-use Rattle.std.specs.Prelude.{map, Result, Ok, Err, OnOk}
+use Rattle.std.proofs.Common.{arith, ◌+◌, ◌≡◌, ℕ, nat_eq, nat_lt, cond, false, List, [], ◌∷◌, ◌++◌, length, Option, Some, None, refl, sym, ◌∙◌, ap, subst, length-append}
+use Rattle.std.specs.Prelude.{map}
 use Rattle.std.specs.List.{flat_map}
 use Rattle.std.specs.Cmp.{nat_cmp_total, unsigned_tied}
 use Rattle.std.specs.Ordering.{nat_cmp, is_eq}
-use Rattle.std.specs.declared.cmp.Ordering.{Ordering}
 use Rattle.std.specs.declared.cmp.Ordering.TheVariants.{Less, Equal, Greater}
-use Rattle.std.specs.FinMap.Entries.{find, put, by_order, is_sorted, is_sorted-put, find-put}
+use Rattle.std.specs.FinMap.Entries.{find, put, by_order, is_sorted-put, find-put}
 use Rattle.std.proofs.lemmas.Bool.Decides.{nat_tests}
 use Rattle.std.proofs.lemmas.Grind.{flat_map-append}
-use Rattle.sled_nodes.proofs.Basics.{true_of, of_true}
 use Rattle.sled_nodes.specs.Order.{Key}
-use Rattle.sled_nodes.specs.declared.node.Node.{Node}
+use Rattle.sled_nodes.proofs.Basics.{true_of, of_true}
 use Rattle.sled_store.specs.declared.page.Page.{Page}
 use Rattle.sled_store.specs.State.{State}
-use Rattle.sled_store.specs.Store.{Store, now, AreGiven, IsRoots}
+use Rattle.sled_store.specs.Store.{Store, now}
 use Rattle.sled_bytes.specs.declared.change.Change.{Change}
-use Rattle.sled_bytes.specs.declared.change.Change.TheVariants.{Given, Rooted, Marked, Limited}
+use Rattle.sled_bytes.specs.declared.change.Change.TheVariants.{Marked, Limited}
 use Rattle.sled_bytes.specs.Spelling.{change_bytes}
 use Rattle.sled_files.specs.Change.{Durable}
-use Rattle.sled_files.specs.Snapshot.{IsPages, given_as, rooted_as, changes_length, IsSnapshot}
+use Rattle.sled_files.specs.Snapshot.{given_as, rooted_as, changes_length, IsSnapshot}
 use Rattle.sled_files.specs.theory.Snapshot.{with_page, only, pages_below, page_length, GivesPages, SetsRoots}
 use Rattle.sled_files.proofs.Snapping.{Roots, none_below, page_more}
 
@@ -32,9 +30,6 @@ both front rest = ap length (flat_map-append change_bytes front rest) ∙ length
 
 first_of : (a b c : ℕ) → a ≡ b + c → a ≡ c + b
 first_of a b c is = omega (arith, is)
-
-in_front : (a b c d : ℕ) → a ≡ b + c → c ≡ d + 0 → a ≡ b + d
-in_front a b c d is none = omega (arith, is, none)
 
 deeper : (a b c d e f : ℕ) → a ≡ b + c → d ≡ b + e → c ≡ e + f → a ≡ d + f
 deeper a b c d e f first second more = omega (arith, first, second, more)

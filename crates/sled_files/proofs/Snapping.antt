@@ -6,6 +6,8 @@ use Rattle.std.proofs.lemmas.Bool.{eqb-true}
 use Rattle.std.proofs.lemmas.List.{append-nil}
 use Rattle.std.proofs.lemmas.List.Elements.{All-nil, All-push}
 use Rattle.std.proofs.lemmas.Map.Text.{is_eq-slice_cmp}
+use Rattle.std.specs.Prelude.{Result, Ok, Err, OnOk, map}
+use Rattle.std.specs.List.{flat_map}
 use Rattle.std.specs.Str.{bytes_eq}
 use Rattle.std.specs.Ordering.{eq_by_cmp}
 use Rattle.std.specs.FinMap.Entries.{find}
@@ -15,14 +17,12 @@ use Rattle.sled_store.specs.declared.page.Page.{Page}
 use Rattle.sled_store.specs.State.{State}
 use Rattle.sled_store.specs.Store.{Store, now, AreGiven, IsRoots, view_of}
 use Rattle.sled_store.specs.declared.page.View.{View}
-use Rattle.std.specs.Prelude.{Result, Ok, Err, OnOk, map}
-use Rattle.std.specs.List.{flat_map}
-use Rattle.sled_files.specs.Snapshot.{given_as, rooted_as, changes_length}
 use Rattle.sled_store.specs.theory.Facts.{fresh_page}
 use Rattle.sled_bytes.specs.declared.change.Change.{Change}
 use Rattle.sled_bytes.specs.declared.change.Change.TheVariants.{Given, Rooted, Marked, Limited}
 use Rattle.sled_bytes.specs.Spelling.{change_bytes, FitsChange}
 use Rattle.sled_files.specs.Change.{Durable, nothing_yet, changed}
+use Rattle.sled_files.specs.Snapshot.{rooted_as, changes_length}
 use Rattle.sled_files.specs.theory.Snapshot.{Makes, with_page, only, pages_below, pages_rooted, durable_now, page_length}
 use Rattle.sled_files.specs.theory.Spelled.{WereGiven}
 use Rattle.sled_files.proofs.Adding.{changed_both}

@@ -349,7 +349,8 @@ impl<D: Disk> FilePages<D> {
     pub fn compact(&mut self) -> Result<()>
         ensures open { (now (stored_as self.old)).in_group ≡ true → (self.new ≡ self.old) × OnErr result ⊥ }
         ensures ok { (now (stored_as self.old)).in_group ≡ false → OnOk result (stored_as self.new ≡ after_flush (stored_as self.old)) }
-        // The file that counted is the other one now, no byte was added behind the gate of the one that counts, and the limits are far.
+        // The file that counted is the other one now. The one that counts has each page and each root once, and no byte behind its gate was
+        // added. The limits are far.
         ensures renewed { (now (stored_as self.old)).in_group ≡ false → OnOk result (FlushesAnew D.seen self.old self.new) }
         ensures kept { OnErr result (self.new.limits ≡ self.old.limits) }
         // What was to be flushed stays.

@@ -8,9 +8,9 @@ use Rattle.sled_store.specs.State.{State}
 use Rattle.sled_store.specs.Store.{Store, now, IsRoots}
 use Rattle.sled_bytes.specs.declared.change.Change.{Change}
 use Rattle.sled_bytes.specs.declared.change.Change.TheVariants.{Given}
+use Rattle.sled_bytes.specs.Spelling.{change_bytes}
 use Rattle.sled_files.specs.Change.{Durable, nothing_yet, changed, changed_all, AreOfStore}
 use Rattle.sled_files.specs.Pending.{Spells}
-use Rattle.sled_bytes.specs.Spelling.{change_bytes}
 use Rattle.sled_files.specs.Snapshot.{IsPages, given_as, rooted_as, changes_length}
 use Rattle.sled_files.specs.theory.Spelled.{WereGiven}
 

@@ -1,7 +1,7 @@
-use Rattle.std.proofs.Common.{◌≡◌, ◌∙◌, arith, subst, ℕ, ◌+◌, length, sym}
+use Rattle.std.proofs.Common.{◌≡◌, ◌∙◌, arith, subst, ℕ, length}
 use Rattle.sled_store.specs.Store.{now}
 use Rattle.sled_pages.specs.Memory.{store_of}
-use Rattle.sled_files.specs.theory.Snapshot.{Makes, with_page, pages_below, page_length, GivesPages}
+use Rattle.sled_files.specs.theory.Snapshot.{Makes, with_page, pages_below, GivesPages}
 use Rattle.sled_files.proofs.Snapping.{makes_nothing, makes_same, page_more, pages_all}
 use Rattle.sled_files.proofs.Sizing.{sized_none, sized_more, sized_all}
 use Rattle.sled_files.proofs.snapshot.spell_pages.Goals as goal
