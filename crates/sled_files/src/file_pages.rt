@@ -32,7 +32,7 @@ use std::marker::Model;
 #[derive(Clone, Copy)]
 pub struct FileStats {
     /// How many page numbers were given, those of pages that are gone included. Of a store that was opened again all count that were set
-    /// aside in its files, up to 1,000,000 more than were used.
+    /// aside in its files: for each opening after which something was changed up to 1,000,000 more than were used.
     pub pages: u64,
     /// How long the log is that counts.
     pub bytes: usize,
