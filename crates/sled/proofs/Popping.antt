@@ -197,7 +197,7 @@ module _ {P M : Type 0} (store : P → Store) (meant : M → Merge) (old : DbVal
 
   read_quiet : (of : ℕ → ℕ) (e : Error) (o : Option MustRefuse) → refuses_reading_as store meant old tree of o e → IsStepRefused e (store old.pages) (store old.pages)
   read_quiet of error.NoMemory o k = refl
-  read_quiet of (error.Io fault) None k = inr (refl, k.0, k.1)
+  read_quiet of (error.Io fault) None k = inr (refl, (k.0, k.1))
   read_quiet of (error.Io fault) (Some must) k = absurd (untold_fault (Some must) (error.Io fault) k fault refl)
   read_quiet of other o k = refl
 
