@@ -309,8 +309,8 @@ module _ {P M : Type 0} (store : P → Store) (meant : M → Merge) where
   pub plain_loud : (batches : List (Tree × Writes)) (old new : DbValue P M) → is_loud_group store meant old batches new → is_loud_group store (λ m. m) (plain old) batches (plain new)
   plain_loud batches old new h some = h (λ none. some (subst (λ (s : State). events_of_writes (writes_of batches) s ≡ []) (sym (same_db old)) none))
 
-  pub plain_steps : (batches : List (Tree × Writes)) (old new : DbValue P M) → is_made_by_steps store meant old batches new → is_made_by_steps store (λ m. m) (plain old) batches (plain new)
-  plain_steps batches old new h = subst (λ (s : State). group_by_steps (jobs_of_writes (writes_of batches) s) (store old.pages) (store new.pages)) (sym (same_db old)) h
+  pub plain_made : (batches : List (Tree × Writes)) (old new : DbValue P M) → is_made_by_steps store meant old batches new → is_made_by_steps store (λ m. m) (plain old) batches (plain new)
+  plain_made batches old new h = subst (λ (s : State). group_by_steps (jobs_of_writes (writes_of batches) s) (store old.pages) (store new.pages)) (sym (same_db old)) h
 
   -- ---- pops and clears
 
