@@ -65,7 +65,7 @@ pub record SoFar (all rest : List KeyWrite) (old new : Store) : Type 0 where
       → (last : Store) → all_by_steps (jobs_of rest) new last → all_by_steps (jobs_of all) old last
   -- .. also if one of them is refused
   pub stops : (numbers : Tree → Option ℕ) (given : ℕ → Bool) (w : Forest) → HasForest (snapshot_of old numbers given) w → AreNumbered numbers (jobs_of all) → AreKnown (snapshot_of old numbers given) all
-      → (last : Store) (e : Error) → one_stops_by_steps numbers given (jobs_of rest) new last e → one_stops_by_steps numbers given (jobs_of all) old last e
+      → (last : Store) (e : Error) → one_stops_by_steps rest new last e → one_stops_by_steps all old last e
   pub told : (numbers : Tree → Option ℕ) (given : ℕ → Bool) (w : Forest) → HasForest (snapshot_of old numbers given) w → AreNumbered numbers (jobs_of all) → AreKnown (snapshot_of old numbers given) all
       → IsSoFar numbers (jobs_of all) rest (snapshot_of old numbers given) w (snapshot_of new numbers given)
 
@@ -190,7 +190,7 @@ module _ (fs : List KeyWrite) (some : jobs_of fs ≢ []) (old begun : Store) (be
         acts = inr (x.last, record { begun = begun; is = begins; acts = x.acts }, x.refused, inside.inside);
         stops = λ numbers given w is named known.
             let p = bounds_law old begun (inl begins) numbers given w is in
-            inr (inl (subst (λ (s : Store). one_stops_by_steps numbers given (jobs_of fs) s new e) begins (x.stops numbers given p.after p.keeps.is named (all_known (snapshot_of old numbers given) (snapshot_of begun numbers given) w p.after p.keeps fs known))));
+            inr (inl (subst (λ (s : Store). one_stops_by_steps fs s new e) begins (x.stops numbers given p.after p.keeps.is named (all_known (snapshot_of old numbers given) (snapshot_of begun numbers given) w p.after p.keeps fs known))));
         adds = inside.adds;
         told = λ numbers given w is named known.
             let p = bounds_law old begun (inl begins) numbers given w is in

@@ -39,8 +39,8 @@ use Rattle.sled_tree.specs.declared.flight.InFlight.{InFlight}
 use Rattle.sled_tree.specs.declared.flight.Job.{Job}
 use Rattle.sled_tree.specs.declared.flight.Sequel.TheVariants as sequel
 use Rattle.tree_groups.specs.declared.key_write.KeyWrite.{KeyWrite}
-use Rattle.tree_groups.specs.Groups.{IsSettled, job_of, at_leaf, IsLeafOf, AreKnown, MadeBySteps, KnowsLeaf}
-use Rattle.tree_groups.specs.theory.Groups.{link_with, links_as, LinksWrite, IsReadAgain, MakesAgain, StopsAgain, MakesKnown, StopsKnown}
+use Rattle.tree_groups.specs.Groups.{IsSettled, job_of, at_leaf, IsLeafOf, AreKnown, MadeBySteps}
+use Rattle.tree_groups.specs.theory.Groups.{link_with, links_as, LinksWrite, IsReadAgain, KnowsLeaf, MakesAgain, StopsAgain, MakesKnown, StopsKnown}
 use Rattle.tree_groups.specs.Steps.{WriteSteps, Ends}
 use Rattle.tree_groups.specs.Writes.{fresh_call, ActsOften, NoAction, OneAction, is_write_refused_as, Keeps, WrittenAt, KeepsMapsAt, MakesWrite, StopsWriting}
 use Rattle.sled_tree.proofs.Facts.{once_acts}
@@ -332,7 +332,7 @@ module _ (w : KeyWrite) (pid version : ℕ) (a b : Store) (done : Result Bool Er
       last = a;
       acts = NoAction;
       refused = refused_store e a b refusal.is;
-      stops = λ numbers given f is named known. let k = subst (IsLeafOf (snapshot_of a numbers given) (job_of w)) at known in record { is = inr (pid, (k.0, k.1, k.3), inr refusal) };
+      stops = λ numbers given f is named known. record { is = inr ((pid, version), at, inr refusal) };
       told = λ numbers given f is named known. let k = subst (IsLeafOf (snapshot_of a numbers given) (job_of w)) at known in stopped_here w k.0 a numbers given f is named k.3 b e refusal;
     }
 
@@ -341,7 +341,7 @@ module _ (w : KeyWrite) (pid version : ℕ) (a b : Store) (done : Result Bool Er
       last = a;
       acts = NoAction;
       refused = refused_store e a b refusal.is;
-      stops = λ numbers given f is named before. record { is = inr (pid, before, inr refusal) };
+      stops = λ numbers given f is named before. inr (inr refusal);
       told = λ numbers given f is named before. stopped_here w r.view a numbers given f is named (known_again (snapshot_of a numbers given) w named pid before version r) b e refusal;
     }
 
@@ -364,7 +364,7 @@ root_stopped j pid a b (Err e) m = record {
   last = m.last;
   acts = m.acts;
   refused = m.refused;
-  stops = λ numbers given f is named before. record { is = inl (m.stops numbers given f is named) };
+  stops = λ numbers given f is named before. inl (m.stops numbers given f is named);
   told = λ numbers given f is named before. m.told numbers given f is named;
 }
 
@@ -404,7 +404,12 @@ module _ (w : KeyWrite) (pid version : ℕ) (at : w.leaf ≡ Some (pid, version)
     last = m.last;
     acts = m.acts;
     refused = m.refused;
-    stops = λ numbers given f is named known. m.stops numbers given f is named (knows_leaf (snapshot_of a numbers given) known);
+    stops = λ numbers given f is named known. record {
+      is = elim (m.stops numbers given f is named (knows_leaf (snapshot_of a numbers given) known)) [
+        | inl way ↦ inl way
+        | inr there ↦ inr ((pid, version), at, there)
+      ];
+    };
     told = λ numbers given f is named known. m.told numbers given f is named (knows_leaf (snapshot_of a numbers given) known);
   }
 
@@ -421,7 +426,7 @@ unread_stopped j pid s e r = record {
   last = s;
   acts = NoAction;
   refused = go e r.is;
-  stops = λ numbers given w is named before. record { is = inr (pid, before, inl (refl, r)) };
+  stops = λ numbers given w is named before. inr (inl (refl, r));
   told = λ numbers given w is named before. record { after = w; keeps = keeps_first (snapshot_of s numbers given) w is; same = λ t. refl };
 }
   where

@@ -87,30 +87,25 @@ abbrev pub group_by_steps : List Job → Store → Store → Type 0
 group_by_steps [] old new = new ≡ old
 group_by_steps (j ∷ js) old new = (last : Store) × all_by_steps (j ∷ js) (after_action GroupBegins old) last × (new ≡ after_action GroupEnds last)
 
--- what a call knew of a leaf of this number when it read it
-abbrev pub KnowsLeaf : Snapshot → Job → ℕ → Type 0
-KnowsLeaf m j pid = (v : View) × (v.pid ≡ pid) × IsKnown m (at_leaf j v)
+-- a page cannot be read, or the store refuses to change it
+abbrev pub stops_at_page : ℕ → Store → Store → Error → Type 0
+stops_at_page pid old new e = ((new ≡ old) × IsReadRefused pid old e) ⊎ IsRefused e old new
 
-module _ (numbers : Tree → Option ℕ) (given : ℕ → Bool) where
-  -- a leaf that the call of a write knows cannot be read again, or the store refuses to change it
-  abbrev pub stops_at_leaf : Job → Store → Store → Error → Type 0
-  stops_at_leaf j old new e = (pid : ℕ) × KnowsLeaf (snapshot_of old numbers given) j pid × (((new ≡ old) × IsReadRefused pid old e) ⊎ IsRefused e old new)
+-- a write is refused on its way from the root, or at the leaf that it names
+pub record StopsBySteps (w : KeyWrite) (old new : Store) (e : Error) : Type 0 where
+  pub is : stops_from_root (job_of w) old new e ⊎ ((at : ℕ × ℕ) × (w.leaf ≡ Some at) × stops_at_page at.0 old new e)
 
-  -- a write is refused on its way from the root, or at its leaf
-  pub record StopsBySteps (j : Job) (old new : Store) (e : Error) : Type 0 where
-    pub is : stops_from_root j old new e ⊎ stops_at_leaf j old new e
+-- .. and so is one of these, after those before it were made by their steps
+abbrev pub one_stops_by_steps : List KeyWrite → Store → Store → Error → Type 0
+one_stops_by_steps [] old new e = ⊥
+one_stops_by_steps (w ∷ ws) old new e = StopsBySteps w old new e ⊎ ((mid : Store) × MadeBySteps (job_of w) old mid × one_stops_by_steps ws mid new e)
 
-  -- .. and so is one of these, after those before it were made by their steps
-  abbrev pub one_stops_by_steps : List Job → Store → Store → Error → Type 0
-  one_stops_by_steps [] old new e = ⊥
-  one_stops_by_steps (j ∷ js) old new e = StopsBySteps j old new e ⊎ ((mid : Store) × MadeBySteps j old mid × one_stops_by_steps js mid new e)
-
-  -- The begin of a group is refused. Else it is begun, and one of its writes is refused; or all are made, and its end is refused
-  abbrev pub group_stops_by_steps : List Job → Store → Store → Error → Type 0
-  group_stops_by_steps js old new e =
-      IsRefused e old new
-      ⊎ (one_stops_by_steps js (after_action GroupBegins old) new e
-      ⊎ ((last : Store) × all_by_steps js (after_action GroupBegins old) last × IsRefused e last new))
+-- The begin of a group is refused. Else it is begun, and one of its writes is refused; or all are made, and its end is refused
+abbrev pub group_stops_by_steps : List KeyWrite → Store → Store → Error → Type 0
+group_stops_by_steps ws old new e =
+    IsRefused e old new
+    ⊎ (one_stops_by_steps ws (after_action GroupBegins old) new e
+    ⊎ ((last : Store) × all_by_steps (jobs_of ws) (after_action GroupBegins old) last × IsRefused e last new))
 
 -- a group was begun, and these actions were done in it
 pub record ActsInside (old last : Store) : Type 0 where
@@ -144,7 +139,7 @@ pub record LeavesGroup (ws : List KeyWrite) (old new : Store) (e : Error) : Type
   pub some : jobs_of ws ≢ []
   pub acts : is_refused_as e old new ⊎ ((last : Store) × ActsInside old last × is_write_refused_as e last new × ((now new).in_group ≡ true))
   pub stops : (numbers : Tree → Option ℕ) (given : ℕ → Bool) (w : Forest) → HasForest (snapshot_of old numbers given) w → AreNumbered numbers (jobs_of ws) → AreKnown (snapshot_of old numbers given) ws
-      → group_stops_by_steps numbers given (jobs_of ws) old new e
+      → group_stops_by_steps ws old new e
   pub adds : AddsCrashStates [] old new
   pub told : (numbers : Tree → Option ℕ) (given : ℕ → Bool) (w : Forest) → HasForest (snapshot_of old numbers given) w → AreNumbered numbers (jobs_of ws) → AreKnown (snapshot_of old numbers given) ws
       → KeepsForests (snapshot_of old numbers given) w (snapshot_of new numbers given)

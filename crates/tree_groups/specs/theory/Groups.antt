@@ -1,5 +1,5 @@
 -- The writes of a group, one after the other, in a group that is open.
-use Rattle.std.specs.Prelude.{◌≡◌, ℕ, Bool, true, false, List, Option, Some, None, Result, Ok, Err}
+use Rattle.std.specs.Prelude.{◌≡◌, ◌⊎◌, ℕ, Bool, true, false, List, Option, Some, None, Result, Ok, Err}
 use Rattle.std.specs.Option.{option_eq}
 use Rattle.std.specs.Str.{bytes_eq}
 use Rattle.std.specs.declared.ops.Bound.TheVariants.{Included}
@@ -13,10 +13,11 @@ use Rattle.sled_store.specs.Store.{Store, view_of, Changes, IsRefused}
 use Rattle.sled_store.specs.declared.page.View.{View}
 use Rattle.tree_laws.specs.Forest.{Tree, Forest}
 use Rattle.tree_laws.specs.Snapshot.{Snapshot, snapshot_of, HasForest, LiesUnder}
+use Rattle.sled_tree.specs.Known.{IsKnown}
 use Rattle.sled_tree.specs.declared.flight.Job.{Job}
 use Rattle.tree_groups.specs.declared.key_write.KeyWrite.{KeyWrite}
-use Rattle.tree_groups.specs.Groups.{IsSettled, job_of, jobs_of, IsLeafOf, AreNumbered, AreKnown, WrittenAll, MadeBySteps, all_by_steps, KnowsLeaf, StopsBySteps, one_stops_by_steps, KeepsForests}
-use Rattle.tree_groups.specs.Writes.{ActsOften, is_write_refused_as, WrittenAt, KeepsMapsAt}
+use Rattle.tree_groups.specs.Groups.{IsSettled, job_of, jobs_of, at_leaf, IsLeafOf, AreNumbered, AreKnown, WrittenAll, MadeBySteps, all_by_steps, stops_at_page, StopsBySteps, one_stops_by_steps, KeepsForests}
+use Rattle.tree_groups.specs.Writes.{stops_from_root, ActsOften, is_write_refused_as, WrittenAt, KeepsMapsAt}
 
 -- the link of a write
 abbrev pub link_with : Key → Option Key → Link
@@ -45,6 +46,10 @@ pub record IsReadAgain (s : State) (w : KeyWrite) (pid version : ℕ) : Type 0 w
   pub is : view.version ≡ version
   pub may : MayChange w view
 
+-- what a call knew of a leaf of this number when it read it
+abbrev pub KnowsLeaf : Snapshot → Job → ℕ → Type 0
+KnowsLeaf m j pid = (v : View) × (v.pid ≡ pid) × IsKnown m (at_leaf j v)
+
 -- A write is made whose call had read a leaf of this number, at every forest in which what it knew then is true
 pub record MakesAgain (j : Job) (pid : ℕ) (old new : Store) : Type 0 where
   pub acts : ActsOften old new
@@ -59,7 +64,7 @@ pub record StopsAgain (j : Job) (pid : ℕ) (old new : Store) (e : Error) : Type
   pub acts : ActsOften old last
   pub refused : is_write_refused_as e last new
   pub stops : (numbers : Tree → Option ℕ) (given : ℕ → Bool) (w : Forest) → HasForest (snapshot_of old numbers given) w → numbers j.tree.name ≡ Some j.tree.number → KnowsLeaf (snapshot_of old numbers given) j pid
-      → StopsBySteps numbers given j old new e
+      → stops_from_root j old new e ⊎ stops_at_page pid old new e
   pub told : (numbers : Tree → Option ℕ) (given : ℕ → Bool) (w : Forest) → HasForest (snapshot_of old numbers given) w → numbers j.tree.name ≡ Some j.tree.number → KnowsLeaf (snapshot_of old numbers given) j pid
       → KeepsMapsAt (snapshot_of old numbers given) w (snapshot_of new numbers given)
 
@@ -77,7 +82,7 @@ pub record StopsKnown (k : KeyWrite) (old new : Store) (e : Error) : Type 0 wher
   pub acts : ActsOften old last
   pub refused : is_write_refused_as e last new
   pub stops : (numbers : Tree → Option ℕ) (given : ℕ → Bool) (w : Forest) → HasForest (snapshot_of old numbers given) w → numbers k.tree.now.name ≡ Some k.tree.now.number → IsLeafOf (snapshot_of old numbers given) (job_of k) k.leaf
-      → StopsBySteps numbers given (job_of k) old new e
+      → StopsBySteps k old new e
   pub told : (numbers : Tree → Option ℕ) (given : ℕ → Bool) (w : Forest) → HasForest (snapshot_of old numbers given) w → numbers k.tree.now.name ≡ Some k.tree.now.number → IsLeafOf (snapshot_of old numbers given) (job_of k) k.leaf
       → KeepsMapsAt (snapshot_of old numbers given) w (snapshot_of new numbers given)
 
@@ -95,6 +100,6 @@ pub record StopsWritingAll (ws : List KeyWrite) (old new : Store) (e : Error) : 
   pub acts : ActsOften old last
   pub refused : is_write_refused_as e last new
   pub stops : (numbers : Tree → Option ℕ) (given : ℕ → Bool) (w : Forest) → HasForest (snapshot_of old numbers given) w → AreNumbered numbers (jobs_of ws) → AreKnown (snapshot_of old numbers given) ws
-      → one_stops_by_steps numbers given (jobs_of ws) old new e
+      → one_stops_by_steps ws old new e
   pub told : (numbers : Tree → Option ℕ) (given : ℕ → Bool) (w : Forest) → HasForest (snapshot_of old numbers given) w → AreNumbered numbers (jobs_of ws) → AreKnown (snapshot_of old numbers given) ws
       → KeepsForests (snapshot_of old numbers given) w (snapshot_of new numbers given)
