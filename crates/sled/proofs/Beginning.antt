@@ -1,5 +1,5 @@
 -- The writes of a group, at the leaves that were read for them.
-use Rattle.std.proofs.Common.{◌≡◌, ℕ, Bool, false, List, [], ◌∷◌, ◌++◌, Option, Some, None, sym, refl, ap, ◌∙◌, subst, inl}
+use Rattle.std.proofs.Common.{◌≡◌, ℕ, Bool, false, List, [], ◌∷◌, ◌++◌, Option, Some, None, option_map, sym, refl, ap, ◌∙◌, subst, inl}
 use Rattle.std.specs.FinMap.Entries.{find}
 use Rattle.std.specs.declared.ops.Bound.{Bound}
 use Rattle.std.specs.declared.ops.Bound.TheVariants.{Included}
@@ -9,7 +9,9 @@ use Rattle.sled_nodes.specs.declared.error.Error.{Error}
 use Rattle.sled_nodes.specs.declared.error.Error.TheVariants.{ReportableBug, Io}
 use Rattle.sled_nodes.specs.declared.node.Node.{Node}
 use Rattle.sled_store.specs.In.{In}
+use Rattle.sled_store.specs.State.{State as StoreState}
 use Rattle.sled_store.specs.Store.{Store, now}
+use Rattle.sled_store.specs.declared.page.Page.{Page}
 use Rattle.sled_store.specs.declared.page.View.{View}
 use Rattle.sled_model.specs.Maps.{Merge}
 use Rattle.sled_model.specs.Groups.{call_with}
@@ -29,7 +31,8 @@ use Rattle.tree_groups.proofs.Ready.{acting_at, known_at_leaf}
 use Rattle.sled.specs.Calls.{MustBeRefused, must_be_refused_as}
 use Rattle.sled.specs.Sound.{IsDb}
 use Rattle.sled.specs.Values.{DbValue, db_state, numbers_of, snapshot_of_db}
-use Rattle.sled.specs.theory.Groups.{Finds, ReadsKey, begins_as, BeginsAt, Stands, value_in, unread}
+use Rattle.sled.specs.Groups.{is_there, AreThere, Finds}
+use Rattle.sled.specs.theory.Groups.{ReadsKey, begins_as, BeginsAt, Stands, value_in, unread}
 use Rattle.sled.proofs.Reading.{reads}
 use Rattle.sled.proofs.Trees.{current, numbered}
 
@@ -87,11 +90,20 @@ module _ (m : Snapshot) (s : Store) (shown : m.state ≡ now s) (tree : Tree) (r
 -- the leaf of a write is that of its call
 pub finds_from : (m : Snapshot) (s : Store) (shown : m.state ≡ now s) (k : KeyWrite) (root : ℕ) (named : m.numbers k.tree.now.name ≡ Some k.tree.now.number) (there : m.state.roots k.tree.now.name ≡ Some root)
     → (leaf : View) (stands : Bool) → ReadsKey s root k.key.now k.value.now leaf stands → BeginsAt leaf stands k.leaf → Finds m (job_of k ∷ []) (k ∷ [])
-finds_from m s shown k root named there leaf stands r b = record { jobs = refl; known = (go k.leaf b.is, tt) }
+finds_from m s shown k root named there leaf stands r b = record { jobs = refl; known = (go k.leaf b.is, tt); there = (at k.leaf b.is, tt) }
   where
     go : (o : Option (ℕ × ℕ)) → begins_as leaf stands o → IsLeafOf m (job_of k) o
     go None t = tt
     go (Some place) t = (leaf, t.0, t.1, known_at m s shown k.tree.now root named there k.key.now k.value.now leaf t.3 (subst (λ b. ReadsKey s root k.key.now k.value.now leaf b) t.2 r))
+
+    -- and it is as it was read
+    at : (o : Option (ℕ × ℕ)) → begins_as leaf stands o → is_there m o
+    at None t = tt
+    at (Some place) t =
+        ap (λ p. option_map (λ (g : Page). g.version) (m.state.pages p)) (sym t.0)
+        ∙ ap (λ (z : StoreState). option_map (λ (g : Page). g.version) (z.pages leaf.pid)) shown
+        ∙ ap (option_map (λ (g : Page). g.version)) r.found.live
+        ∙ ap Some t.1
 
 -- ---- and of all writes
 
@@ -103,14 +115,19 @@ known_both : (m : Snapshot) (vs ws : List KeyWrite) → AreKnown m vs → AreKno
 known_both m [] ws a b = b
 known_both m (v ∷ vs) ws a b = (a.0, known_both m vs ws a.1 b)
 
+there_both : (m : Snapshot) (vs ws : List KeyWrite) → AreThere m vs → AreThere m ws → AreThere m (vs ++ ws)
+there_both m [] ws a b = b
+there_both m (v ∷ vs) ws a b = (a.0, there_both m vs ws a.1 b)
+
 pub finds_both : (m : Snapshot) (is js : List Job) (vs ws : List KeyWrite) → Finds m is vs → Finds m js ws → Finds m (is ++ js) (vs ++ ws)
 finds_both m is js vs ws a b = record {
   jobs = jobs_both vs ws ∙ ap (λ l. l ++ jobs_of ws) a.jobs ∙ ap (λ l. is ++ l) b.jobs;
   known = known_both m vs ws a.known b.known;
+  there = there_both m vs ws a.there b.there;
 }
 
 pub finds_none : (m : Snapshot) → Finds m [] []
-finds_none m = record { jobs = refl; known = tt }
+finds_none m = record { jobs = refl; known = tt; there = tt }
 
 -- ---- in a database
 

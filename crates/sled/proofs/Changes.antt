@@ -20,8 +20,8 @@ use Rattle.tree_groups.specs.declared.key_write.KeyWrite.{KeyWrite}
 use Rattle.tree_laws.specs.Snapshot.{Snapshot}
 use Rattle.sled.specs.Values.{DbValue, numbers_of, db_state}
 use Rattle.sled.specs.Sound.{IsDb}
-use Rattle.sled.specs.Groups.{jobs_of_write, jobs_of_writes}
-use Rattle.sled.specs.theory.Groups.{Finds, FindsMore, value_in, Stands, stands_over}
+use Rattle.sled.specs.Groups.{jobs_of_write, jobs_of_writes, Finds}
+use Rattle.sled.specs.theory.Groups.{FindsMore, value_in, Stands, stands_over}
 use Rattle.sled.proofs.Beginning.{finds_both, finds_none}
 use Rattle.sled.proofs.Trees.{current, numbered}
 use Rattle.sled.proofs.Batching.{tested_parts, tested_last, tested_among, tested_upto}

@@ -30,7 +30,7 @@ use Rattle.tree_laws.proofs.Crashing.{extends_same}
 use Rattle.tree_laws.proofs.Reading.{one_law}
 use Rattle.sled_tree.specs.declared.flight.Job.{Job}
 use Rattle.tree_groups.specs.declared.key_write.KeyWrite.{KeyWrite}
-use Rattle.tree_groups.specs.Groups.{jobs_of, AreNumbered, map_after_jobs, WrittenAll, ActsInside, seals_as, KeepsForests, LeavesGroup, group_by_steps, group_stops_by_steps}
+use Rattle.tree_groups.specs.Groups.{jobs_of, AreNumbered, map_after_jobs, WrittenAll, ActsInside, seals_as, KeepsForests, LeavesGroup, group_by_steps}
 use Rattle.tree_groups.specs.Writes.{ActsOften, NoAction, OneAction, is_write_refused_as, Keeps}
 use Rattle.tree_groups.proofs.Writing.{keeps_first}
 use Rattle.tree_groups.proofs.Ready.{refused_store}
@@ -39,8 +39,8 @@ use Rattle.sled.specs.Calls.{MustBeRefused, must_be_refused_as}
 use Rattle.sled.specs.Sound.{IsDb}
 use Rattle.sled.specs.Flights.{IsStepRefused}
 use Rattle.sled.specs.Direct.{is_left_open, effect_of_group, StaysInChainOrWent, KeepsOrFreesTreePages, LeavesAll, WholeDecided, WholeRefused}
-use Rattle.sled.specs.Groups.{jobs_of_writes, GroupDecided, GroupRefused, is_as_it_was, is_stopped_by_steps, IsQuietGroup}
-use Rattle.sled.specs.theory.Groups.{Finds, unread, events_of_jobs, MakesAll, StopsAll}
+use Rattle.sled.specs.Groups.{jobs_of_writes, Finds, GroupDecided, GroupRefused, is_as_it_was, is_stopped_by_steps, IsQuietGroup}
+use Rattle.sled.specs.theory.Groups.{unread, events_of_jobs, MakesAll, StopsAll}
 use Rattle.sled.proofs.Grouped.{AreCurrent, tree_after, with_slots, writes_change, writes_beside, trees_written, events_written, no_events, jobs_numbered, tested_current, tested_open}
 use Rattle.sled.proofs.Resting.{Rests, rests_same, rests_only_faults, rests_step, now_rests}
 use Rattle.sled.proofs.Testing.{first_alone, untold_fault}
@@ -410,7 +410,7 @@ module _ {P M : Type 0} (store : P → Store) (meant : M → Merge) (old : DbVal
 
         stops_by_steps : ((e ≡ error.NoMemory) × (store p ≡ store old.pages)) ⊎ LeavesGroup writes (store old.pages) (store p) e → is_stopped_by_steps store meant old batches e new
         stops_by_steps (inl (short, same)) = inl same
-        stops_by_steps (inr l) = inr (subst (λ js. group_stops_by_steps (numbers_of old.trees) (given_to old.trees_given) js (store old.pages) (store p) e) found.jobs (l.stops (numbers_of old.trees) (given_to old.trees_given) db.forest db.is numbered_found found.known))
+        stops_by_steps (inr l) = inr (writes, found, l.stops (numbers_of old.trees) (given_to old.trees_given) db.forest db.is numbered_found found.known)
 
         pub group_stopped : GroupRefused store meant old batches e new
         group_stopped = record {

@@ -22,8 +22,8 @@ ghost use Rattle.sled_queues.specs.Laws.{prepared_all};
 ghost use Rattle.tree_groups.specs.Groups.{job_of, jobs_of};
 ghost use Rattle.tree_reads.specs.Walk.{IsWay};
 ghost use Rattle.sled.specs.Calls.{MustBeRefused};
-ghost use Rattle.sled.specs.Groups.{jobs_of_write, jobs_of_writes};
-ghost use Rattle.sled.specs.theory.Groups.{Finds, FindsMore, Stands, stands_over, ReadsKey, BeginsAt, unread, events_of_call, Prepares, StopsPreparing, MakesAll, StopsAll};
+ghost use Rattle.sled.specs.Groups.{jobs_of_write, jobs_of_writes, Finds};
+ghost use Rattle.sled.specs.theory.Groups.{FindsMore, Stands, stands_over, ReadsKey, BeginsAt, unread, events_of_call, Prepares, StopsPreparing, MakesAll, StopsAll};
 
 use crate::db::Db;
 use sled_batch::Batch;

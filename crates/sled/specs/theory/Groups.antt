@@ -23,17 +23,13 @@ use Rattle.sled_queues.specs.Laws.{prepared_all}
 use Rattle.tree_laws.specs.Snapshot.{Snapshot}
 use Rattle.tree_reads.specs.Walk.{IsLeafFor}
 use Rattle.tree_groups.specs.declared.key_write.KeyWrite.{KeyWrite}
-use Rattle.tree_groups.specs.Groups.{IsSettled, AreKnown, jobs_of, MakesGroup, LeavesGroup}
+use Rattle.tree_groups.specs.Groups.{IsSettled, jobs_of, MakesGroup, LeavesGroup}
 use Rattle.sled_tree.specs.declared.flight.Job.{Job}
+use Rattle.sled.specs.Groups.{Finds}
 
 -- ---- the writes that change something
 
--- writes do these jobs, and each leaf is that of its call
-pub record Finds (m : Snapshot) (js : List Job) (writes : List KeyWrite) : Type 0 where
-  pub jobs : jobs_of writes ≡ js
-  pub known : AreKnown m writes
-
--- .. and follow others
+-- writes that do these jobs follow others
 pub record FindsMore (m : Snapshot) (js : List Job) (first writes : List KeyWrite) : Type 0 where
   pub more : List KeyWrite
   pub is : writes ≡ first ++ more

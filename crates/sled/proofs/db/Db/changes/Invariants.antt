@@ -1,8 +1,7 @@
 use Rattle.std.proofs.Common.{take}
 use Rattle.sled_model.specs.Groups.{writes_of}
 use Rattle.sled.specs.Values.{db_state, snapshot_of_db}
-use Rattle.sled.specs.Groups.{jobs_of_writes}
-use Rattle.sled.specs.theory.Groups.{Finds}
+use Rattle.sled.specs.Groups.{jobs_of_writes, Finds}
 use Rattle.sled.proofs.db.Db.changes.Given as goal
 
 -- the writes of the batches so far are found
