@@ -22,7 +22,7 @@ use Rattle.machine_alone.specs.Run.{RunsWithCrashMaps, KeepsAll, KeepsMore, Mach
 use Rattle.machine_alone.specs.Step.{MachineStep, MachineStepContract, effect_of_machine_step, follows_stage_as, advances_on_path_as, starts_as, leaks_no_page_at, gives_up_as, tested_as, way_as}
 use Rattle.machine_alone.specs.Ways.{pops_as, clears_as, groups_as, opens_as, drops_tree_as, imports_as}
 use Rattle.machine_alone.specs.Values.{MachineValue, configuration_of, slots_of}
-use Rattle.example_machines.proofs.Plain.{plain, same_configuration, same_db, same_tests, plain_sound, meant_sound, plain_gives_up, plain_opens_by, plain_opens_not, plain_drops, plain_drops_not, plain_pops, plain_stops, plain_clears, plain_clear_stops, plain_quiet, plain_loud, plain_made, plain_imports, plain_imports_not}
+use Rattle.example_machines.proofs.Plain.{plain, same_configuration, same_db, same_tests, plain_sound, meant_sound, plain_gives_up, plain_opens_by, plain_opens_not, plain_drops, plain_drops_not, plain_pops, plain_stops, plain_clears, plain_clear_stops, plain_quiet, plain_loud, plain_made, plain_group_stops, plain_imports, plain_imports_not}
 
 module _ {P M : Type 0} (store : P → Store) (number : P → ℕ) (meant : M → Merge) where
   abbrev pub plain_machine : MachineValue P M → MachineValue P Merge
@@ -89,7 +89,7 @@ module _ {P M : Type 0} (store : P → Store) (number : P → ℕ) (meant : M �
 
     plain_groups : (batches : List (Tree × Writes)) (o : Outcome) → groups_as store meant a.db batches o b.db → groups_as store (λ m. m) (plain store meant a.db) batches o (plain store meant b.db)
     plain_groups batches (outcome.Decided reply) h = (plain_quiet store meant batches a.db b.db h.0, plain_loud store meant batches a.db b.db h.1, plain_made store meant batches a.db b.db h.2)
-    plain_groups batches (outcome.Refused e) h = plain_quiet store meant batches a.db b.db h
+    plain_groups batches (outcome.Refused e) h = (plain_quiet store meant batches a.db b.db h.0, plain_group_stops store meant batches e a.db b.db h.1)
     plain_groups batches o h = h
 
     plain_clears_as : (tree : Tree) (o : Outcome) → clears_as store meant a.db tree o b.db → clears_as store (λ m. m) (plain store meant a.db) tree o (plain store meant b.db)

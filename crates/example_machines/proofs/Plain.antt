@@ -36,13 +36,14 @@ use Rattle.sled.specs.Drops.{DropsNamed, DropsTree, MightDrop, refuses_drop_as, 
 use Rattle.tree_steps.specs.Outcomes.{outcome_of}
 use Rattle.sled.specs.Flights.{call_in_flight_of, BringsEvent, DbStepContract, DbSteps, Ends, GoesOn, DbRunsToEnd, slot_after, maps_added}
 use Rattle.sled.specs.Opens.{Opens, OpensBySteps, OpenRefusedBySteps}
-use Rattle.tree_groups.specs.Groups.{group_by_steps}
-use Rattle.sled.specs.Groups.{jobs_of_writes, IsQuietGroup, is_loud_group, is_made_by_steps}
+use Rattle.tree_groups.specs.declared.key_write.KeyWrite.{KeyWrite}
+use Rattle.tree_groups.specs.Groups.{group_by_steps, group_stops_by_steps}
+use Rattle.sled.specs.Groups.{jobs_of_writes, Finds, IsQuietGroup, is_loud_group, is_made_by_steps, is_stopped_by_steps}
 use Rattle.sled.specs.Imports.{PartBySteps, PartRefusedBySteps, ImportsBySteps, ImportsNone, ImportsMore, ImportStops, ImportRefused}
 use Rattle.sled.specs.Reads.{RefusesReading, refuses_reading_as}
 use Rattle.sled.specs.Pops.{TakesOut, RefusesToTake, IsAtEnd, PopsBySteps, PopRefusedBySteps, IsLongWay, GivesUpPop, ClearsBySteps, ClearsNone, ClearsMore, ClearRefusedBySteps}
 use Rattle.sled.specs.Sound.{IsDb}
-use Rattle.sled.specs.Values.{DbValue, named, numbers_of, db_state, state_of, configuration_of}
+use Rattle.sled.specs.Values.{DbValue, named, numbers_of, snapshot_of_db, db_state, state_of, configuration_of}
 
 module _ {P M : Type 0} (store : P → Store) (meant : M → Merge) where
   -- the operators by what they mean
@@ -311,6 +312,10 @@ module _ {P M : Type 0} (store : P → Store) (meant : M → Merge) where
 
   pub plain_made : (batches : List (Tree × Writes)) (old new : DbValue P M) → is_made_by_steps store meant old batches new → is_made_by_steps store (λ m. m) (plain old) batches (plain new)
   plain_made batches old new h = subst (λ (s : State). group_by_steps (jobs_of_writes (writes_of batches) s) (store old.pages) (store new.pages)) (sym (same_db old)) h
+
+  pub plain_group_stops : (batches : List (Tree × Writes)) (e : Error) (old new : DbValue P M) → is_stopped_by_steps store meant old batches e new → is_stopped_by_steps store (λ m. m) (plain old) batches e (plain new)
+  plain_group_stops batches e old new h =
+      subst (λ (s : State). (store new.pages ≡ store old.pages) ⊎ ((writes : List KeyWrite) × Finds (snapshot_of_db store old) (jobs_of_writes (writes_of batches) s) writes × group_stops_by_steps writes (store old.pages) (store new.pages) e)) (sym (same_db old)) h
 
   -- ---- pops and clears
 

@@ -87,7 +87,7 @@ module _ {P M : Type 0} (store : P → Store) (number : P → ℕ) (meant : M �
 pub group_steps : {P M : Type 0} (store : P → Store) (number : P → ℕ) (meant : M → Merge) → GroupLaw store number meant
 group_steps store number meant = record {
   made = λ m batches new k quiet. decided store number meant m (Group batches) tt new Done (group_whole store meant m.db new batches k) (quiet, k.loud, k.steps);
-  refused = λ m batches e new k quiet. refused store number meant m (Group batches) tt new e (group_whole_refused store meant m.db new batches e k) tt quiet;
+  refused = λ m batches e new k quiet. refused store number meant m (Group batches) tt new e (group_whole_refused store meant m.db new batches e k) tt (quiet, k.stops);
 }
 
 -- the same, where a method knows the machine by its fields

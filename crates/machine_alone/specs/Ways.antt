@@ -15,7 +15,7 @@ use Rattle.sled_model.specs.declared.outcome.Outcome.{Outcome}
 use Rattle.sled_model.specs.declared.outcome.Outcome.TheVariants.{Decided, Refused}
 use Rattle.tree_reads.specs.Walk.{once, for_each}
 use Rattle.sled.specs.Values.{DbValue}
-use Rattle.sled.specs.Groups.{IsQuietGroup, is_loud_group, is_made_by_steps}
+use Rattle.sled.specs.Groups.{IsQuietGroup, is_loud_group, is_made_by_steps, is_stopped_by_steps}
 use Rattle.sled.specs.Drops.{DropsTree, RefusesDrop}
 use Rattle.sled.specs.Opens.{OpensBySteps, OpenRefusedBySteps}
 use Rattle.sled.specs.Pops.{GivesUpPop, PopsBySteps, PopRefusedBySteps, ClearsBySteps, ClearRefusedBySteps}
@@ -46,10 +46,10 @@ drops_tree_as store meant old name (Refused e) new = RefusesDrop store meant old
 drops_tree_as store meant old name o new = Unit {0}
 
 -- A group that brings no event does nothing. If it is decided one that brings an event was begun and sealed, and in it each write that
--- brings one was made by the steps of its call
+-- brings one was made by the steps of its call. If it is refused they were, up to what was refused
 abbrev pub groups_as : {P M : Type 0} → (P → Store) → (M → Merge) → DbValue P M → List (Tree × Writes) → Outcome → DbValue P M → Type 0
 groups_as store meant old batches (Decided reply) new = IsQuietGroup store meant old batches new × is_loud_group store meant old batches new × is_made_by_steps store meant old batches new
-groups_as store meant old batches (Refused e) new = IsQuietGroup store meant old batches new
+groups_as store meant old batches (Refused e) new = IsQuietGroup store meant old batches new × is_stopped_by_steps store meant old batches e new
 groups_as store meant old batches o new = Unit {0}
 
 -- an import does each of its parts by the steps of an opening or of an insert, and what is refused stops at one of them

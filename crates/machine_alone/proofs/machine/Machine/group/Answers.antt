@@ -8,7 +8,8 @@ use Rattle.machine_alone.proofs.machine.Machine.group.Goals as goal
 
 pub returns-in-Err : goal.returns-in-Err
 returns-in-Err g c =
-    told_refused g.P.Pages.store g.P.Pages.flush_number g.M.MergeOperator.meant g.K.Keep.kept _ _ c.self.view_is c.self.invariant (Group c.args.batches.now) tt _ _ c.in-Err.e 0 c.refused.ensures (group_whole_refused g.P.Pages.store g.M.MergeOperator.meant c.self.inside.db c.apply_group.new.self c.args.batches.now _ (subst (λ xs. GroupRefused g.P.Pages.store g.M.MergeOperator.meant c.self.inside.db xs c.in-Err.e c.apply_group.new.self) c.as_slice.ensures.value c.in-Err.ensures.err)) tt (subst (λ xs. IsQuietGroup g.P.Pages.store g.M.MergeOperator.meant c.self.inside.db xs c.apply_group.new.self) c.as_slice.ensures.value c.in-Err.ensures.quiet) refl
+    let stopped = subst (λ xs. GroupRefused g.P.Pages.store g.M.MergeOperator.meant c.self.inside.db xs c.in-Err.e c.apply_group.new.self) c.as_slice.ensures.value c.in-Err.ensures.err in
+    told_refused g.P.Pages.store g.P.Pages.flush_number g.M.MergeOperator.meant g.K.Keep.kept _ _ c.self.view_is c.self.invariant (Group c.args.batches.now) tt _ _ c.in-Err.e 0 c.refused.ensures (group_whole_refused g.P.Pages.store g.M.MergeOperator.meant c.self.inside.db c.apply_group.new.self c.args.batches.now _ stopped) tt (subst (λ xs. IsQuietGroup g.P.Pages.store g.M.MergeOperator.meant c.self.inside.db xs c.apply_group.new.self) c.as_slice.ensures.value c.in-Err.ensures.quiet, stopped.stops) refl
 
 pub returns : goal.returns
 returns g c =
