@@ -53,7 +53,7 @@ module _ {P M F : Type 0} (store : P → Store) (meant : M → Merge) (closure :
     pub makes : Makes stood made
     pub swaps : PointDecided store meant old tree (CompareAndSwap key stood made) (Swapped (Ok tt)) new
 
-  -- the read of the key was refused, and the closure was not called
+  -- the read of the key was refused
   pub record FetchUnread (e : Error) (new : DbValue P M) : Type 0 where
     pub refuses : RefusesReading store meant old tree once e
     pub gives_up : GivesUpGet store meant old tree key e
